@@ -10,5 +10,8 @@ pub enum Reading {
         first: usize,
     },
     // The refusal's number, and its place.
-    Refused { no: u8, place: usize },
+    Refused {
+        no: u8,
+        place: usize,
+    },
 }

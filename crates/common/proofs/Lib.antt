@@ -1,0 +1,4 @@
+pub mod Checks
+pub mod Firsts
+pub mod Runs
+pub mod Sums

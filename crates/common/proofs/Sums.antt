@@ -1,0 +1,124 @@
+-- Laws of sums and greatest figures over 1..n, and of quotients rounded up. Assumes nothing.
+use mathlib.Core.Path.{_≡_, refl, sym, ap, _∙_, subst}
+use Prim.Native.Nat.{ℕ, zero, suc, _+_, _-_, _*_, _/_, _≤_, _<_, zero-le, max}
+use native.Mathlib.Nat.{mul-zero, mul-add, suc-mul, zero-div, div-lt-iff-lt-mul, le-div-iff-mul-le, mul-comm}
+use native.Mathlib.Numerals.{add-one}
+use native.Mathlib.Omega.{arith}
+use native.Mathlib.Decide.{ℕ-discrete}
+use Rattle.common.specs.Sums.{upto, greatest, up}
+
+-- ---- Sums
+
+-- one more, as a loop counts
+pub upto-more : (f : ℕ → ℕ) (n : ℕ) → upto f (n + 1) ≡ upto f n + f (n + 1)
+unfolding upto
+upto-more f n = rw add-one refl
+
+pub upto-mono : (f g : ℕ → ℕ) (n : ℕ) → ((y : ℕ) → 1 ≤ y → y ≤ n → f y ≤ g y) → upto f n ≤ upto g n
+unfolding upto
+upto-mono f g zero le = zero-le
+upto-mono f g (suc n) le = omega (arith, upto-mono f g n (λ y lo hi. le y lo (omega arith)), le (suc n) (omega arith) (omega arith))
+
+pub upto-same : (f g : ℕ → ℕ) (n : ℕ) → ((y : ℕ) → 1 ≤ y → y ≤ n → f y ≡ g y) → upto f n ≡ upto g n
+unfolding upto
+upto-same f g zero eq = refl
+upto-same f g (suc n) eq = omega (arith, upto-same f g n (λ y lo hi. eq y lo (omega arith)), eq (suc n) (omega arith) (omega arith))
+
+-- equal sums of terms that are in order one by one: the terms are equal
+pub upto-terms : (f g : ℕ → ℕ) (n : ℕ) → ((y : ℕ) → 1 ≤ y → y ≤ n → f y ≤ g y) → upto f n ≡ upto g n
+    → (y : ℕ) → 1 ≤ y → y ≤ n → f y ≡ g y
+unfolding upto
+upto-terms f g zero le e y lo hi = omega arith
+upto-terms f g (suc n) le e y lo hi = last (ℕ-discrete y (suc n)) (upto-terms f g n (λ z lo' hi'. le z lo' (omega arith)))
+  where
+    s : upto f n ≤ upto g n
+    s = upto-mono f g n (λ z lo' hi'. le z lo' (omega arith))
+
+    l : f (suc n) ≤ g (suc n)
+    l = le (suc n) (omega arith) (omega arith)
+
+    last : Dec (y ≡ suc n) → (upto f n ≡ upto g n → (z : ℕ) → 1 ≤ z → z ≤ n → f z ≡ g z) → f y ≡ g y
+    last (yes q) ih = ap f q ∙ (omega (arith, s, l) ∙ sym (ap g q))
+    last (no q) ih = ih (omega (arith, s, l)) y lo (omega (arith, q))
+
+-- a term is at most the sum
+pub upto-term : (f : ℕ → ℕ) (n y : ℕ) → 1 ≤ y → y ≤ n → f y ≤ upto f n
+unfolding upto
+upto-term f zero y lo hi = omega arith
+upto-term f (suc n) y lo hi = last (ℕ-discrete y (suc n)) (upto-term f n y lo)
+  where
+    last : Dec (y ≡ suc n) → (y ≤ n → f y ≤ upto f n) → f y ≤ upto f n + f (suc n)
+    last (yes q) ih = omega (arith, ap f q)
+    last (no q) ih = omega (arith, ih (omega (arith, q)))
+
+-- terms of at most c
+pub upto-most : (f : ℕ → ℕ) (c n : ℕ) → ((y : ℕ) → 1 ≤ y → y ≤ n → f y ≤ c) → upto f n ≤ n * c
+unfolding upto
+upto-most f c zero le = zero-le
+upto-most f c (suc n) le = omega (arith, upto-most f c n (λ y lo hi. le y lo (omega arith)), le (suc n) (omega arith) (omega arith), suc-mul n c)
+
+pub upto-add : (f g : ℕ → ℕ) (n : ℕ) → upto (λ y. f y + g y) n ≡ upto f n + upto g n
+unfolding upto
+upto-add f g zero = refl
+upto-add f g (suc n) = omega (arith, upto-add f g n)
+
+pub upto-scale : (s : ℕ) (f : ℕ → ℕ) (n : ℕ) → s * upto f n ≡ upto (λ y. s * f y) n
+unfolding upto
+upto-scale s f zero = mul-zero s
+upto-scale s f (suc n) = omega (arith, upto-scale s f n, mul-add s (upto f n) (f (suc n)))
+
+-- n equal terms
+pub upto-even : (c n : ℕ) → upto (λ y. c) n ≡ n * c
+unfolding upto
+upto-even c zero = omega arith
+upto-even c (suc n) = omega (arith, upto-even c n, suc-mul n c)
+
+-- ---- Greatest figures
+
+pub greatest-more : (f : ℕ → ℕ) (n : ℕ) → greatest f (n + 1) ≡ max (greatest f n) (f (n + 1))
+unfolding greatest
+greatest-more f n = rw add-one refl
+
+-- each figure is at most the greatest
+pub greatest-most : (f : ℕ → ℕ) (n y : ℕ) → 1 ≤ y → y ≤ n → f y ≤ greatest f n
+unfolding greatest
+greatest-most f zero y lo hi = omega arith
+greatest-most f (suc n) y lo hi = last (ℕ-discrete y (suc n)) (greatest-most f n y lo)
+  where
+    last : Dec (y ≡ suc n) → (y ≤ n → f y ≤ greatest f n) → f y ≤ max (greatest f n) (f (suc n))
+    last (yes q) ih = omega (arith, ap f q)
+    last (no q) ih = omega (arith, ih (omega (arith, q)))
+
+-- and the greatest at most what each is at most
+pub greatest-least : (f : ℕ → ℕ) (c n : ℕ) → ((y : ℕ) → 1 ≤ y → y ≤ n → f y ≤ c) → greatest f n ≤ c
+unfolding greatest
+greatest-least f c zero le = zero-le
+greatest-least f c (suc n) le = omega (arith, greatest-least f c n (λ y lo hi. le y lo (omega arith)), le (suc n) (omega arith) (omega arith))
+
+pub greatest-same : (f g : ℕ → ℕ) (n : ℕ) → ((y : ℕ) → 1 ≤ y → y ≤ n → f y ≡ g y) → greatest f n ≡ greatest g n
+unfolding greatest
+greatest-same f g zero eq = refl
+greatest-same f g (suc n) eq = omega (arith, greatest-same f g n (λ y lo hi. eq y lo (omega arith)), eq (suc n) (omega arith) (omega arith))
+
+-- ---- Quotients rounded up
+
+-- n quotients cover x exactly if x/t rounded up is at most n
+pub up-at-most : (x t n : ℕ) → 0 < t → x ≤ n * t → up x t ≤ n
+unfolding up
+up-at-most x t n p h =
+    let b : x + (t - 1) < suc n * t = omega (arith, suc-mul n t) in
+    let c : (x + (t - 1)) / t < suc n = div-lt-iff-lt-mul p .1 b in
+    omega arith
+
+pub up-covers : (x t : ℕ) → 0 < t → x ≤ up x t * t
+unfolding up
+up-covers x t p =
+    let q = (x + (t - 1)) / t in
+    let a : x + (t - 1) < suc q * t = div-lt-iff-lt-mul p .0 (omega arith) in
+    omega (arith, suc-mul q t)
+
+pub up-mono : (x y t : ℕ) → 0 < t → x ≤ y → up x t ≤ up y t
+up-mono x y t p h = up-at-most x t (up y t) p (omega (arith, up-covers y t p))
+
+pub up-zero : (t : ℕ) → 0 < t → up 0 t ≡ 0
+up-zero t p = omega (arith, up-at-most 0 t 0 p (omega arith))
