@@ -1,0 +1,64 @@
+-- Laws of decimal numbers as text: what the digits say, that none leads with a zero, and how many there are. Assumes nothing.
+use mathlib.Core.Path.{_≡_, refl, sym, ap, _∙_, subst}
+use mathlib.Core.List.{List, [], _∷_, _++_}
+use mathlib.Core.Bool.{true, false}
+use Prim.Native.Nat.{ℕ, zero, suc, _+_, _-_, _*_, _/_, _%_, _^_, _≤_, _<_}
+use native.Mathlib.Nat.{pow-suc, pow-le-pow-right, one-le-pow, div-div-eq-div-mul, div-lt-iff-lt-mul, le-div-iff-mul-le, div-add-mod', add-zero}
+use native.Mathlib.Numerals.{add-one}
+use native.Mathlib.Omega.{arith}
+use lib.Dec.{lit<, lit≤}
+use lib.ListN.{length, getD, set, length-append}
+use lib.Seq.{sets}
+use borrow.Author.Tests.{lt-ltb, le-ltb, ltb-true, ltb-false}
+use Rattle.common.specs.Sums.{firstOf}
+use Rattle.common.proofs.Firsts.{First, first-is, first-hit}
+use Rattle.report.specs.Text.{digit, places, holds, widthOf, decimal}
+use Rattle.report.proofs.Writing.{sets-more, sets-after}
+
+-- ---- k digits
+
+pub length-places : (k n : ℕ) → length (places k n) ≡ k
+unfolding places
+length-places zero n = refl
+length-places (suc k) n = simp (length-append, length-places k (n / 10)) (add-one k)
+
+-- one digit more, as code counts
+pub places-more : (k n : ℕ) → places (k + 1) n ≡ places k (n / 10) ++ (digit n ∷ [])
+unfolding places
+places-more k n = rw add-one refl
+
+-- the last digit is stored first
+pub last-digit-first : (o : List ℕ) (at k n : ℕ) → sets (set o (at + k) (digit n)) at (places k (n / 10)) ≡ sets o at (places (k + 1) n)
+last-digit-first o at k n =
+    let p = places k (n / 10) in
+    sets-after p o at (at + k) (digit n) (omega (arith, length-places k (n / 10)))
+    ∙ (ap (λ (i : ℕ). set (sets o at p) (at + i) (digit n)) (sym (length-places k (n / 10))) ∙ (sets-more p o at (digit n) ∙ ap (sets o at) (sym (places-more k n))))
+
+-- ---- How many digits
+
+-- the quotient by 10 to the k, once more by 10
+pub quotient-more : (n k : ℕ) → n / 10 ^ k / 10 ≡ n / 10 ^ (k + 1)
+quotient-more n k = div-div-eq-div-mul n (10 ^ k) 10 ∙ ap (λ (m : ℕ). n / m) (sym (pow-suc 10 k) ∙ ap (λ (m : ℕ). 10 ^ m) (sym (add-one k)))
+
+-- it is 0 exactly if k digits hold n
+pub quotient-some : (n k : ℕ) → 0 < n / 10 ^ k → 10 ^ k ≤ n
+quotient-some n k h = omega (arith, le-div-iff-mul-le {k = 10 ^ k} {x = 1} {y = n} (one-le-pow k 10 (lit< tt)) .0 h)
+
+pub quotient-none : (n k : ℕ) → n / 10 ^ k ≡ 0 → n < 10 ^ k
+quotient-none n k e = omega (arith, div-lt-iff-lt-mul {k = 10 ^ k} {x = n} {y = 1} (one-le-pow k 10 (lit< tt)) .0 (omega arith))
+
+-- a number of 64 bits has at most 20 digits
+pub twenty-hold : (n k : ℕ) → n < 2 ^ 64 → ((j : ℕ) → 1 ≤ j → j < k → 10 ^ j ≤ n) → k ≤ 20
+twenty-hold n k s few = let more : (20 < k → ⊥) = λ h. omega (arith, few 20 (omega arith) h) in omega (arith, more)
+
+-- fewer than k digits do not hold n, and k do
+pub width-is : (n k : ℕ) → n < 2 ^ 64 → 1 ≤ k → ((j : ℕ) → 1 ≤ j → j < k → 10 ^ j ≤ n) → n < 10 ^ k → k ≡ widthOf n
+unfolding widthOf holds
+width-is n k s l few enough =
+    let d = k - 1 in
+    let e : 1 + d ≡ k = omega arith in
+    sym (first-hit (holds n) d 1 20 (λ j lo hi. le-ltb n (10 ^ j) (few j lo (omega arith))) (lt-ltb n (10 ^ (1 + d)) (rw e enough)) (omega (arith, twenty-hold n k s few)) ∙ e)
+
+pub length-decimal : (n : ℕ) → length (decimal n) ≡ widthOf n
+unfolding decimal
+length-decimal n = length-places (widthOf n) n
