@@ -26,16 +26,30 @@ inBoth b = inBp b · word " " · inUs (microsUp b)
 
 -- ---- P-NET
 
--- master k: its bound, its refined figure and the rounds. Master numbers have two digits
-unfoldable pub masterLine : ℕ → BitPeriods → BitPeriods → ℕ → List ℕ
-unfolding places inBoth decimal
-masterLine k bound refined rounds =
-    word "M" · places 2 k · word " bound " · inBoth bound · word " refined " · inBoth refined · word " " · decimal rounds · word " rounds\n"
+-- master numbers have two digits
+unfoldable pub nameOf : ℕ → List ℕ
+unfolding places
+nameOf k = word "M" · places 2 k
 
--- the line of the master at index i of the three runs; one without streams, whose bound is 0, has none
-unfoldable pub masterAt : List ℕ → List ℕ → List ℕ → ℕ → List ℕ
+-- R and W
+unfoldable pub figuresOf : BitPeriods → BitPeriods → List ℕ
+unfolding inBoth
+figuresOf bound refined = word " bound " · inBoth bound · word " refined " · inBoth refined
+
+-- the line of master k
+unfoldable pub masterLine : ℕ → BitPeriods → BitPeriods → ℕ → List ℕ
+unfolding nameOf figuresOf decimal
+masterLine k bound refined rounds = nameOf k · figuresOf bound refined · word " " · decimal rounds · word " rounds\n"
+
+-- a master without streams, whose bound is 0, has no line
+unfoldable pub masterText : ℕ → ℕ → ℕ → ℕ → List ℕ
 unfolding masterLine
-masterAt R W rounds i = cond (eqb (getD R i 0) 0) [] (masterLine (i + 1) (bp (getD R i 0)) (bp (getD W i 0)) (getD rounds i 0))
+masterText k bound refined rounds = cond (eqb bound 0) [] (masterLine k (bp bound) (bp refined) rounds)
+
+-- the master at index i of the three runs R, W and rounds
+unfoldable pub masterAt : List ℕ → List ℕ → List ℕ → ℕ → List ℕ
+unfolding masterText
+masterAt R W rounds i = masterText (i + 1) (getD R i 0) (getD W i 0) (getD rounds i 0)
 
 -- the report of n masters
 unfoldable pub segmentText : List ℕ → List ℕ → List ℕ → ℕ → List ℕ
@@ -79,13 +93,18 @@ tableText microcycle slots count rows names n =
 
 -- ---- Refusals
 
--- what the place of refusal n is, in words
+-- what a refusal's place is: nothing is said of that of 10 and 11
 unfoldable pub placeText : ℕ → ℕ → List ℕ
 unfolding decimal
 placeText n p =
     cond (leb n 7) (word " at byte " · decimal p)
     (cond (leb n 9) (word " at stream " · decimal p) (cond (eqb n 12) (word " at variable " · decimal p) []))
 
+unfoldable pub placeEnd : ℕ → ℕ → List ℕ
+unfolding placeText
+placeEnd n p = placeText n p · word "\n"
+
+-- the whole report of refusal n with place p
 unfoldable pub refusalText : ℕ → ℕ → List ℕ
-unfolding decimal placeText
-refusalText n p = word "refused " · decimal n · placeText n p · word "\n"
+unfolding decimal placeEnd
+refusalText n p = word "refused " · decimal n · placeEnd n p

@@ -7,8 +7,10 @@ use units::BitPeriods;
 use units::Micros;
 ghost use mathlib.Core.Path.{_≡_};
 ghost use mathlib.Core.List.{_++_};
-ghost use Rattle.report.specs.Text.{Room, Wrote};
-ghost use Rattle.report.specs.Lines.{inBp, inUs, inBoth, masterLine};
+ghost use Prim.Native.Nat.{_≤_};
+ghost use lib.ListN.{length};
+ghost use Rattle.report.specs.Text.{Room, Wrote, texts};
+ghost use Rattle.report.specs.Lines.{inBp, inUs, inBoth, nameOf, figuresOf, masterLine, masterText, masterAt, ringText, placeEnd, refusalText};
 
 fn put_bp(out: &mut [u8], at: usize, before: &[u8], b: BitPeriods) -> usize
     requires { ⌜ Room (now out) at (now before ++ inBp b) ⌝ }
@@ -31,4 +33,103 @@ fn put_both(out: &mut [u8], at: usize, before: &[u8], b: BitPeriods) -> usize
 {
     let next = put_bp(out, at, before, b);
     put_us(out, next, b" ", units::micros_up(b))
+}
+
+fn put_name(out: &mut [u8], at: usize, k: u64) -> usize
+    requires { ⌜ Room (now out) at (nameOf k) ⌝ }
+    ensures { λ r. ⌜ Wrote (now (out .entry)) at (nameOf k) (now (out .exit)) r ⌝ }
+{
+    let number = put_word(out, at, b"M");
+    put_places(out, number, 2, k)
+}
+
+fn put_figures(out: &mut [u8], at: usize, bound: BitPeriods, refined: BitPeriods) -> usize
+    requires { ⌜ Room (now out) at (figuresOf bound refined) ⌝ }
+    ensures { λ r. ⌜ Wrote (now (out .entry)) at (figuresOf bound refined) (now (out .exit)) r ⌝ }
+{
+    let next = put_both(out, at, b" bound ", bound);
+    put_both(out, next, b" refined ", refined)
+}
+
+fn put_line(
+    out: &mut [u8],
+    at: usize,
+    k: u64,
+    bound: BitPeriods,
+    refined: BitPeriods,
+    rounds: u32,
+) -> usize
+    requires { ⌜ Room (now out) at (masterLine k bound refined rounds) ⌝ }
+    ensures { λ r. ⌜ Wrote (now (out .entry)) at (masterLine k bound refined rounds) (now (out .exit)) r ⌝ }
+{
+    let figures = put_name(out, at, k);
+    let count = put_figures(out, figures, bound, refined);
+    put_counted(out, count, b" ", rounds as u64, b" rounds\n")
+}
+
+// The line of master k, if it has streams.
+fn put_master(out: &mut [u8], at: usize, k: u64, bound: u32, refined: u32, rounds: u32) -> usize
+    requires { ⌜ Room (now out) at (masterText k bound refined rounds) ⌝ }
+    ensures { λ r. ⌜ Wrote (now (out .entry)) at (masterText k bound refined rounds) (now (out .exit)) r ⌝ }
+{
+    if bound == 0 {
+        return at;
+    }
+    put_line(out, at, k, BitPeriods(bound), BitPeriods(refined), rounds)
+}
+
+// The lines of the first n masters.
+pub(crate) fn put_masters(
+    out: &mut [u8],
+    at: usize,
+    bound: &[u32],
+    refined: &[u32],
+    rounds: &[u32],
+    n: usize,
+) -> usize
+    requires { ⌜ (n ≤ length (now bound)) × (n ≤ length (now refined)) × (n ≤ length (now rounds)) ⌝ }
+    requires { ⌜ Room (now out) at (texts (masterAt (now bound) (now refined) (now rounds)) n) ⌝ }
+    ensures { λ r. ⌜ Wrote (now (out .entry)) at (texts (masterAt (now (bound .entry)) (now (refined .entry)) (now (rounds .entry))) n) (now (out .exit)) r ⌝ }
+{
+    let mut next = at;
+    let mut i = 0;
+    while i < n {
+        next = put_master(out, next, i as u64 + 1, bound[i], refined[i], rounds[i]);
+        i += 1;
+    }
+    next
+}
+
+// The rotation time and the stream that limits it.
+pub(crate) fn put_ring(out: &mut [u8], at: usize, rotation: u64, stream: u64) -> usize
+    requires { ⌜ Room (now out) at (ringText rotation stream) ⌝ }
+    ensures { λ r. ⌜ Wrote (now (out .entry)) at (ringText rotation stream) (now (out .exit)) r ⌝ }
+{
+    let next = put_counted(out, at, b"PROFIBUS ring\nTTR ", rotation, b" bp");
+    put_counted(out, next, b" limited by stream ", stream, b"\n")
+}
+
+// A refusal's place in words, and the line's end.
+fn put_place(out: &mut [u8], at: usize, number: u8, place: u64) -> usize
+    requires { ⌜ Room (now out) at (placeEnd number place) ⌝ }
+    ensures { λ r. ⌜ Wrote (now (out .entry)) at (placeEnd number place) (now (out .exit)) r ⌝ }
+{
+    if number <= 7 {
+        return put_counted(out, at, b" at byte ", place, b"\n");
+    }
+    if number <= 9 {
+        return put_counted(out, at, b" at stream ", place, b"\n");
+    }
+    if number == 12 {
+        return put_counted(out, at, b" at variable ", place, b"\n");
+    }
+    put_word(out, at, b"\n")
+}
+
+pub(crate) fn put_refusal(out: &mut [u8], at: usize, number: u8, place: u64) -> usize
+    requires { ⌜ Room (now out) at (refusalText number place) ⌝ }
+    ensures { λ r. ⌜ Wrote (now (out .entry)) at (refusalText number place) (now (out .exit)) r ⌝ }
+{
+    let next = put_counted(out, at, b"refused ", number as u64, b"");
+    put_place(out, next, number, place)
 }
