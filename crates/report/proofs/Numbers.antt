@@ -36,9 +36,9 @@ last-digit-first o at k n =
 
 -- ---- How many digits
 
--- the quotient by 10 to the k, once more by 10
-pub quotient-more : (n k : ℕ) → n / 10 ^ k / 10 ≡ n / 10 ^ (k + 1)
-quotient-more n k = div-div-eq-div-mul n (10 ^ k) 10 ∙ ap (λ (m : ℕ). n / m) (sym (pow-suc 10 k) ∙ ap (λ (m : ℕ). 10 ^ m) (sym (add-one k)))
+-- the quotient by b to the k, once more by b
+pub quotient-more : (b n k : ℕ) → n / b ^ k / b ≡ n / b ^ (k + 1)
+quotient-more b n k = div-div-eq-div-mul n (b ^ k) b ∙ ap (λ (m : ℕ). n / m) (sym (pow-suc b k) ∙ ap (λ (m : ℕ). b ^ m) (sym (add-one k)))
 
 -- it is 0 exactly if k digits hold n
 pub quotient-some : (n k : ℕ) → 0 < n / 10 ^ k → 10 ^ k ≤ n

@@ -66,16 +66,17 @@ ringText rotation stream =
 
 -- ---- WorldFIP
 
--- bit r of a row is set
-unfoldable pub served : ℕ → ℕ → Bool
-served row r = eqb (row / 2 ^ r % 2) 1
+-- an identifier, if its bit is set
+unfoldable pub nameText : ℕ → ℕ → List ℕ
+unfolding decimal
+nameText bit name = cond (eqb bit 1) (word " " · decimal name) []
 
--- the identifier of rank r, if the row serves it
+-- the identifier of rank r, if bit r of the row is set
 unfoldable pub nameAt : ℕ → List ℕ → ℕ → List ℕ
-unfolding served decimal
-nameAt row names r = cond (served row r) (word " " · decimal (getD names r 0)) []
+unfolding nameText
+nameAt row names r = nameText (row / 2 ^ r % 2) (getD names r 0)
 
--- row m serves these ranks, of n
+-- row m: the identifiers of its ranks, of n, best first
 unfoldable pub rowLine : ℕ → ℕ → List ℕ → ℕ → List ℕ
 unfolding decimal texts nameAt
 rowLine m row names n = word "row " · decimal m · word ":" · texts (nameAt row names) n · word "\n"
@@ -84,12 +85,16 @@ unfoldable pub rowAt : List ℕ → List ℕ → ℕ → ℕ → List ℕ
 unfolding rowLine
 rowAt rows names n m = rowLine m (getD rows m 0) names n
 
+-- the first two lines
+unfoldable pub tableHead : Micros → ℕ → ℕ → List ℕ
+unfolding inUs decimal
+tableHead microcycle slots count =
+    word "WorldFIP table\n" · word "microcycle " · inUs microcycle · word " " · decimal slots · word " slots" · word " " · decimal count · word " rows\n"
+
 -- the report of n variables
 unfoldable pub tableText : Micros → ℕ → ℕ → List ℕ → List ℕ → ℕ → List ℕ
-unfolding inUs decimal texts rowAt
-tableText microcycle slots count rows names n =
-    word "WorldFIP table\n" · word "microcycle " · inUs microcycle · word " " · decimal slots · word " slots" · word " " · decimal count · word " rows\n"
-    · texts (rowAt rows names n) count
+unfolding tableHead texts rowAt
+tableText microcycle slots count rows names n = tableHead microcycle slots count · texts (rowAt rows names n) count
 
 -- ---- Refusals
 

@@ -10,7 +10,7 @@ ghost use mathlib.Core.List.{_++_};
 ghost use Prim.Native.Nat.{_≤_};
 ghost use lib.ListN.{length};
 ghost use Rattle.report.specs.Text.{Room, Wrote, texts};
-ghost use Rattle.report.specs.Lines.{inBp, inUs, inBoth, nameOf, figuresOf, masterLine, masterText, masterAt, ringText, placeEnd, refusalText};
+ghost use Rattle.report.specs.Lines.{inBp, inUs, inBoth, nameOf, figuresOf, masterLine, masterText, masterAt, ringText, nameText, nameAt, rowLine, rowAt, tableHead, placeEnd, refusalText};
 
 fn put_bp(out: &mut [u8], at: usize, before: &[u8], b: BitPeriods) -> usize
     requires { ⌜ Room (now out) at (now before ++ inBp b) ⌝ }
@@ -107,6 +107,83 @@ pub(crate) fn put_ring(out: &mut [u8], at: usize, rotation: u64, stream: u64) ->
 {
     let next = put_counted(out, at, b"PROFIBUS ring\nTTR ", rotation, b" bp");
     put_counted(out, next, b" limited by stream ", stream, b"\n")
+}
+
+// An identifier, if its bit is set.
+fn put_ident(out: &mut [u8], at: usize, bit: u64, name: u16) -> usize
+    requires { ⌜ Room (now out) at (nameText bit name) ⌝ }
+    ensures { λ r. ⌜ Wrote (now (out .entry)) at (nameText bit name) (now (out .exit)) r ⌝ }
+{
+    if bit == 1 {
+        return put_counted(out, at, b" ", name as u64, b"");
+    }
+    at
+}
+
+// The identifiers of a row's ranks.
+fn put_idents(out: &mut [u8], at: usize, row: u64, names: &[u16], n: usize) -> usize
+    requires { ⌜ n ≤ length (now names) ⌝ }
+    requires { ⌜ Room (now out) at (texts (nameAt row (now names)) n) ⌝ }
+    ensures { λ r. ⌜ Wrote (now (out .entry)) at (texts (nameAt row (now (names .entry))) n) (now (out .exit)) r ⌝ }
+{
+    let mut next = at;
+    let mut rest = row;
+    let mut r = 0;
+    while r < n {
+        next = put_ident(out, next, rest % 2, names[r]);
+        rest /= 2;
+        r += 1;
+    }
+    next
+}
+
+// Row m.
+fn put_row(out: &mut [u8], at: usize, m: u64, row: u64, names: &[u16], n: usize) -> usize
+    requires { ⌜ n ≤ length (now names) ⌝ }
+    requires { ⌜ Room (now out) at (rowLine m row (now names) n) ⌝ }
+    ensures { λ r. ⌜ Wrote (now (out .entry)) at (rowLine m row (now (names .entry)) n) (now (out .exit)) r ⌝ }
+{
+    let idents = put_counted(out, at, b"row ", m, b":");
+    let end = put_idents(out, idents, row, names, n);
+    put_word(out, end, b"\n")
+}
+
+// The first `count` rows.
+pub(crate) fn put_rows(
+    out: &mut [u8],
+    at: usize,
+    rows: &[u64],
+    names: &[u16],
+    n: usize,
+    count: usize,
+) -> usize
+    requires { ⌜ (n ≤ length (now names)) × (count ≤ length (now rows)) ⌝ }
+    requires { ⌜ Room (now out) at (texts (rowAt (now rows) (now names) n) count) ⌝ }
+    ensures { λ r. ⌜ Wrote (now (out .entry)) at (texts (rowAt (now (rows .entry)) (now (names .entry)) n) count) (now (out .exit)) r ⌝ }
+{
+    let mut next = at;
+    let mut m = 0;
+    while m < count {
+        next = put_row(out, next, m as u64, rows[m], names, n);
+        m += 1;
+    }
+    next
+}
+
+// The first two lines of a table.
+pub(crate) fn put_head(
+    out: &mut [u8],
+    at: usize,
+    microcycle: Micros,
+    slots: u64,
+    count: u64,
+) -> usize
+    requires { ⌜ Room (now out) at (tableHead microcycle slots count) ⌝ }
+    ensures { λ r. ⌜ Wrote (now (out .entry)) at (tableHead microcycle slots count) (now (out .exit)) r ⌝ }
+{
+    let first = put_us(out, at, b"WorldFIP table\nmicrocycle ", microcycle);
+    let second = put_counted(out, first, b" ", slots, b" slots");
+    put_counted(out, second, b" ", count, b" rows\n")
 }
 
 // A refusal's place in words, and the line's end.

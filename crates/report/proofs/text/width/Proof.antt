@@ -30,7 +30,7 @@ loop-again c =
     let k = c .before .loop .k in
     let e = c .before .loop .inv .1 in (
       search needs,
-      ap (λ (m : ℕ). m / 10) e ∙ quotient-more n k,
+      ap (λ (m : ℕ). m / 10) e ∙ quotient-more 10 n k,
       λ j lo hi. below j lo hi (ℕ-discrete j k),
     )
   where
