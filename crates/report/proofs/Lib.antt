@@ -1,2 +1,4 @@
+pub mod Lengths
 pub mod Numbers
+pub mod Page
 pub mod Writing
