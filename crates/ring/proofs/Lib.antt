@@ -1,1 +1,4 @@
+pub mod Answer
 pub mod Examples
+pub mod Rule
+pub mod Sizes
