@@ -1,1 +1,5 @@
+pub mod Cases
+pub mod Counts
 pub mod Examples
+pub mod Known
+pub mod Walk
