@@ -29,3 +29,8 @@ unfolding countOf
 count-none x [] i e l q = not-suc-le-zero l
 count-none x (r ∷ rs) zero e l q = let w = eq-eqb (r .a) x q in let e' : 1 + countOf x rs ≡ 0 = rw w at e in omega arith
 count-none x (r ∷ rs) (suc i) e l q = count-none x rs i (omega arith) (omega arith) q
+
+pub count-zero : (x : ℕ) (rs : List Record) → ((i : ℕ) → i < length rs → getD rs i nothing .a ≡ x → ⊥) → countOf x rs ≡ 0
+unfolding countOf
+count-zero x [] h = refl
+count-zero x (r ∷ rs) h = rw (ne-eqb (r .a) x (h 0 (omega arith))) (omega (arith, count-zero x rs (λ i l. h (suc i) (omega arith))))
