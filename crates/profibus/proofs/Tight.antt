@@ -37,33 +37,48 @@ one-more P i f p j lo hi = last (ℕ-discrete j (i + 1))
     last (yes e) = rw e p
     last (no e) = f j lo (omega (arith, e))
 
--- stream i + 1, one of h, with cycle c and deadline d
-module _ (R : Ring) (declared : Declared R) (i borne at : ℕ) (tight : Tight R i borne at) (on : On R (i + 1))
-    (h c d : ℕ) (eh : h ≡ count R (R .stream (i + 1) .master)) (ec : c ≡ R .stream (i + 1) .cycle) (ed : d ≡ R .stream (i + 1) .deadline) where
-  some : 1 ≤ h
-  some = omega (arith, counts-itself R declared (i + 1) on)
+-- behind such streams stands stream i + 1, one of h, with cycle c and deadline d
+pub record Next (R : Ring) (i borne at h c d : ℕ) : Type 0 where
+  pub tight : Tight R i borne at
+  pub on : On R (i + 1)
+  pub share : h ≡ count R (R .stream (i + 1) .master)
+  pub cycle : c ≡ R .stream (i + 1) .cycle
+  pub deadline : d ≡ R .stream (i + 1) .deadline
 
-  share : bears R (i + 1) ≡ (d - c) / h
+module _ {R : Ring} {i borne at h c d : ℕ} (declared : Declared R) (next : Next R i borne at h c d) where
+  pub some : 1 ≤ h
+  some = omega (arith, next .share, counts-itself R declared (i + 1) (next .on))
+
+  bears-next : bears R (i + 1) ≡ (d - c) / h
   unfolding bears
-  share = rw (eh, ec, ed)
+  bears-next = rw (next .share, next .cycle, next .deadline)
+
+  -- what it needs at a rotation of up to 1,000,000,000 takes 37 bits
+  pub fits : (x : ℕ) → x ≤ 1000000000 → (h * x ≤ 80000000000) × (h * x + c ≤ 80000100000)
+  fits x l =
+      let k = R .stream (i + 1) .master in
+      let m = declared .master-in (i + 1) (next .on) in
+      let p : h * x ≤ 80 * 1000000000 =
+      mul-le-mul {n₁ = h} {m₁ = x} {n₂ = 80} {m₂ = 1000000000} (omega (arith, next .share, declared .count-in k)) l in
+      omega (arith, next .cycle, declared .cycle-in (i + 1) (next .on), declared .longest-in k (m .0) (m .1))
 
   -- it passes
   pub tight-kept : h * borne + c ≤ d → Tight R (i + 1) borne at
   tight-kept l =
       record {
-        enough = tight .enough;
-        most = tight .most;
+        enough = next .tight .enough;
+        most = next .tight .most;
         begun = λ e. absurd (omega arith);
-        is = λ p. before (ℕ-discrete i 0);
-        all = one-more (λ j. borne ≤ bears R j) i (tight .all) (rw share (passes-bears h borne c d some l));
-        before = tight .before;
+        is = λ p. kept (ℕ-discrete i 0);
+        all = one-more (λ j. borne ≤ bears R j) i (next .tight .all) (rw bears-next (passes-bears h borne c d some l));
+        before = next .tight .before;
       }
     where
-      before : Dec (i ≡ 0) → (1 ≤ at) × (at ≤ i + 1) × (bears R at ≡ borne)
-      before (yes e) =
+      kept : Dec (i ≡ 0) → (1 ≤ at) × (at ≤ i + 1) × (bears R at ≡ borne)
+      kept (yes e) =
           let x : 1 * borne ≤ h * borne = mul-le-mul {n₁ = 1} {m₁ = borne} {n₂ = h} {m₂ = borne} some (le-refl borne) in
-          absurd (omega (arith, tight .begun e, declared .cycle-in (i + 1) on, declared .deadline-in (i + 1) on))
-      before (no e) = let p = tight .is (omega (arith, e)) in (p .0, omega arith, p .2)
+          absurd (omega (arith, next .tight .begun e, declared .cycle-in (i + 1) (next .on), declared .deadline-in (i + 1) (next .on)))
+      kept (no e) = let p = next .tight .is (omega (arith, e)) in (p .0, omega arith, p .2)
 
   -- it fails at the rotation so far, and passes at L
   pub tight-new : d < h * borne + c → h * rotation R (R .latency) + c ≤ d → Tight R (i + 1) ((d - c) / h) (i + 1)
@@ -71,11 +86,11 @@ module _ (R : Ring) (declared : Declared R) (i borne at : ℕ) (tight : Tight R 
       let s : (d - c) / h < borne = div-lt-iff-lt-mul some .1 (omega (arith, mul-comm h borne)) in
       record {
         enough = passes-bears h (rotation R (R .latency)) c d some p;
-        most = omega (arith, tight .most);
+        most = omega (arith, next .tight .most);
         begun = λ e. absurd (omega arith);
-        is = λ q. (omega arith, le-refl (i + 1), share);
-        all = one-more (λ j. (d - c) / h ≤ bears R j) i (λ j lo hi. omega (arith, tight .all j lo hi)) (omega (arith, share));
-        before = λ j lo hi. omega (arith, tight .all j lo (omega arith));
+        is = λ q. (omega arith, le-refl (i + 1), bears-next);
+        all = one-more (λ j. (d - c) / h ≤ bears R j) i (λ j lo hi. omega (arith, next .tight .all j lo hi)) (omega (arith, bears-next));
+        before = λ j lo hi. omega (arith, next .tight .all j lo (omega arith));
       }
 
   -- it fails at L, as the first
@@ -83,9 +98,9 @@ module _ (R : Ring) (declared : Declared R) (i borne at : ℕ) (tight : Tight R 
   unfolding needed
   tight-fails l =
       record {
-        there = on;
-        fails = rw (← eh, ← ec, ← ed) l;
-        before = λ j lo hi. bearing-passes R declared j (lo, omega arith) (R .latency) (omega (arith, tight .enough, tight .all j lo (omega arith)));
+        there = next .on;
+        fails = rw (← next .share, ← next .cycle, ← next .deadline) l;
+        before = λ j lo hi. bearing-passes R declared j (lo, omega arith) (R .latency) (omega (arith, next .tight .enough, next .tight .all j lo (omega arith)));
       }
 
 -- after the last stream
