@@ -11,15 +11,15 @@ fn answer(name: &[u8], s: &[u8]) {
     match profibus::plan(s) {
         Plan::Target { rotation, stream } => {
             write(b": TTR ");
-            io::number::print_decimal(STDOUT_FILENO, rotation.0 as u64);
+            io::print_decimal(STDOUT_FILENO, rotation.0 as u64);
             write(b" by ");
-            io::number::print_decimal(STDOUT_FILENO, stream as u64);
+            io::print_decimal(STDOUT_FILENO, stream as u64);
         }
         Plan::Refused { no, place } => {
             write(b": ");
-            io::number::print_decimal(STDOUT_FILENO, no as u64);
+            io::print_decimal(STDOUT_FILENO, no as u64);
             write(b" at ");
-            io::number::print_decimal(STDOUT_FILENO, place as u64);
+            io::print_decimal(STDOUT_FILENO, place as u64);
         }
     }
     write(b"\n");
