@@ -10,6 +10,7 @@ use lib.ListN.{length, getD, length-append}
 use borrow.Author.Tests.{ltb-false}
 use Rattle.common.specs.Sums.{firstOf, up}
 use Rattle.common.proofs.Firsts.{First, first-is}
+use Rattle.profibus.specs.declared.answer.RingPeriods.{RingPeriods}
 use Rattle.units.specs.Units.{bp, microsUp}
 use Rattle.units.specs.declared.BitPeriods.{BitPeriods}
 use Rattle.units.specs.declared.Micros.{Micros}
@@ -89,9 +90,9 @@ segment-most R W rounds n r w m =
 
 -- ---- PROFIBUS
 
-pub ring-most : (rotation stream : ℕ) → rotation < 2 ^ 64 → stream < 2 ^ 64 → length (ringText rotation stream) ≤ 81
+pub ring-most : (rotation : RingPeriods) (stream : ℕ) → rotation .0 < 2 ^ 64 → stream < 2 ^ 64 → length (ringText rotation stream) ≤ 81
 unfolding ringText
-ring-most rotation stream r s = simp length-append (omega (arith, digits-64 rotation r, digits-64 stream s))
+ring-most rotation stream r s = simp length-append (omega (arith, digits-64 (rotation .0) r, digits-64 stream s))
 
 -- ---- WorldFIP
 

@@ -15,7 +15,7 @@ segment : segmentText (1000 ∷ 500 ∷ 0 ∷ []) (760 ∷ 500 ∷ 0 ∷ []) (2 
 unfolding segmentText masterAt masterText masterLine nameOf figuresOf inBoth inBp inUs microsUp up texts decimal places widthOf holds firstOf
 segment = refl
 
-ring : ringText 2500 1 ≡ word "PROFIBUS ring\nTTR 2500 bp limited by stream 1\n"
+ring : ringText (record { 0 = 2500 }) 1 ≡ word "PROFIBUS ring\nTTR 2500 bp limited by stream 1\n"
 unfolding ringText decimal places widthOf holds firstOf
 ring = refl
 

@@ -4,6 +4,7 @@ use mathlib.Core.List.{List, [], _∷_, _++_}
 use mathlib.Core.Bool.{Bool, cond, _||_}
 use lib.ListN.{getD}
 use lib.Dec.{leb, eqb}
+use Rattle.profibus.specs.declared.answer.RingPeriods.{RingPeriods}
 use Rattle.units.specs.Units.{bp, microsUp}
 use Rattle.units.specs.declared.BitPeriods.{BitPeriods}
 use Rattle.units.specs.declared.Micros.{Micros}
@@ -58,11 +59,11 @@ segmentText R W rounds n = word "P-NET segment\n" · texts (masterAt R W rounds)
 
 -- ---- PROFIBUS
 
--- the rotation time and the stream that limits it
-unfoldable pub ringText : ℕ → ℕ → List ℕ
+-- the rotation time, in bp of that ring, and the stream that limits it
+unfoldable pub ringText : RingPeriods → ℕ → List ℕ
 unfolding decimal
 ringText rotation stream =
-    word "PROFIBUS ring\n" · word "TTR " · decimal rotation · word " bp" · word " limited by stream " · decimal stream · word "\n"
+    word "PROFIBUS ring\n" · word "TTR " · decimal (rotation .0) · word " bp" · word " limited by stream " · decimal stream · word "\n"
 
 -- ---- WorldFIP
 

@@ -3,6 +3,7 @@
 use crate::text::put_counted;
 use crate::text::put_places;
 use crate::text::put_word;
+use profibus::RingPeriods;
 use units::BitPeriods;
 use units::Micros;
 ghost use mathlib.Core.Path.{_≡_};
@@ -101,11 +102,11 @@ pub(crate) fn put_masters(
 }
 
 // The rotation time and the stream that limits it.
-pub(crate) fn put_ring(out: &mut [u8], at: usize, rotation: u64, stream: u64) -> usize
+pub(crate) fn put_ring(out: &mut [u8], at: usize, rotation: RingPeriods, stream: u64) -> usize
     requires { ⌜ Room (now out) at (ringText rotation stream) ⌝ }
     ensures { λ r. ⌜ Wrote (now (out .entry)) at (ringText rotation stream) (now (out .exit)) r ⌝ }
 {
-    let next = put_counted(out, at, b"PROFIBUS ring\nTTR ", rotation, b" bp");
+    let next = put_counted(out, at, b"PROFIBUS ring\nTTR ", rotation.0 as u64, b" bp");
     put_counted(out, next, b" limited by stream ", stream, b"\n")
 }
 
