@@ -6,7 +6,7 @@ use Prim.Native.Nat.{ℕ, zero, suc, _+_, _*_, _/_, _%_, _^_, _≤_, _<_}
 use native.Mathlib.Nat.{suc-mul}
 use native.Mathlib.Omega.{arith}
 use lib.Dec.{leb, eqb}
-use lib.ListN.{length, getD, length-append}
+use lib.ListN.{length, length-append}
 use borrow.Author.Tests.{ltb-false}
 use Rattle.common.specs.Sums.{firstOf, up}
 use Rattle.common.proofs.Firsts.{First, first-is}
@@ -79,14 +79,14 @@ master-most k R W m r w s = split (eqb R 0)
     split true = omega arith
     split false = line-most k (bp R) (bp W) m r w s
 
--- numbers that 32 bits hold
-abbrev pub Small : ℕ → List ℕ → Type 0
-Small k l = (i : ℕ) → getD l i 0 < 2 ^ k
+-- figures that k bits hold
+abbrev pub Small : ℕ → (ℕ → ℕ) → Type 0
+Small k f = (i : ℕ) → f i < 2 ^ k
 
-pub segment-most : (R W rounds : List ℕ) (n : ℕ) → Small 32 R → Small 32 W → Small 32 rounds → length (segmentText R W rounds n) ≤ 14 + n * 94
+pub segment-most : (R W rounds : ℕ → ℕ) (n : ℕ) → Small 32 R → Small 32 W → Small 32 rounds → length (segmentText R W rounds n) ≤ 14 + n * 94
 unfolding segmentText masterAt
 segment-most R W rounds n r w m =
-    omega (arith, texts-most (masterAt R W rounds) 94 n (λ i h. master-most (i + 1) (getD R i 0) (getD W i 0) (getD rounds i 0) (r i) (w i) (m i)))
+    omega (arith, texts-most (masterAt R W rounds) 94 n (λ i h. master-most (i + 1) (R i) (W i) (rounds i) (r i) (w i) (m i)))
 
 -- ---- PROFIBUS
 
@@ -104,25 +104,25 @@ name-most b x s = split (eqb b 1)
     split true = omega (arith, digits-16 x s)
     split false = omega arith
 
-row-most : (m row : ℕ) (names : List ℕ) (n : ℕ) → m < 10 ^ 4 → n ≤ 64 → Small 16 names → length (rowLine m row names n) ≤ 394
+row-most : (m row : ℕ) (name : ℕ → ℕ) (n : ℕ) → m < 10 ^ 4 → n ≤ 64 → Small 16 name → length (rowLine m row name n) ≤ 394
 unfolding rowLine nameAt
-row-most m row names n s few small =
+row-most m row name n s few small =
     simp length-append
-    (omega (arith, decimal-most 4 m (omega arith) (omega arith) s, texts-most (nameAt row names) 6 n (λ r h. name-most (row / 2 ^ r % 2) (getD names r 0) (small r))))
+    (omega (arith, decimal-most 4 m (omega arith) (omega arith) s, texts-most (nameAt row name) 6 n (λ r h. name-most (row / 2 ^ r % 2) (name r) (small r))))
 
 head-most : (u : Micros) (slots rows : ℕ) → u .0 < 2 ^ 64 → slots < 2 ^ 64 → rows < 2 ^ 64 → length (tableHead u slots rows) ≤ 103
 unfolding tableHead inUs
 head-most u slots rows a b c = simp length-append (omega (arith, digits-64 (u .0) a, digits-64 slots b, digits-64 rows c))
 
-pub table-most : (u : Micros) (slots count : ℕ) (rows names : List ℕ) (n : ℕ) → u .0 < 2 ^ 64 → slots < 2 ^ 64 → count ≤ 4096 → n ≤ 64 → Small 16 names
-    → length (tableText u slots count rows names n) ≤ 1613927
+pub table-most : (u : Micros) (slots rows : ℕ) (row name : ℕ → ℕ) (n : ℕ) → u .0 < 2 ^ 64 → slots < 2 ^ 64 → rows ≤ 4096 → n ≤ 64 → Small 16 name
+    → length (tableText u slots rows row name n) ≤ 1613927
 unfolding tableText rowAt
-table-most u slots count rows names n a b few vars small =
+table-most u slots rows row name n a b few vars small =
     omega (
       arith,
-      length-append (tableHead u slots count) (texts (rowAt rows names n) count),
-      head-most u slots count a b (omega arith),
-      texts-most (rowAt rows names n) 394 count (λ m h. row-most m (getD rows m 0) names n (omega arith) vars small),
+      length-append (tableHead u slots rows) (texts (rowAt row name n) rows),
+      head-most u slots rows a b (omega arith),
+      texts-most (rowAt row name n) 394 rows (λ m h. row-most m (row m) name n (omega arith) vars small),
     )
 
 -- ---- Refusals

@@ -2,7 +2,6 @@
 use Prim.Native.Nat.{ℕ, suc, _+_, _/_, _%_, _^_}
 use mathlib.Core.List.{List, [], _∷_, _++_}
 use mathlib.Core.Bool.{Bool, cond, _||_}
-use lib.ListN.{getD}
 use lib.Dec.{leb, eqb}
 use Rattle.profibus.specs.declared.answer.RingPeriods.{RingPeriods}
 use Rattle.units.specs.Units.{bp, microsUp}
@@ -47,13 +46,13 @@ unfoldable pub masterText : ℕ → ℕ → ℕ → ℕ → List ℕ
 unfolding masterLine
 masterText k bound refined rounds = cond (eqb bound 0) [] (masterLine k (bp bound) (bp refined) rounds)
 
--- the master at index i of the three runs R, W and rounds
-unfoldable pub masterAt : List ℕ → List ℕ → List ℕ → ℕ → List ℕ
+-- the master at index i of R, W and rounds
+unfoldable pub masterAt : (ℕ → ℕ) → (ℕ → ℕ) → (ℕ → ℕ) → ℕ → List ℕ
 unfolding masterText
-masterAt R W rounds i = masterText (i + 1) (getD R i 0) (getD W i 0) (getD rounds i 0)
+masterAt R W rounds i = masterText (i + 1) (R i) (W i) (rounds i)
 
--- the report of n masters
-unfoldable pub segmentText : List ℕ → List ℕ → List ℕ → ℕ → List ℕ
+-- the lines of n masters behind their heading
+unfoldable pub segmentText : (ℕ → ℕ) → (ℕ → ℕ) → (ℕ → ℕ) → ℕ → List ℕ
 unfolding texts masterAt
 segmentText R W rounds n = word "P-NET segment\n" · texts (masterAt R W rounds) n
 
@@ -73,29 +72,29 @@ unfolding decimal
 nameText bit name = cond (eqb bit 1) (word " " · decimal name) []
 
 -- the identifier of rank r, if bit r of the row is set
-unfoldable pub nameAt : ℕ → List ℕ → ℕ → List ℕ
+unfoldable pub nameAt : ℕ → (ℕ → ℕ) → ℕ → List ℕ
 unfolding nameText
-nameAt row names r = nameText (row / 2 ^ r % 2) (getD names r 0)
+nameAt row name r = nameText (row / 2 ^ r % 2) (name r)
 
 -- row m: the identifiers of its ranks, of n, best first
-unfoldable pub rowLine : ℕ → ℕ → List ℕ → ℕ → List ℕ
+unfoldable pub rowLine : ℕ → ℕ → (ℕ → ℕ) → ℕ → List ℕ
 unfolding decimal texts nameAt
-rowLine m row names n = word "row " · decimal m · word ":" · texts (nameAt row names) n · word "\n"
+rowLine m row name n = word "row " · decimal m · word ":" · texts (nameAt row name) n · word "\n"
 
-unfoldable pub rowAt : List ℕ → List ℕ → ℕ → ℕ → List ℕ
+unfoldable pub rowAt : (ℕ → ℕ) → (ℕ → ℕ) → ℕ → ℕ → List ℕ
 unfolding rowLine
-rowAt rows names n m = rowLine m (getD rows m 0) names n
+rowAt row name n m = rowLine m (row m) name n
 
 -- the first two lines
 unfoldable pub tableHead : Micros → ℕ → ℕ → List ℕ
 unfolding inUs decimal
-tableHead microcycle slots count =
-    word "WorldFIP table\n" · word "microcycle " · inUs microcycle · word " " · decimal slots · word " slots" · word " " · decimal count · word " rows\n"
+tableHead microcycle slots rows =
+    word "WorldFIP table\n" · word "microcycle " · inUs microcycle · word " " · decimal slots · word " slots" · word " " · decimal rows · word " rows\n"
 
--- the report of n variables
-unfoldable pub tableText : Micros → ℕ → ℕ → List ℕ → List ℕ → ℕ → List ℕ
+-- the lines of a table of n variables
+unfoldable pub tableText : Micros → ℕ → ℕ → (ℕ → ℕ) → (ℕ → ℕ) → ℕ → List ℕ
 unfolding tableHead texts rowAt
-tableText microcycle slots count rows names n = tableHead microcycle slots count · texts (rowAt rows names n) count
+tableText microcycle slots rows row name n = tableHead microcycle slots rows · texts (rowAt row name n) rows
 
 -- ---- Refusals
 

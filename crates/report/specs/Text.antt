@@ -6,7 +6,7 @@ use Prim.Native.Char.{code}
 use Prim.Native.String.{String, [] as none, _∷_ as _then_}
 use mathlib.Core.List.{List, [], _∷_, _++_}
 use mathlib.Core.Bool.{Bool}
-use lib.ListN.{length}
+use lib.ListN.{length, getD}
 use lib.Seq.{sets}
 use lib.Dec.{ltb}
 use Rattle.common.specs.Sums.{firstOf}
@@ -52,6 +52,10 @@ p · q = p ++ q
 unfoldable pub counted : List ℕ → ℕ → List ℕ → List ℕ
 unfolding decimal
 counted before n after = before · decimal n · after
+
+-- what stands at place i of a run
+abbrev pub item : List ℕ → ℕ → ℕ
+item l i = getD l i 0
 
 -- t 0, .., t (n - 1), each behind the one before it
 unfoldable pub texts : (ℕ → List ℕ) → ℕ → List ℕ

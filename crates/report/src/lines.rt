@@ -10,7 +10,7 @@ ghost use mathlib.Core.Path.{_≡_};
 ghost use mathlib.Core.List.{_++_};
 ghost use Prim.Native.Nat.{_≤_};
 ghost use lib.ListN.{length};
-ghost use Rattle.report.specs.Text.{Room, Wrote, texts};
+ghost use Rattle.report.specs.Text.{Room, Wrote, item, texts};
 ghost use Rattle.report.specs.Lines.{inBp, inUs, inBoth, nameOf, figuresOf, masterLine, masterText, masterAt, ringText, nameText, nameAt, rowLine, rowAt, tableHead, placeEnd, refusalText};
 
 fn put_bp(out: &mut [u8], at: usize, before: &[u8], b: BitPeriods) -> usize
@@ -89,8 +89,8 @@ pub(crate) fn put_masters(
     n: usize,
 ) -> usize
     requires { ⌜ (n ≤ length (now bound)) × (n ≤ length (now refined)) × (n ≤ length (now rounds)) ⌝ }
-    requires { ⌜ Room (now out) at (texts (masterAt (now bound) (now refined) (now rounds)) n) ⌝ }
-    ensures { λ r. ⌜ Wrote (now (out .entry)) at (texts (masterAt (now (bound .entry)) (now (refined .entry)) (now (rounds .entry))) n) (now (out .exit)) r ⌝ }
+    requires { ⌜ Room (now out) at (texts (masterAt (item (now bound)) (item (now refined)) (item (now rounds))) n) ⌝ }
+    ensures { λ r. ⌜ Wrote (now (out .entry)) at (texts (masterAt (item (now (bound .entry))) (item (now (refined .entry))) (item (now (rounds .entry)))) n) (now (out .exit)) r ⌝ }
 {
     let mut next = at;
     let mut i = 0;
@@ -124,8 +124,8 @@ fn put_ident(out: &mut [u8], at: usize, bit: u64, name: u16) -> usize
 // The identifiers of a row's ranks.
 fn put_idents(out: &mut [u8], at: usize, row: u64, names: &[u16], n: usize) -> usize
     requires { ⌜ n ≤ length (now names) ⌝ }
-    requires { ⌜ Room (now out) at (texts (nameAt row (now names)) n) ⌝ }
-    ensures { λ r. ⌜ Wrote (now (out .entry)) at (texts (nameAt row (now (names .entry))) n) (now (out .exit)) r ⌝ }
+    requires { ⌜ Room (now out) at (texts (nameAt row (item (now names))) n) ⌝ }
+    ensures { λ r. ⌜ Wrote (now (out .entry)) at (texts (nameAt row (item (now (names .entry)))) n) (now (out .exit)) r ⌝ }
 {
     let mut next = at;
     let mut rest = row;
@@ -141,8 +141,8 @@ fn put_idents(out: &mut [u8], at: usize, row: u64, names: &[u16], n: usize) -> u
 // Row m.
 fn put_row(out: &mut [u8], at: usize, m: u64, row: u64, names: &[u16], n: usize) -> usize
     requires { ⌜ n ≤ length (now names) ⌝ }
-    requires { ⌜ Room (now out) at (rowLine m row (now names) n) ⌝ }
-    ensures { λ r. ⌜ Wrote (now (out .entry)) at (rowLine m row (now (names .entry)) n) (now (out .exit)) r ⌝ }
+    requires { ⌜ Room (now out) at (rowLine m row (item (now names)) n) ⌝ }
+    ensures { λ r. ⌜ Wrote (now (out .entry)) at (rowLine m row (item (now (names .entry))) n) (now (out .exit)) r ⌝ }
 {
     let idents = put_counted(out, at, b"row ", m, b":");
     let end = put_idents(out, idents, row, names, n);
@@ -159,8 +159,8 @@ pub(crate) fn put_rows(
     count: usize,
 ) -> usize
     requires { ⌜ (n ≤ length (now names)) × (count ≤ length (now rows)) ⌝ }
-    requires { ⌜ Room (now out) at (texts (rowAt (now rows) (now names) n) count) ⌝ }
-    ensures { λ r. ⌜ Wrote (now (out .entry)) at (texts (rowAt (now (rows .entry)) (now (names .entry)) n) count) (now (out .exit)) r ⌝ }
+    requires { ⌜ Room (now out) at (texts (rowAt (item (now rows)) (item (now names)) n) count) ⌝ }
+    ensures { λ r. ⌜ Wrote (now (out .entry)) at (texts (rowAt (item (now (rows .entry))) (item (now (names .entry))) n) count) (now (out .exit)) r ⌝ }
 {
     let mut next = at;
     let mut m = 0;

@@ -18,7 +18,9 @@ unfolding inBoth
 pieces p b = sym (append-assoc p (inBp b) (word " " ++ inUs (microsUp b)))
 
 put-bp-requires : tie.Need-put-bp-requires
-put-bp-requires c κs = room-before (word " " ++ inUs (microsUp (c .before .before .before .args .b))) (subst (Room _ _) (pieces (now (c .before .before .before .args .before)) (c .before .before .before .args .b)) (c .before .before .before .pre))
+put-bp-requires c κs =
+    let start = c .before .before .before in
+    room-before (word " " ++ inUs (microsUp (start .args .b))) (subst (Room _ _) (pieces (now (start .args .before)) (start .args .b)) (start .pre))
 
 slice-aggregate-put-us : tie.Need-slice-aggregate-put-us
 slice-aggregate-put-us c = search needs
@@ -27,7 +29,9 @@ micros-up-requires : tie.Need-micros-up-requires
 micros-up-requires c κs = search needs
 
 put-us-requires : tie.Need-put-us-requires
-put-us-requires c κs = rw (c .micros-up .ensures) (room-after (c .before .before .before .before .before .put-bp .ensures) (subst (Room _ _) (pieces (now (c .before .before .before .before .before .before .before .before .before .args .before)) (c .before .before .before .before .before .before .before .before .before .args .b)) (c .before .before .before .before .before .before .before .before .before .pre)))
+put-us-requires c κs =
+    let start = c .before .before .before .before .before .before .before .before .before in
+    rw (c .micros-up .ensures) (room-after (c .before .before .before .before .before .put-bp .ensures) (subst (Room _ _) (pieces (now (start .args .before)) (start .args .b)) (start .pre)))
 
 same-length : tie.Need-same-length
 same-length c = search needs

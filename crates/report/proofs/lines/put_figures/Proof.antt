@@ -18,13 +18,17 @@ slice-aggregate-put-both : tie.Need-slice-aggregate-put-both
 slice-aggregate-put-both c = search needs
 
 put-both-requires : tie.Need-put-both-requires
-put-both-requires c κs = room-before (word " refined " ++ inBoth (c .before .before .before .args .refined)) (subst (Room _ _) (pieces (c .before .before .before .args .bound) (c .before .before .before .args .refined)) (c .before .before .before .pre))
+put-both-requires c κs =
+    let start = c .before .before .before in
+    room-before (word " refined " ++ inBoth (start .args .refined)) (subst (Room _ _) (pieces (start .args .bound) (start .args .refined)) (start .pre))
 
 slice-aggregate-put-both-2 : tie.Need-slice-aggregate-put-both-2
 slice-aggregate-put-both-2 c = search needs
 
 put-both-requires-2 : tie.Need-put-both-requires-2
-put-both-requires-2 c κs = room-after (c .before .before .before .before .put-both .ensures) (subst (Room _ _) (pieces (c .before .before .before .before .before .before .before .before .args .bound) (c .before .before .before .before .before .before .before .before .args .refined)) (c .before .before .before .before .before .before .before .before .pre))
+put-both-requires-2 c κs =
+    let start = c .before .before .before .before .before .before .before .before in
+    room-after (c .before .before .before .before .put-both .ensures) (subst (Room _ _) (pieces (start .args .bound) (start .args .refined)) (start .pre))
 
 same-length : tie.Need-same-length
 same-length c = search needs

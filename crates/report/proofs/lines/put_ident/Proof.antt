@@ -25,7 +25,9 @@ slice-aggregate-put-counted-2 : tie.Need-slice-aggregate-put-counted-2
 slice-aggregate-put-counted-2 c = search needs
 
 put-counted-requires : tie.Need-put-counted-requires
-put-counted-requires c κs = subst (Room _ _) (set _ (c .before .before .before .before .before .args .name) (c .before .before .before .if1 .taken)) (c .before .before .before .before .before .pre)
+put-counted-requires c κs =
+    let start = c .before .before .before .before .before in
+    subst (Room _ _) (set _ (start .args .name) (c .before .before .before .if1 .taken)) (start .pre)
 
 same-length : tie.Need-same-length
 same-length c = search needs

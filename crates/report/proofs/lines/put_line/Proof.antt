@@ -13,7 +13,9 @@ put-name-requires c κs = let a = c .before .before .args in room-before (figure
 
 put-figures-requires : tie.Need-put-figures-requires
 unfolding counted masterLine
-put-figures-requires c κs = room-before (counted (word " ") (c .before .before .before .before .before .before .args .rounds) (word " rounds\n")) (room-after (c .before .before .before .put-name .ensures) (c .before .before .before .before .before .before .pre))
+put-figures-requires c κs =
+    let start = c .before .before .before .before .before .before in
+    room-before (counted (word " ") (start .args .rounds) (word " rounds\n")) (room-after (c .before .before .before .put-name .ensures) (start .pre))
 
 slice-aggregate-put-counted : tie.Need-slice-aggregate-put-counted
 slice-aggregate-put-counted c = search needs

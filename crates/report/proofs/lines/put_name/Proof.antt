@@ -11,7 +11,9 @@ slice-aggregate-put-word c = search needs
 
 put-word-requires : tie.Need-put-word-requires
 unfolding nameOf
-put-word-requires c κs = room-before (places 2 (c .before .before .before .args .k)) (c .before .before .before .pre)
+put-word-requires c κs =
+    let start = c .before .before .before in
+    room-before (places 2 (start .args .k)) (start .pre)
 
 put-places-requires : tie.Need-put-places-requires
 unfolding nameOf

@@ -35,7 +35,9 @@ slice-aggregate-put-counted-2 : tie.Need-slice-aggregate-put-counted-2
 slice-aggregate-put-counted-2 c = search needs
 
 put-counted-requires : tie.Need-put-counted-requires
-put-counted-requires c κs = subst (Room _ _) (byte _ (c .before .before .before .before .before .args .place) (c .before .before .before .if1 .taken)) (c .before .before .before .before .before .pre)
+put-counted-requires c κs =
+    let start = c .before .before .before .before .before in
+    subst (Room _ _) (byte _ (start .args .place) (c .before .before .before .if1 .taken)) (start .pre)
 
 same-length : tie.Need-same-length
 same-length c = search needs
@@ -50,7 +52,9 @@ slice-aggregate-put-counted-4 : tie.Need-slice-aggregate-put-counted-4
 slice-aggregate-put-counted-4 c = search needs
 
 put-counted-requires-2 : tie.Need-put-counted-requires-2
-put-counted-requires-2 c κs = subst (Room _ _) (stream _ (c .before .before .before .before .before .before .args .place) (c .before .before .before .before .if1 .left) (c .before .before .before .if2 .taken)) (c .before .before .before .before .before .before .pre)
+put-counted-requires-2 c κs =
+    let start = c .before .before .before .before .before .before in
+    subst (Room _ _) (stream _ (start .args .place) (c .before .before .before .before .if1 .left) (c .before .before .before .if2 .taken)) (start .pre)
 
 same-length-2 : tie.Need-same-length-2
 same-length-2 c = search needs
@@ -65,7 +69,9 @@ slice-aggregate-put-counted-6 : tie.Need-slice-aggregate-put-counted-6
 slice-aggregate-put-counted-6 c = search needs
 
 put-counted-requires-3 : tie.Need-put-counted-requires-3
-put-counted-requires-3 c κs = subst (Room _ _) (variable _ (c .before .before .before .before .before .before .before .args .place) (c .before .before .before .before .before .if1 .left) (c .before .before .before .before .if2 .left) (c .before .before .before .if3 .taken)) (c .before .before .before .before .before .before .before .pre)
+put-counted-requires-3 c κs =
+    let start = c .before .before .before .before .before .before .before in
+    subst (Room _ _) (variable _ (start .args .place) (c .before .before .before .before .before .if1 .left) (c .before .before .before .before .if2 .left) (c .before .before .before .if3 .taken)) (start .pre)
 
 same-length-3 : tie.Need-same-length-3
 same-length-3 c = search needs
@@ -77,7 +83,9 @@ slice-aggregate-put-word : tie.Need-slice-aggregate-put-word
 slice-aggregate-put-word c = search needs
 
 put-word-requires : tie.Need-put-word-requires
-put-word-requires c κs = subst (Room _ _) (nothing _ (c .before .before .before .before .before .before .args .place) (c .before .before .before .before .if1 .left) (c .before .before .before .if2 .left) (c .before .before .if3 .left)) (c .before .before .before .before .before .before .pre)
+put-word-requires c κs =
+    let start = c .before .before .before .before .before .before in
+    subst (Room _ _) (nothing _ (start .args .place) (c .before .before .before .before .if1 .left) (c .before .before .before .if2 .left) (c .before .before .if3 .left)) (start .pre)
 
 same-length-4 : tie.Need-same-length-4
 same-length-4 c = search needs

@@ -21,10 +21,14 @@ slice-aggregate-put-counted-2 : tie.Need-slice-aggregate-put-counted-2
 slice-aggregate-put-counted-2 c = search needs
 
 put-counted-requires : tie.Need-put-counted-requires
-put-counted-requires c κs = room-before (placeEnd (c .before .before .before .before .args .number) (c .before .before .before .before .args .place)) (subst (Room _ _) (pieces (c .before .before .before .before .args .number) (c .before .before .before .before .args .place)) (c .before .before .before .before .pre))
+put-counted-requires c κs =
+    let start = c .before .before .before .before in
+    room-before (placeEnd (start .args .number) (start .args .place)) (subst (Room _ _) (pieces (start .args .number) (start .args .place)) (start .pre))
 
 put-place-requires : tie.Need-put-place-requires
-put-place-requires c κs = room-after (c .before .before .before .put-counted .ensures) (subst (Room _ _) (pieces (c .before .before .before .before .before .before .before .before .args .number) (c .before .before .before .before .before .before .before .before .args .place)) (c .before .before .before .before .before .before .before .before .pre))
+put-place-requires c κs =
+    let start = c .before .before .before .before .before .before .before .before in
+    room-after (c .before .before .before .put-counted .ensures) (subst (Room _ _) (pieces (start .args .number) (start .args .place)) (start .pre))
 
 same-length : tie.Need-same-length
 same-length c = search needs

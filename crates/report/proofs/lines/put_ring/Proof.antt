@@ -25,7 +25,9 @@ slice-aggregate-put-counted-2 : tie.Need-slice-aggregate-put-counted-2
 slice-aggregate-put-counted-2 c = search needs
 
 put-counted-requires : tie.Need-put-counted-requires
-put-counted-requires c κs = room-before (counted (word " limited by stream ") (c .before .before .before .before .before .args .stream) (word "\n")) (subst (Room _ _) (pieces (c .before .before .before .before .before .args .rotation) (c .before .before .before .before .before .args .stream)) (c .before .before .before .before .before .pre))
+put-counted-requires c κs =
+    let start = c .before .before .before .before .before in
+    room-before (counted (word " limited by stream ") (start .args .stream) (word "\n")) (subst (Room _ _) (pieces (start .args .rotation) (start .args .stream)) (start .pre))
 
 slice-aggregate-put-counted-3 : tie.Need-slice-aggregate-put-counted-3
 slice-aggregate-put-counted-3 c = search needs
@@ -34,7 +36,9 @@ slice-aggregate-put-counted-4 : tie.Need-slice-aggregate-put-counted-4
 slice-aggregate-put-counted-4 c = search needs
 
 put-counted-requires-2 : tie.Need-put-counted-requires-2
-put-counted-requires-2 c κs = room-after (c .before .before .before .before .before .put-counted .ensures) (subst (Room _ _) (pieces (c .before .before .before .before .before .before .before .before .before .before .before .args .rotation) (c .before .before .before .before .before .before .before .before .before .before .before .args .stream)) (c .before .before .before .before .before .before .before .before .before .before .before .pre))
+put-counted-requires-2 c κs =
+    let start = c .before .before .before .before .before .before .before .before .before .before .before in
+    room-after (c .before .before .before .before .before .put-counted .ensures) (subst (Room _ _) (pieces (start .args .rotation) (start .args .stream)) (start .pre))
 
 same-length : tie.Need-same-length
 same-length c = search needs

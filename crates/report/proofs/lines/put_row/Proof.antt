@@ -4,14 +4,14 @@ use mathlib.Core.List.{List, _++_}
 use Prim.Native.Nat.{ℕ}
 use borrow.Author.Needs.{needs}
 use denote.Ref.{now}
-use Rattle.report.specs.Text.{word, counted, texts, Room}
+use Rattle.report.specs.Text.{word, counted, item, texts, Room}
 use Rattle.report.specs.Lines.{nameAt, rowLine}
 use Rattle.report.proofs.Writing.{wrote-then, room-before, room-after, counted-then}
 use Rattle.report.proofs.lines.put_row.Statement.{statement}
 use Rattle.report.proofs.lines.put_row.Tie as tie
 
 -- the three pieces that the code stores
-pieces : (m row : ℕ) (names : List ℕ) (n : ℕ) → rowLine m row names n ≡ counted (word "row ") m (word ":") ++ (texts (nameAt row names) n ++ word "\n")
+pieces : (m row : ℕ) (names : ℕ → ℕ) (n : ℕ) → rowLine m row names n ≡ counted (word "row ") m (word ":") ++ (texts (nameAt row names) n ++ word "\n")
 unfolding rowLine
 pieces m row names n = counted-then (word "row ") m (word ":") (texts (nameAt row names) n ++ word "\n")
 
@@ -24,12 +24,12 @@ slice-aggregate-put-counted-2 c = search needs
 put-counted-requires : tie.Need-put-counted-requires
 put-counted-requires c κs =
     let a = c .before .before .before .before .before .args in
-    room-before (texts (nameAt (a .row) (now (a .names))) (a .n) ++ word "\n") (subst (Room _ _) (pieces (a .m) (a .row) (now (a .names)) (a .n)) (c .before .before .before .before .before .pre .1))
+    room-before (texts (nameAt (a .row) (item (now (a .names)))) (a .n) ++ word "\n") (subst (Room _ _) (pieces (a .m) (a .row) (item (now (a .names))) (a .n)) (c .before .before .before .before .before .pre .1))
 
 put-idents-requires : tie.Need-put-idents-requires
 put-idents-requires c κs =
     let a = c .before .before .before .before .before .before .before .before .before .args in
-    (c .before .before .before .before .before .before .before .before .before .pre .0, room-before (word "\n") (room-after (c .before .before .before .put-counted .ensures) (subst (Room _ _) (pieces (a .m) (a .row) (now (a .names)) (a .n)) (c .before .before .before .before .before .before .before .before .before .pre .1))))
+    (c .before .before .before .before .before .before .before .before .before .pre .0, room-before (word "\n") (room-after (c .before .before .before .put-counted .ensures) (subst (Room _ _) (pieces (a .m) (a .row) (item (now (a .names))) (a .n)) (c .before .before .before .before .before .before .before .before .before .pre .1))))
 
 slice-aggregate-put-word : tie.Need-slice-aggregate-put-word
 slice-aggregate-put-word c = search needs
@@ -37,7 +37,7 @@ slice-aggregate-put-word c = search needs
 put-word-requires : tie.Need-put-word-requires
 put-word-requires c κs =
     let a = c .before .before .before .before .before .before .before .before .before .before .before .before .before .before .args in
-    room-after (c .before .before .before .before .put-idents .ensures) (room-after (c .before .before .before .before .before .before .before .before .put-counted .ensures) (subst (Room _ _) (pieces (a .m) (a .row) (now (a .names)) (a .n)) (c .before .before .before .before .before .before .before .before .before .before .before .before .before .before .pre .1)))
+    room-after (c .before .before .before .before .put-idents .ensures) (room-after {p = counted (word "row ") (a .m) (word ":")} (c .before .before .before .before .before .before .before .before .put-counted .ensures) (subst (Room _ _) (pieces (a .m) (a .row) (item (now (a .names))) (a .n)) (c .before .before .before .before .before .before .before .before .before .before .before .before .before .before .pre .1)))
 
 same-length : tie.Need-same-length
 same-length c = search needs

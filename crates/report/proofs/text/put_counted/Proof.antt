@@ -9,11 +9,15 @@ use Rattle.report.proofs.text.put_counted.Tie as tie
 
 put-word-requires : tie.Need-put-word-requires
 unfolding counted
-put-word-requires c κs = let a = c .before .before .before .before .args in room-before (decimal (a .n) ++ now (a .after)) (c .before .before .before .before .pre)
+put-word-requires c κs =
+    let start = c .before .before .before .before in
+    let a = start .args in room-before (decimal (a .n) ++ now (a .after)) (start .pre)
 
 put-number-requires : tie.Need-put-number-requires
 unfolding counted
-put-number-requires c κs = room-before (now (c .before .before .before .before .before .before .before .before .args .after)) (room-after (c .before .before .before .put-word .ensures) (c .before .before .before .before .before .before .before .before .pre))
+put-number-requires c κs =
+    let start = c .before .before .before .before .before .before .before .before in
+    room-before (now (start .args .after)) (room-after (c .before .before .before .put-word .ensures) (start .pre))
 
 put-word-requires-2 : tie.Need-put-word-requires-2
 unfolding counted
