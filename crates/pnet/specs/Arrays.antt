@@ -1,0 +1,67 @@
+-- How the code keeps a segment: at place y master y's count s and its charge H, and from place 80·y on the spacings T of its streams in
+-- sheet order. The page's figures, read off these arrays. Assumes nothing.
+use Prim.Native.Nat.{ℕ, _+_, _-_, _*_, _≤_, _<_}
+use mathlib.Core.List.{List}
+use lib.ListN.{getD}
+use Rattle.common.specs.Sums.{upto, up}
+use Rattle.segment.specs.Refined.{saving, valueOf, roundsOf}
+
+-- what stands at a place, and 0 past the end
+abbrev pub at : List ℕ → ℕ → ℕ
+at l i = getD l i 0
+
+-- place i of a run is for master i + 1
+abbrev pub atPlace : (ℕ → ℕ) → ℕ → ℕ
+atPlace f i = f (i + 1)
+
+-- a(y) at W, over the first n of master y's streams
+unfoldable pub askedIn : List ℕ → ℕ → ℕ → ℕ → ℕ
+unfolding upto up
+askedIn spacings y w n = upto (λ j. up w (at spacings (80 * y + (j - 1)))) n
+
+-- V, over N masters
+unfoldable pub turnIn : List ℕ → ℕ → ℕ
+unfolding upto
+turnIn holds N = upto (at holds) N
+
+-- R of master k, among N masters
+unfoldable pub boundIn : List ℕ → List ℕ → ℕ → ℕ → ℕ
+unfolding turnIn
+boundIn counts holds N k = at counts k * turnIn holds N
+
+-- what master k saves at y
+unfoldable pub savedIn : List ℕ → List ℕ → List ℕ → ℕ → ℕ → ℕ → ℕ
+unfolding saving askedIn
+savedIn counts holds spacings k w y = saving (at holds) (at counts k) k (askedIn spacings y w (at counts y)) y
+
+-- the right side for W of master k, among N masters
+unfoldable pub rightIn : List ℕ → List ℕ → List ℕ → ℕ → ℕ → ℕ → ℕ
+unfolding boundIn upto savedIn
+rightIn counts holds spacings N k w = boundIn counts holds N k - upto (savedIn counts holds spacings k w) N
+
+-- its round count among N masters, and the value reached then
+unfoldable pub roundsIn : List ℕ → List ℕ → List ℕ → ℕ → ℕ → ℕ
+unfolding roundsOf rightIn
+roundsIn counts holds spacings N k = roundsOf (rightIn counts holds spacings N k) (1 + (N - 1) * at counts k)
+
+unfoldable pub refinedIn : List ℕ → List ℕ → List ℕ → ℕ → ℕ → ℕ
+unfolding valueOf rightIn roundsIn
+refinedIn counts holds spacings N k = valueOf (rightIn counts holds spacings N k) (roundsIn counts holds spacings N k)
+
+-- the first n spacings of master y are in their range
+pub record Spaced (spacings : List ℕ) (y n : ℕ) : Type 0 where
+  pub from : (j : ℕ) → j < n → 1 ≤ at spacings (80 * y + j)
+  pub to : (j : ℕ) → j < n → at spacings (80 * y + j) ≤ 1000000000
+
+-- master y has at most 80 streams, in range, and a charge between an unused visit's and the longest
+pub record Served (counts holds spacings : List ℕ) (y : ℕ) : Type 0 where
+  pub inside : y ≤ 32
+  pub count-to : at counts y ≤ 80
+  pub hold-from : 10 ≤ at holds y
+  pub hold-to : at holds y ≤ 1595
+  pub spaced : Spaced spacings y (at counts y)
+
+-- so has each of N masters
+pub record Kept (N : ℕ) (counts holds spacings : List ℕ) : Type 0 where
+  pub few : N ≤ 32
+  pub each : (y : ℕ) → 1 ≤ y → y ≤ N → Served counts holds spacings y
