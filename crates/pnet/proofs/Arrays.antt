@@ -6,12 +6,13 @@ use native.Mathlib.Nat.{mul-le-mul}
 use native.Mathlib.Omega.{arith}
 use borrow.Author.Tests.{eq-eqb, ne-eqb}
 use lib.ListN.{getD}
+use lib.Dec.{ltb}
 use Rattle.common.specs.Sums.{upto, up}
 use Rattle.common.proofs.Sums.{upto-more, upto-part, upto-mono, upto-most, up-rises}
 use Rattle.segment.specs.Refined.{saving, valueOf, roundsOf}
 use Rattle.segment.proofs.Sequence.{Moving, moving-ends, settles-is-rounds}
 use Rattle.segment.proofs.Right.{rightOf, savings-at-most, right-value-at-most, right-moves-at-most}
-use Rattle.pnet.specs.Arrays.{at, askedIn, turnIn, boundIn, savedIn, rightIn, roundsIn, refinedIn, Spaced, Served, Kept}
+use Rattle.pnet.specs.Arrays.{at, askedIn, turnIn, boundIn, lateIn, savedIn, rightIn, roundsIn, refinedIn, Spaced, Served, Kept}
 
 -- ---- a(y), stream by stream
 
@@ -50,6 +51,14 @@ saved-small s a H l m = mul-le-mul {n₁ = s - a} {m₁ = H - 10} {n₂ = 80} {m
 pub bound-is : (counts holds : List ℕ) (N k turn : ℕ) → turn ≡ turnIn holds N → at counts k * turn ≡ boundIn counts holds N k
 unfolding boundIn
 bound-is counts holds N k turn e = ap (λ (v : ℕ). at counts k * v) e
+
+-- stream i + 1, as the code has it
+pub late-is : (masters deadlines counts : List ℕ) (turn i : ℕ)
+    → lateIn masters deadlines counts turn (i + 1) ≡ ltb (at deadlines i) (at counts (at masters i) * turn)
+unfolding lateIn
+late-is masters deadlines counts turn i =
+    let e : i + 1 - 1 ≡ i = omega arith in
+    ap (λ (x : ℕ). ltb (at deadlines x) (at counts (at masters x) * turn)) e
 
 -- ---- The right side of a master, as the segment's laws have it
 

@@ -2,7 +2,9 @@
 -- sheet order. The page's figures, read off these arrays. Assumes nothing.
 use Prim.Native.Nat.{ℕ, _+_, _-_, _*_, _≤_, _<_}
 use mathlib.Core.List.{List}
+use mathlib.Core.Bool.{Bool}
 use lib.ListN.{getD}
+use lib.Dec.{ltb}
 use Rattle.common.specs.Sums.{upto, up}
 use Rattle.segment.specs.Refined.{saving, valueOf, roundsOf}
 
@@ -28,6 +30,10 @@ turnIn holds N = upto (at holds) N
 unfoldable pub boundIn : List ℕ → List ℕ → ℕ → ℕ → ℕ
 unfolding turnIn
 boundIn counts holds N k = at counts k * turnIn holds N
+
+-- stream i fails: its master's R, for V, is above its D; masters and deadlines stand in sheet order
+unfoldable pub lateIn : List ℕ → List ℕ → List ℕ → ℕ → ℕ → Bool
+lateIn masters deadlines counts turn i = ltb (at deadlines (i - 1)) (at counts (at masters (i - 1)) * turn)
 
 -- what master k saves at y
 unfoldable pub savedIn : List ℕ → List ℕ → List ℕ → ℕ → ℕ → ℕ → ℕ

@@ -1,14 +1,53 @@
 // The P-NET planner, page 01 'P-NET bounds'.
 ghost use mathlib.Core.Path.{_≡_};
-ghost use Prim.Native.Nat.{_+_, _*_, _≤_, _<_, min};
+ghost use Prim.Native.Nat.{ℕ, _+_, _*_, _≤_, _<_, min};
 ghost use lib.ListN.{length};
 ghost use Rattle.common.specs.Runs.{filled};
-ghost use Rattle.pnet.specs.Arrays.{at, atPlace, askedIn, turnIn, boundIn, savedIn, rightIn, roundsIn, refinedIn, Spaced, Served, Kept};
+ghost use Rattle.common.specs.Sums.{firstOf};
+ghost use Rattle.pnet.specs.Arrays.{at, atPlace, askedIn, turnIn, boundIn, lateIn, savedIn, rightIn, roundsIn, refinedIn, Spaced, Served, Kept};
 
 // W of a master, and its rounds.
 struct Found {
     refined: u32,
     rounds: u32,
+}
+
+// V: the sum of H over the n masters.
+fn turn_of(holds: &[u32; 33], n: usize) -> u32
+    requires { ⌜ (n ≤ 32) × ((y : ℕ) → at (now holds) y ≤ 1595) ⌝ }
+    ensures { λ r. ⌜ (r ≡ turnIn (now (holds .entry)) n) × (r ≤ 51040) ⌝ }
+{
+    let mut turn: u32 = 0;
+    let mut y: usize = 0;
+    while y < n {
+        y += 1;
+        turn += holds[y];
+    }
+    turn
+}
+
+// The first of n streams whose master's R is above its D, and n + 1 where there is none; turn is V.
+fn first_late(
+    masters: &[u8; 800],
+    deadlines: &[u32; 800],
+    counts: &[u32; 33],
+    n: usize,
+    turn: u32,
+) -> usize
+    requires { ⌜ (n ≤ 800) × (turn ≤ 51040) × ((i : ℕ) → at (now masters) i ≤ 32) × ((y : ℕ) → at (now counts) y ≤ 80) ⌝ }
+    ensures { λ r. ⌜ r ≡ firstOf (lateIn (now (masters .entry)) (now (deadlines .entry)) (now (counts .entry)) turn) n 1 ⌝ }
+{
+    let mut i: usize = 0;
+    while i < n {
+        let y = masters[i] as usize;
+        let bound = counts[y] * turn;
+        let deadline = deadlines[i];
+        if deadline < bound {
+            return i + 1;
+        }
+        i += 1;
+    }
+    n + 1
 }
 
 // min(s, a(y)) at W, of master y's n streams: more than s requests change nothing.
