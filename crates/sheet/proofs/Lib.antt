@@ -1,1 +1,7 @@
+pub mod Cases
+pub mod Counts
 pub mod Examples
+pub mod Judged
+pub mod Kept
+pub mod Known
+pub mod Walk
