@@ -163,3 +163,9 @@ up-less x t p = up-at-most x t x p (omega (arith, mul-le-mul {n₁ = x} {m₁ = 
 pub upto-none : (f : ℕ → ℕ) → 0 ≡ upto f 0
 unfolding upto
 upto-none f = refl
+
+-- the first term apart
+pub upto-first : (f : ℕ → ℕ) (n : ℕ) → upto f (suc n) ≡ f 1 + upto (λ y. f (suc y)) n
+unfolding upto
+upto-first f zero = omega arith
+upto-first f (suc n) = omega (arith, upto-first f n)
