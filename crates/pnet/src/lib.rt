@@ -1,10 +1,18 @@
 // The P-NET planner, page 01 'P-NET bounds'.
 ghost use mathlib.Core.Path.{_≡_};
-ghost use Prim.Native.Nat.{ℕ, _+_, _*_, _≤_, _<_, min};
+ghost use Prim.Native.Nat.{ℕ, _+_, _*_, _≤_, _<_, min, max};
 ghost use lib.ListN.{length};
 ghost use Rattle.common.specs.Runs.{filled};
 ghost use Rattle.common.specs.Sums.{firstOf};
-ghost use Rattle.pnet.specs.Arrays.{at, atPlace, askedIn, turnIn, boundIn, lateIn, savedIn, rightIn, roundsIn, refinedIn, Spaced, Served, Kept};
+ghost use Rattle.pnet.specs.Plan.{planned, planOf, atPlace, runOf};
+ghost use Rattle.pnet.specs.Arrays.{part, Gathered, segmentIn, Pnet};
+ghost use Rattle.pnet.specs.Arrays.{at, askedIn, turnIn, boundIn, lateIn, savedIn, rightIn, roundsIn, refinedIn, Spaced, Served, Kept};
+
+// What the planner answers: the masters and the streams of the sheet, or the refusal's number and place.
+pub enum Plan {
+    Accepted { masters: usize, streams: usize },
+    Refused { no: u8, place: usize },
+}
 
 // W of a master, and its rounds.
 struct Found {
@@ -12,9 +20,48 @@ struct Found {
     rounds: u32,
 }
 
+fn larger(a: u32, b: u32) -> u32
+    ensures { λ r. ⌜ r ≡ max a b ⌝ }
+{
+    if a < b { b } else { a }
+}
+
+// Gathers the n streams from the place of the first: each one's master and deadline in sheet order, and for each master
+// its count, its H, which is 10 until a stream makes it 47 and the longest cycle, and its spacings.
+fn gather(
+    s: &[u8],
+    first: usize,
+    n: usize,
+    masters: &mut [u8; 800],
+    deadlines: &mut [u32; 800],
+    counts: &mut [u32; 33],
+    holds: &mut [u32; 33],
+    spacings: &mut [u32; 2640],
+)
+    requires { ⌜ Pnet (now s) n first ⌝ }
+    requires { ⌜ Gathered (part (segmentIn (now s)) 0) (now masters) (now deadlines) (now counts) (now holds) (now spacings) ⌝ }
+    ensures { λ _. ⌜ Gathered (segmentIn (now (s .entry))) (now (masters .exit)) (now (deadlines .exit)) (now (counts .exit)) (now (holds .exit)) (now (spacings .exit)) ⌝ }
+{
+    let mut at = first;
+    let mut i: usize = 0;
+    while i < n {
+        let met = format::record_at(s, at);
+        let r = met.found;
+        let m = r.a as usize;
+        let count = counts[m];
+        masters[i] = r.a as u8;
+        deadlines[i] = r.d;
+        spacings[80 * m + count as usize] = r.c;
+        holds[m] = larger(holds[m], 47 + r.b);
+        counts[m] = count + 1;
+        at = met.next;
+        i += 1;
+    }
+}
+
 // V: the sum of H over the n masters.
 fn turn_of(holds: &[u32; 33], n: usize) -> u32
-    requires { ⌜ (n ≤ 32) × ((y : ℕ) → at (now holds) y ≤ 1595) ⌝ }
+    requires { ⌜ (n ≤ 32) × ((y : ℕ) → 1 ≤ y → y ≤ n → at (now holds) y ≤ 1595) ⌝ }
     ensures { λ r. ⌜ (r ≡ turnIn (now (holds .entry)) n) × (r ≤ 51040) ⌝ }
 {
     let mut turn: u32 = 0;
@@ -34,7 +81,7 @@ fn first_late(
     n: usize,
     turn: u32,
 ) -> usize
-    requires { ⌜ (n ≤ 800) × (turn ≤ 51040) × ((i : ℕ) → at (now masters) i ≤ 32) × ((y : ℕ) → at (now counts) y ≤ 80) ⌝ }
+    requires { ⌜ (n ≤ 800) × (turn ≤ 51040) × ((i : ℕ) → i < n → at (now masters) i ≤ 32) × ((y : ℕ) → y ≤ 32 → at (now counts) y ≤ 80) ⌝ }
     ensures { λ r. ⌜ r ≡ firstOf (lateIn (now (masters .entry)) (now (deadlines .entry)) (now (counts .entry)) turn) n 1 ⌝ }
 {
     let mut i: usize = 0;

@@ -5,7 +5,8 @@ use native.Mathlib.Omega.{arith}
 use borrow.Author.Needs.{needs}
 use lib.ListN.{length, length-set}
 use Rattle.common.proofs.Runs.{Filling, filling-none, filling-more, filling-done}
-use Rattle.pnet.specs.Arrays.{at, atPlace, boundIn, refinedIn, roundsIn}
+use Rattle.pnet.specs.Plan.{atPlace}
+use Rattle.pnet.specs.Arrays.{boundIn, refinedIn, roundsIn}
 use Rattle.pnet.proofs.Arrays.{bound-is, bound-small}
 use Rattle.pnet.proofs.fill.Statement.{statement}
 use Rattle.pnet.proofs.fill.Tie as tie

@@ -32,7 +32,7 @@ element-copy-out-y c = search needs
 -- src/lib.rt:36:17
 -- the master read is one of 0..32
 inside : (c : tie.After-y Inv-loop μ-loop) → at (c .before .before .before .args .masters .now) (c .before .before .loop .i) ≤ 32
-inside c = c .before .before .before .pre .2 (c .before .before .loop .i)
+inside c = c .before .before .before .pre .2 (c .before .before .loop .i) (omega arith)
 
 cast-y : tie.Need-cast-y Inv-loop μ-loop
 cast-y c = omega (arith, inside c)
@@ -51,7 +51,7 @@ mul-bound-2 c =
     let p = c .before .before .before .before .pre in
     let a = c .before .before .before .before .args in
     let y = at (a .masters .now) (c .before .before .before .loop .i) in
-    omega (arith, mul-le-mul {n₁ = at (a .counts .now) y} {m₁ = a .turn} {n₂ = 80} {m₂ = 51040} (p .3 y) (p .1))
+    omega (arith, mul-le-mul {n₁ = at (a .counts .now) y} {m₁ = a .turn} {n₂ = 80} {m₂ = 51040} (p .3 y (p .2 (c .before .before .before .loop .i) (omega arith))) (p .1))
 
 -- src/lib.rt:38:24
 mul-deadline : tie.Need-mul-deadline Inv-loop μ-loop

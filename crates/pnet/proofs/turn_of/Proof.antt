@@ -35,7 +35,7 @@ element-copy-out-turn c = search needs
 
 -- src/lib.rt:24:9
 add-turn : tie.Need-add-turn Inv-loop μ-loop
-add-turn c = omega (arith, c .before .before .before .pre .1 (c .before .before .loop .y + 1))
+add-turn c = omega (arith, c .before .before .before .pre .1 (c .before .before .loop .y + 1) (omega arith) (omega arith))
 
 -- src/lib.rt:22:5
 loop-less : tie.Need-loop-less Inv-loop μ-loop
@@ -46,7 +46,7 @@ loop-again : tie.Need-loop-again Inv-loop μ-loop
 loop-again c = (
   search needs,
   omega (arith, upto-more (at (c .before .before .before .args .holds .now)) (c .before .before .loop .y)),
-  omega (arith, c .before .before .before .pre .1 (c .before .before .loop .y + 1)),
+  omega (arith, c .before .before .before .pre .1 (c .before .before .loop .y + 1) (omega arith) (omega arith)),
 )
 
 -- src/lib.rt:16:1
