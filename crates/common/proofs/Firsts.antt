@@ -66,3 +66,9 @@ module _ (f : ℕ → Bool) (n i : ℕ) (miss : (j : ℕ) → j < i → f (j + 1
 
   pub first-nowhere : i ≡ n → n + 1 ≡ firstOf f n 1
   first-nowhere e = add-comm n 1 ∙ sym (first-none f 1 n (λ j lo hi. missed j lo (omega arith)))
+
+-- tests that agree on the way have one first number
+pub first-same : (f g : ℕ → Bool) (n i : ℕ) → ((j : ℕ) → i ≤ j → j < i + n → f j ≡ g j) → firstOf f n i ≡ firstOf g n i
+unfolding firstOf
+first-same f g zero i e = refl
+first-same f g (suc n) i e = rw (e i (omega arith) (omega arith), first-same f g n (suc i) (λ j lo hi. e j (omega arith) (omega arith)))

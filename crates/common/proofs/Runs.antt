@@ -47,3 +47,13 @@ filling-more {f} {n} {old} {run} x r h q =
 
 pub filling-done : {f : ℕ → ℕ} {m : ℕ} {old run : List ℕ} (n : ℕ) → Filling f m old run → m ≡ n → run ≡ filled f n old
 filling-done {f} {m} {old} {run} n r e = r .is ∙ ap (λ (x : ℕ). filled f x old) e
+
+-- figures that agree below n fill a run alike
+tab-same : (f g : ℕ → ℕ) (n : ℕ) → ((i : ℕ) → i < n → f i ≡ g i) → tab f n ≡ tab g n
+unfolding tab
+tab-same f g zero e = refl
+tab-same f g (suc n) e = rw (e n (omega arith), tab-same f g n (λ i l. e i (omega arith)))
+
+pub filled-same : (f g : ℕ → ℕ) (n : ℕ) (d : List ℕ) → ((i : ℕ) → i < n → f i ≡ g i) → filled f n d ≡ filled g n d
+unfolding filled
+filled-same f g n d e = ap (λ (l : List ℕ). l ++ drop n d) (tab-same f g n e)
