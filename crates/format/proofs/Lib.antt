@@ -1,3 +1,5 @@
 pub mod Numbers
 pub mod Tables
 pub mod Records
+pub mod Stored
+pub mod Writing
