@@ -3,3 +3,4 @@ pub mod Tables
 pub mod Records
 pub mod Stored
 pub mod Writing
+pub mod Ranges

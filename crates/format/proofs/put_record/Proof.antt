@@ -57,40 +57,40 @@ put-whole-requires-6 c κs =
     (sym (c .before .before .before .in-range .ensures) ∙ not-false _ (c .before .before .if2 .left), rw e (wide 6 refl))
 
 same-length : tie.Need-same-length
-same-length c = search needs
+same-length c = c .before .before .put-whole .kept .0
 
 returns-3 : tie.Need-returns-3
-returns-3 c = search needs
+returns-3 c = c .before .before .put-whole .ensures
 
 same-length-2 : tie.Need-same-length-2
-same-length-2 c = search needs
+same-length-2 c = c .before .before .put-whole2 .kept .0
 
 returns-4 : tie.Need-returns-4
-returns-4 c = search needs
+returns-4 c = c .before .before .put-whole2 .ensures
 
 same-length-3 : tie.Need-same-length-3
-same-length-3 c = search needs
+same-length-3 c = c .before .before .put-whole3 .kept .0
 
 returns-5 : tie.Need-returns-5
-returns-5 c = search needs
+returns-5 c = c .before .before .put-whole3 .ensures
 
 same-length-4 : tie.Need-same-length-4
-same-length-4 c = search needs
+same-length-4 c = c .before .before .put-whole4 .kept .0
 
 returns-6 : tie.Need-returns-6
-returns-6 c = search needs
+returns-6 c = c .before .before .put-whole4 .ensures
 
 same-length-5 : tie.Need-same-length-5
-same-length-5 c = search needs
+same-length-5 c = c .before .before .put-whole5 .kept .0
 
 returns-7 : tie.Need-returns-7
-returns-7 c = search needs
+returns-7 c = c .before .before .put-whole5 .ensures
 
 same-length-6 : tie.Need-same-length-6
-same-length-6 c = search needs
+same-length-6 c = c .before .before .put-whole6 .kept .0
 
 returns-8 : tie.Need-returns-8
-returns-8 c = search needs
+returns-8 c = c .before .before .put-whole6 .ensures
 
 pub put-record-spec : {M : Type 1} → statement M
 put-record-spec =
