@@ -4,3 +4,5 @@ pub mod Records
 pub mod Stored
 pub mod Writing
 pub mod Ranges
+pub mod Trips
+pub mod Examples

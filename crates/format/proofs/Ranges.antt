@@ -7,7 +7,7 @@ use native.Mathlib.Nat.{le-refl, le-trans}
 use borrow.Author.Tests.{le-leb, leb-true, eqb-true}
 use lib.Dec.{leb, eqb}
 use Rattle.format.specs.declared.Record.{Record}
-use Rattle.format.specs.Kinds.{Field, Limit, kinds, fieldsOf, limit, within, ranged, inRange}
+use Rattle.format.specs.Kinds.{Field, Limit, kinds, fieldsOf, limit, within, ranged, inRange, numbers}
 use Rattle.format.specs.Kinds.Limit.{is, masters, message, spacing}
 use Rattle.format.proofs.Tables.{both-true}
 
@@ -30,12 +30,12 @@ range-within lo x hi w = simp (le-leb lo x (w .least), le-leb x hi (w .most))
 
 -- ---- Larger limits allow what smaller ones do
 
-pub limit-mono : (top top' long long' : ℕ) (r : Record) (l : Limit) → top ≤ top' → long ≤ long' → limit top long r l ≤ limit top' long' r l
+pub limit-mono : (top top' long long' : ℕ) (r r' : Record) (l : Limit) → top ≤ top' → long ≤ long' → r .c ≤ r' .c → limit top long r l ≤ limit top' long' r' l
 unfolding limit
-limit-mono top top' long long' r (is n) t m = le-refl n
-limit-mono top top' long long' r masters t m = t
-limit-mono top top' long long' r message t m = m
-limit-mono top top' long long' r spacing t m = le-refl (r .c)
+limit-mono top top' long long' r r' (is n) t m c = le-refl n
+limit-mono top top' long long' r r' masters t m c = t
+limit-mono top top' long long' r r' message t m c = m
+limit-mono top top' long long' r r' spacing t m c = c
 
 module _ (top top' long long' : ℕ) (r : Record) (t : top ≤ top') (m : long ≤ long') where
   ranged-mono : (fs : List Field) (xs : List ℕ) → ranged top long r fs xs ≡ true → ranged top' long' r fs xs ≡ true
@@ -47,12 +47,12 @@ module _ (top top' long long' : ℕ) (r : Record) (t : top ≤ top') (m : long �
   ranged-mono (f ∷ fs) (x ∷ xs) e =
       let b = both-true (within (f .least) x (limit top long r (f .most))) (ranged top long r fs xs) e in
       let w = within-range (f .least) x (limit top long r (f .most)) (b .0) in
-      let h = le-trans (w .most) (limit-mono top top' long long' r (f .most) t m) in
+      let h = le-trans (w .most) (limit-mono top top' long long' r r (f .most) t m (le-refl (r .c))) in
       simp (range-within (f .least) x (limit top' long' r (f .most)) (record { least = w .least; most = h }), ranged-mono fs xs (b .1))
 
   pub in-range-mono : inRange top long r ≡ true → inRange top' long' r ≡ true
   unfolding inRange
-  in-range-mono e = ranged-mono (fieldsOf (r .kind)) _ e
+  in-range-mono e = ranged-mono (fieldsOf (r .kind)) (numbers r) e
 
 -- ---- The six kinds
 
@@ -99,13 +99,13 @@ pub record VariableRanges (r : Record) : Type 0 where
   pub no-d : r .d ≡ 0
 
 -- the tests of the four fields, one by one
-record Tests (p q s t : Bool) : Type 0 where
-  for-a : p ≡ true
-  for-b : q ≡ true
-  for-c : s ≡ true
-  for-d : t ≡ true
+pub record Tests (p q s t : Bool) : Type 0 where
+  pub for-a : p ≡ true
+  pub for-b : q ≡ true
+  pub for-c : s ≡ true
+  pub for-d : t ≡ true
 
-tests : (p q s t : Bool) → p && (q && (s && (t && true))) ≡ true → Tests p q s t
+pub tests : (p q s t : Bool) → p && (q && (s && (t && true))) ≡ true → Tests p q s t
 tests true true true true e = record { for-a = refl; for-b = refl; for-c = refl; for-d = refl }
 tests true true true false e = record { for-a = refl; for-b = refl; for-c = refl; for-d = e }
 tests true true false t e = record { for-a = refl; for-b = refl; for-c = e; for-d = cc }
