@@ -154,3 +154,17 @@ module _ (s : List ℕ) where
       let q' : length s - i ≡ suc (length s - suc i) = omega (arith, place-from s i) in
       reads-on i u ∙ ap (λ (m : ℕ). readFrom s m i) q' ∙ read-refused (length s - suc i) i n p l e ∙ sym q
   stops-once (at-end i u l q) = reads-on i u ∙ read-ended (length s - i) i (omega arith) ∙ sym q
+
+  -- ---- The end
+
+  pub ended-empty : ended s 0 ≡ Not 1 0
+  unfolding ended endChecks verdict recordsOf
+  ended-empty = refl
+
+  pub ended-no-stream : ended s 1 ≡ Not 6 (length s)
+  unfolding ended endChecks verdict recordsOf streamsOf
+  ended-no-stream = refl
+
+  pub ended-sheet : (n : ℕ) → (n ≡ 0 → ⊥) → ended s (suc n) ≡ Read (sheetOf (recordsOf s (suc n)))
+  unfolding ended endChecks verdict
+  ended-sheet n h = rw (length-records s (suc n), length-streams s n, ne-eqb (suc n) 0 (λ e. omega arith), ne-eqb n 0 h)

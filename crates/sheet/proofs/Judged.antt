@@ -17,7 +17,7 @@ use Rattle.sheet.specs.Whole.{placeOf, recordsOf, recordChecks, judge}
 use Rattle.sheet.specs.Steps.{ownNo, lateNo}
 
 -- a number that is not 0 is a refusal
-pub numbered : ℕ → ℕ → Verdict → Verdict
+unfoldable pub numbered : ℕ → ℕ → Verdict → Verdict
 numbered zero p v = v
 numbered (suc n) p v = Refused (suc n) p
 
@@ -30,6 +30,27 @@ above m n = split (leb m n) refl
     split false q = lt-ltb n m (leb-false m n q)
 
 -- ---- 2, 3, 1, 4
+
+module _ (isKnown isRight isWhole isRanged : Bool) where
+  pub own-unknown : isKnown ≡ false → 2 ≡ ownNo isKnown isRight isWhole isRanged
+  unfolding ownNo
+  own-unknown a = rw a
+
+  pub own-wrong : isKnown ≡ true → isRight ≡ false → 3 ≡ ownNo isKnown isRight isWhole isRanged
+  unfolding ownNo
+  own-wrong a b = rw (a, b)
+
+  pub own-cut : isKnown ≡ true → isRight ≡ true → isWhole ≡ false → 1 ≡ ownNo isKnown isRight isWhole isRanged
+  unfolding ownNo
+  own-cut a b c = rw (a, b, c)
+
+  pub own-out : isKnown ≡ true → isRight ≡ true → isWhole ≡ true → isRanged ≡ false → 4 ≡ ownNo isKnown isRight isWhole isRanged
+  unfolding ownNo
+  own-out a b c d = rw (a, b, c, d)
+
+  pub own-none : isKnown ≡ true → isRight ≡ true → isWhole ≡ true → isRanged ≡ true → 0 ≡ ownNo isKnown isRight isWhole isRanged
+  unfolding ownNo
+  own-none a b c d = rw (a, b, c, d)
 
 own-first : (isKnown isRight isWhole isRanged : Bool) (p : ℕ) (rest : List Check)
     → verdict (check 2 (not isKnown) p ∷ check 3 (not isRight) p ∷ check 1 (not isWhole) p ∷ check 4 (not isRanged) p ∷ rest)
@@ -73,3 +94,26 @@ module _ (s : List ℕ) (at : ℕ) where
       split true e false f =
           let w : whole s at ≡ false = rw (e, f) in
           rw (met-none w, eq-eqb at at refl, e, f)
+
+-- ---- A record of the sheet
+
+module _ (s : List ℕ) (i : ℕ) where
+  -- 5 and 7, for a record that no other refusal meets
+  unfoldable pub lateChecks : List Check
+  lateChecks =
+      check 5 (overLimit (streamsOf (recordsOf s i)) (decode s (placeOf s i))) (placeOf s i)
+      ∷ check 7 (metBefore (streamsOf (recordsOf s i)) (decode s (placeOf s i))) (placeOf s i)
+      ∷ []
+
+  unfoldable pub ownAt : ℕ
+  ownAt =
+      ownNo (known (getD s (placeOf s i) 0)) (fits (recordsOf s i) (getD s (placeOf s i) 0))
+      (leb (placeOf s i + sizeOf (getD s (placeOf s i) 0)) (length s))
+      (inRange (headOf (recordsOf s i) .a) (headOf (recordsOf s i) .c) (decode s (placeOf s i)))
+
+  pub judge-own : judge s i ≡ numbered ownAt (placeOf s i) (verdict lateChecks)
+  unfolding judge recordChecks decode lateChecks ownAt
+  judge-own =
+      rw (above (placeOf s i + sizeOf (getD s (placeOf s i) 0)) (length s))
+      (own-first (known (getD s (placeOf s i) 0)) (fits (recordsOf s i) (getD s (placeOf s i) 0)) (leb (placeOf s i + sizeOf (getD s (placeOf s i) 0)) (length s))
+      (inRange (headOf (recordsOf s i) .a) (headOf (recordsOf s i) .c) (decode s (placeOf s i))) (placeOf s i) lateChecks)

@@ -1,3 +1,4 @@
+pub mod Behind
 pub mod Cases
 pub mod Counts
 pub mod Examples

@@ -7,8 +7,6 @@ use Rattle.sheet.specs.Steps as Steps
 use Rattle.sheet.proofs.Kept.{among-no, among-yes}
 use Rattle.sheet.proofs.among.Statement.{statement}
 use Rattle.sheet.proofs.among.Tie as tie
-use Rattle.sheet.proofs.among.Reads as reads
-use Rattle.sheet.proofs.among.Lts as lts
 
 abbrev Inv-loop : tie.InvT-loop
 Inv-loop x n ids i₀ i = (i ≤ n) × (Steps.among x i ids ≡ false)
@@ -16,42 +14,34 @@ Inv-loop x n ids i₀ i = (i ≤ n) × (Steps.among x i ids ≡ false)
 abbrev μ-loop : tie.MeasureT-loop
 μ-loop x n ids i₀ i = n - i
 
--- src/lib.rt:30:5
 loop-holds : tie.Need-loop-holds Inv-loop μ-loop
 unfolding Steps.among
 loop-holds c = (search needs, refl)
 
--- src/lib.rt:31:12
 mul-if1 : tie.Need-mul-if1 Inv-loop μ-loop
 mul-if1 c = search needs
 
--- src/lib.rt:31:12
 element-copy-out-if1 : tie.Need-element-copy-out-if1 Inv-loop μ-loop
 element-copy-out-if1 c = search needs
 
--- src/lib.rt:32:13
 returns : tie.Need-returns Inv-loop μ-loop
 returns c =
     let a = c .before .before .before .before .args in
     let i = c .before .before .before .loop .i in
     sym (among-yes (a .x) i (a .n) (a .ids .now) (omega arith) (c .if1 .taken))
 
--- src/lib.rt:34:9
 add-i : tie.Need-add-i Inv-loop μ-loop
 add-i c = search needs
 
--- src/lib.rt:30:5
 loop-less : tie.Need-loop-less Inv-loop μ-loop
 loop-less c = search needs
 
--- src/lib.rt:30:5
 loop-again : tie.Need-loop-again Inv-loop μ-loop
 loop-again c =
     let a = c .before .before .before .before .args in
     let l = c .before .before .before .loop in
     (search needs, among-no (a .x) (l .i) (a .ids .now) (l .inv .1) (c .if1 .left))
 
--- src/lib.rt:25:1
 returns-2 : tie.Need-returns-2 Inv-loop μ-loop
 returns-2 c =
     let a = c .before .before .args in

@@ -7,8 +7,6 @@ use Rattle.sheet.specs.Steps.{countsWith, idsWith}
 use Rattle.sheet.proofs.Kept.{not-late-variable, not-late-stream}
 use Rattle.sheet.proofs.keep.Statement.{statement}
 use Rattle.sheet.proofs.keep.Tie as tie
-use Rattle.sheet.proofs.keep.Reads as reads
-use Rattle.sheet.proofs.keep.Lts as lts
 
 mul-ids : tie.Need-mul-ids
 mul-ids c =
