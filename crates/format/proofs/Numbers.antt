@@ -7,7 +7,7 @@ use native.Mathlib.Numerals.{add-one}
 use native.Mathlib.Omega.{arith}
 use lib.ListN.{length, getD, take, drop, set, length-append, length-set, length-drop, take-append-drop}
 use lib.Dec.{lit<}
-use lib.Seq.{set-split, length-take-le, take-at, drop-at, drop-drop, getD-append-add, getD-at, take-set-le, drop-cons, getD-set-same, drop-set-lt}
+use lib.Seq.{take-suc, getD-drop, set-split, length-take-le, take-at, drop-at, drop-drop, getD-append-add, getD-at, take-set-le, drop-cons, getD-set-same, drop-set-lt}
 use Rattle.format.specs.Numbers.{be, digits, pasted}
 
 -- w bytes hold w digits
@@ -41,6 +41,28 @@ be-digits (suc w) v p q h =
     simp (append-assoc, be-digits w (v / 256) p (v % 256 ∷ q) h', getD-append-add, getD-at (digits w (v / 256)) (v % 256) q 0 w (length-digits w (v / 256)))
     (div-add-mod' v 256)
 
+-- a number is read off its own bytes only
+pub be-same : (s t : List ℕ) (at w : ℕ) → ((i : ℕ) → at ≤ i → i < at + w → getD s i 0 ≡ getD t i 0) → be s at w ≡ be t at w
+unfolding be
+be-same s t at zero same = refl
+be-same s t at (suc w) same =
+    let a = be-same s t at w (λ i lo hi. same i lo (omega arith)) in
+    let b = same (at + w) (omega arith) (omega arith) in
+    omega arith
+
+-- and its digits are those bytes
+pub digits-be : (s : List ℕ) (at w : ℕ) → ((i : ℕ) → getD s i 0 < 256) → at + w ≤ length s → digits w (be s at w) ≡ take w (drop at s)
+unfolding be digits
+digits-be s at zero bytes h = refl
+digits-be s at (suc w) bytes h =
+    let x = be s at w in
+    let y = getD s (at + w) 0 in
+    let b = bytes (at + w) in
+    let q : (x * 256 + y) / 256 ≡ x = omega arith in
+    let m : (x * 256 + y) % 256 ≡ y = omega arith in
+    let l : w < length (drop at s) = rw length-drop (omega arith) in
+    rw (q, m, take-suc (drop at s) w 0 l, getD-drop at s w 0) (ap (λ (t : List ℕ). t ++ (y ∷ [])) (digits-be s at w bytes (omega arith)))
+
 -- one store of a written number: what is left to write takes the store up
 pub put-step : (l : List ℕ) (at j x : ℕ) → at + j < length l →
     take at (set l (at + j) (x % 256)) ++ (digits j (x / 256) ++ drop (at + j) (set l (at + j) (x % 256)))
@@ -66,7 +88,7 @@ module _ (l : List ℕ) (at : ℕ) where
 
   module _ (p : List ℕ) (fits : at + length p ≤ length l) where
     -- the bytes before and the bytes put
-    pasted-front : pasted l at p ≡ (take at l ++ p) ++ drop (at + length p) l
+    pub pasted-front : pasted l at p ≡ (take at l ++ p) ++ drop (at + length p) l
     pasted-front = sym (append-assoc (take at l) p (drop (at + length p) l))
 
     length-front' : length (take at l ++ p) ≡ at + length p

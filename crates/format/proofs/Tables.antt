@@ -87,6 +87,11 @@ known-within (suc (suc (suc (suc (suc (suc (suc n))))))) = beyond (suc (suc (suc
     beyond : (k : ℕ) → 6 < k → (leb 1 k && leb k 6) ≡ false
     beyond k h = simp (le-leb 1 k (omega arith), lt-leb k 6 h)
 
+pub known-bounds : (k : ℕ) → known k ≡ true → (1 ≤ k) × (k ≤ 6)
+known-bounds k e =
+    let b = both-true (leb 1 k) (leb k 6) (known-within k ∙ e) in
+    (leb-true 1 k (b .0), leb-true k 6 (b .1))
+
 pub unknown : (k : ℕ) → (1 ≤ k → k ≤ 6 → ⊥) → known k ≡ false
 unknown k out = sym (known-within k) ∙ outside (leb 1 k) refl (leb k 6) refl
   where
