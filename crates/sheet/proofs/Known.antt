@@ -3,8 +3,8 @@ use mathlib.Core.Path.{_≡_, refl, sym, ap, _∙_, subst}
 use mathlib.Core.Bool.{Bool, true, false, cond, not, _&&_, _||_}
 use mathlib.Core.List.{List, [], _∷_, _++_}
 use mathlib.Core.Logic.{_⊎_, inl, inr, ⊎-elim}
-use Prim.Native.Nat.{ℕ, zero, suc, _+_, _-_, _≤_, _<_, zero-le}
-use native.Mathlib.Nat.{not-suc-le-zero}
+use Prim.Native.Nat.{ℕ, zero, suc, _+_, _-_, _*_, _≤_, _<_, zero-le}
+use native.Mathlib.Nat.{not-suc-le-zero, zero-mul, suc-mul}
 use native.Mathlib.Omega.{arith}
 use native.Mathlib.Decide.{ℕ-discrete}
 use borrow.Author.Tests.{ltb-true, ltb-false, leb-false, lt-ltb, le-leb, le-ltb, eqb-true, eqb-false, ne-eqb, eq-eqb}
@@ -22,7 +22,7 @@ use Rattle.sheet.specs.Sheets.{Sheet, headOf, streamsOf, sheetOf, fits, 
 use Rattle.sheet.specs.Whole.{placeOf, recordsOf, endChecks, judge, ended, reading, Outcome, orElse}
 use Rattle.sheet.specs.Whole.Outcome.{Read, Not}
 use Rattle.sheet.proofs.Walk.{place-from, streams-none, length-records, length-streams, record-at, stream-at, head-at, streams-more}
-use Rattle.sheet.proofs.Cases.{Passes, PassesAt, Upto, Stops, reading-stops, upto-less}
+use Rattle.sheet.proofs.Cases.{Passes, PassesAt, Upto, Stops, reading-stops}
 use Rattle.sheet.proofs.Cases.Stops.{by-record, at-end}
 use Rattle.sheet.proofs.Counts.{count-more, count-none}
 
@@ -72,6 +72,10 @@ first-fits k e = one (eqb k 1) refl
     one : (b : Bool) → eqb k 1 ≡ b → k ≡ 1 ⊎ k ≡ 3 ⊎ k ≡ 5
     one true q = inl (eqb-true k 1 q)
     one false q = three (eqb k 3) refl (rw q at e)
+
+none-or-some : (m : ℕ) → m ≡ 0 ⊎ 1 ≤ m
+none-or-some zero = inl refl
+none-or-some (suc m) = inr (omega arith)
 
 -- a whole record of a known kind is met
 pub met-whole : (s : List ℕ) (at : ℕ) → known (getD s at 0) ≡ true → at + sizeOf (getD s at 0) ≤ length s
@@ -192,6 +196,22 @@ module _ (s : List ℕ) (m : ℕ) (u : Upto s (suc m)) where
   few-sixes : (k : ℕ) → k ≡ 5 → mostInAll (k + 1) ≡ 64
   unfolding mostInAll
   few-sixes k e = rw e
+
+  -- all streams have one size, so each place is known at once
+  pub place-is : (j : ℕ) → j ≤ m → placeOf s (suc j) ≡ sizeOf (decode s 0 .kind) + j * sizeOf (decode s 0 .kind + 1)
+  unfolding placeOf decode stream head
+  place-is zero l = omega (arith, zero-mul (sizeOf (decode s 0 .kind + 1)))
+  place-is (suc j) l =
+      let k : getD s (placeOf s (suc j)) 0 ≡ decode s 0 .kind + 1 = kind-at j l in
+      omega (arith, place-is j (omega arith), ap sizeOf k, suc-mul j (sizeOf (decode s 0 .kind + 1)))
+
+  pub first-kinds : decode s 0 .kind ≡ 1 ⊎ decode s 0 .kind ≡ 3 ⊎ decode s 0 .kind ≡ 5
+  unfolding head
+  first-kinds = head-kind'
+
+  pub streams-few : m ≤ mostInAll (decode s 0 .kind + 1)
+  unfolding head
+  streams-few = ⊎-elim (λ e. omega (arith, e)) few-streams (none-or-some m)
 
   known-there : 1 ≤ m → placeOf s (suc m) ≡ length s → Known s (sheetOf (recordsOf s (suc m)))
   unfolding sheetOf earlier stream head

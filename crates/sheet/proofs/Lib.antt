@@ -5,5 +5,6 @@ pub mod Examples
 pub mod Judged
 pub mod Kept
 pub mod Known
+pub mod Lengths
 pub mod Refusals
 pub mod Walk

@@ -1,3 +1,4 @@
+pub mod Lengths
 pub mod Refusals
 pub mod Sheets
 pub mod Steps
