@@ -110,17 +110,20 @@ fn say_word(n: u64) {
     say_number(n);
 }
 
-fn say_case(c: [u64; 7]) {
+fn say_place(at: usize, room: usize) {
     say(b"at");
-    say_word(c[0]);
+    say_word(at as u64);
     say(b" of");
-    say_word(c[1]);
+    say_word(room as u64);
     say(b":");
-    say_word(c[2]);
-    say_word(c[3]);
-    say_word(c[4]);
-    say_word(c[5]);
-    say_word(c[6]);
+}
+
+fn say_record(r: Record) {
+    say_word(r.kind as u64);
+    say_word(r.a as u64);
+    say_word(r.b as u64);
+    say_word(r.c as u64);
+    say_word(r.d as u64);
     say(b": ");
 }
 
@@ -177,7 +180,8 @@ fn try_case(c: [u64; 7]) {
     let r = record_of(c);
     let mut buf = [238u8; 24];
     let lent: &mut [u8] = &mut buf[..room];
-    say_case(c);
+    say_place(at, room);
+    say_record(r);
     let p = format::put_record(lent, at, r);
     say_answer(p, lent, at, r);
     say_bytes(lent);

@@ -20,8 +20,11 @@ array-borrow-prefix-buf c = search needs
 slice-aggregate-lent : tie.Need-slice-aggregate-lent
 slice-aggregate-lent c = simp length-take (omega arith)
 
-say-case-requires : tie.Need-say-case-requires
-say-case-requires c κs = search needs
+say-place-requires : tie.Need-say-place-requires
+say-place-requires c κs = search needs
+
+say-record-requires : tie.Need-say-record-requires
+say-record-requires c κs = search needs
 
 put-record-requires : tie.Need-put-record-requires
 put-record-requires c κs = search needs
@@ -50,7 +53,8 @@ try-case-spec =
     record-of-requires
     array-borrow-prefix-buf
     slice-aggregate-lent
-    say-case-requires
+    say-place-requires
+    say-record-requires
     put-record-requires
     say-answer-requires
     say-bytes-requires
