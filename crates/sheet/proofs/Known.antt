@@ -262,14 +262,24 @@ ended-read s i S e = split (verdict (endChecks (length s) (recordsOf s i))) refl
         let z : _≡_ {A = ℕ} 0 1 = cc in
         absurd (omega arith)
 
-pub reading-read : (s : List ℕ) (S : Sheet) → reading s ≡ Read S → Known s S
-reading-read s S e = split (reading-stops s)
+-- a sheet is read to its end: m streams behind its first record, and all records pass
+pub record ReadsTo (s : List ℕ) (S : Sheet) : Type 0 where
+  pub m : ℕ
+  pub some : 1 ≤ m
+  pub upto : Upto s (suc m)
+  pub ends : placeOf s (suc m) ≡ length s
+  pub says : S ≡ sheetOf (recordsOf s (suc m))
+
+pub reading-whole : (s : List ℕ) (S : Sheet) → reading s ≡ Read S → ReadsTo s S
+reading-whole s S e = split (reading-stops s)
   where
-    split : Stops s (reading s) → Known s S
+    split : Stops s (reading s) → ReadsTo s S
     split (by-record i n p u l j q) = let z : _≡_ {A = ℕ} 0 1 = cc in absurd (omega arith)
     split (at-end i u l q) =
         let r = ended-read s i S (sym q ∙ e) in
-        let u' : Upto s (suc (r .0)) = rw (r .1) at u in
-        let l' : placeOf s (suc (r .0)) ≡ length s = rw (r .1) at l in
-        let w : S ≡ sheetOf (recordsOf s (suc (r .0))) = rw (r .1) at (r .3) in
-        subst (Known s) (sym w) (known-there s (r .0) u' (r .2) l')
+        record { m = r .0; some = r .2; upto = rw (r .1) at u; ends = rw (r .1) at l; says = rw (r .1) at (r .3) }
+
+pub reading-read : (s : List ℕ) (S : Sheet) → reading s ≡ Read S → Known s S
+reading-read s S e =
+    let r = reading-whole s S e in
+    subst (Known s) (sym (r .says)) (known-there s (r .m) (r .upto) (r .some) (r .ends))

@@ -7,4 +7,6 @@ pub mod Kept
 pub mod Known
 pub mod Lengths
 pub mod Refusals
+pub mod Trips
 pub mod Walk
+pub mod Writes
