@@ -78,8 +78,8 @@ module _ (s : List ℕ) where
   pub upto-none : Upto 0
   upto-none = record { inside = λ j h. absurd (not-suc-le-zero h); passed = λ j h. absurd (not-suc-le-zero h) }
 
-  pub upto-less : (i : ℕ) → Upto (suc i) → Upto i
-  upto-less i u = record { inside = λ j h. u .inside j (omega arith); passed = λ j h. u .passed j (omega arith) }
+  pub upto-front : (i j : ℕ) → j ≤ i → Upto i → Upto j
+  upto-front i j l u = record { inside = λ k h. u .inside k (omega arith); passed = λ k h. u .passed k (omega arith) }
 
   pub upto-more : (i : ℕ) → Upto i → placeOf s i < length s → PassesAt i → Upto (suc i)
   upto-more i u h p =
@@ -137,7 +137,7 @@ module _ (s : List ℕ) where
   reads-on (suc i) u =
       let l = u .inside i (omega arith) in
       let q : length s - i ≡ suc (length s - suc i) = omega (arith, place-from s i) in
-      reads-on i (upto-less i u) ∙ ap (λ (m : ℕ). readFrom s m i) q ∙ read-next (length s - suc i) i l (passes-if i (u .passed i (omega arith)))
+      reads-on i (upto-front (suc i) i (omega arith) u) ∙ ap (λ (m : ℕ). readFrom s m i) q ∙ read-next (length s - suc i) i l (passes-if i (u .passed i (omega arith)))
 
   read-refused : (m i n p : ℕ) → placeOf s i < length s → judge s i ≡ Refused n p → readFrom s (suc m) i ≡ Not n p
   unfolding readFrom

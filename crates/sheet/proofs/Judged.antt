@@ -63,7 +63,7 @@ own-first true true true false p rest = refl
 own-first true true true true p rest = refl
 
 -- a record has its kind byte at least
-size-some : (k : ℕ) → 1 ≤ sizeOf k
+pub size-some : (k : ℕ) → 1 ≤ sizeOf k
 unfolding sizeOf
 size-some k = omega arith
 
