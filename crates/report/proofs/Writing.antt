@@ -91,3 +91,9 @@ module _ (t : ℕ → List ℕ) where
 pub counted-then : (before : List ℕ) (n : ℕ) (after t : List ℕ) → before ++ (decimal n ++ (after ++ t)) ≡ counted before n after ++ t
 unfolding counted
 counted-then before n after t = simp append-assoc
+
+-- texts that agree below n
+pub texts-same : (t u : ℕ → List ℕ) (n : ℕ) → ((i : ℕ) → i < n → t i ≡ u i) → texts t n ≡ texts u n
+unfolding texts
+texts-same t u zero e = refl
+texts-same t u (suc n) e = rw (texts-same t u n (λ i h. e i (omega arith)), e n (omega arith))
