@@ -104,25 +104,25 @@ name-most b x s = split (eqb b 1)
     split true = omega (arith, digits-16 x s)
     split false = omega arith
 
-row-most : (m row : ℕ) (name : ℕ → ℕ) (n : ℕ) → m < 10 ^ 4 → n ≤ 64 → Small 16 name → length (rowLine m row name n) ≤ 394
+row-most : (m row : ℕ) (name : ℕ → ℕ) → m < 10 ^ 4 → Small 16 name → length (rowLine m row name) ≤ 394
 unfolding rowLine nameAt
-row-most m row name n s few small =
+row-most m row name s small =
     simp length-append
-    (omega (arith, decimal-most 4 m (omega arith) (omega arith) s, texts-most (nameAt row name) 6 n (λ r h. name-most (row / 2 ^ r % 2) (name r) (small r))))
+    (omega (arith, decimal-most 4 m (omega arith) (omega arith) s, texts-most (nameAt row name) 6 64 (λ r h. name-most (row / 2 ^ r % 2) (name r) (small r))))
 
 head-most : (u : Micros) (slots rows : ℕ) → u .0 < 2 ^ 64 → slots < 2 ^ 64 → rows < 2 ^ 64 → length (tableHead u slots rows) ≤ 103
 unfolding tableHead inUs
 head-most u slots rows a b c = simp length-append (omega (arith, digits-64 (u .0) a, digits-64 slots b, digits-64 rows c))
 
-pub table-most : (u : Micros) (slots rows : ℕ) (row name : ℕ → ℕ) (n : ℕ) → u .0 < 2 ^ 64 → slots < 2 ^ 64 → rows ≤ 4096 → n ≤ 64 → Small 16 name
-    → length (tableText u slots rows row name n) ≤ 1613927
+pub table-most : (u : Micros) (slots rows : ℕ) (row name : ℕ → ℕ) → u .0 < 2 ^ 64 → slots < 2 ^ 64 → rows ≤ 4096 → Small 16 name
+    → length (tableText u slots rows row name) ≤ 1613927
 unfolding tableText rowAt
-table-most u slots rows row name n a b few vars small =
+table-most u slots rows row name a b few small =
     omega (
       arith,
-      length-append (tableHead u slots rows) (texts (rowAt row name n) rows),
+      length-append (tableHead u slots rows) (texts (rowAt row name) rows),
       head-most u slots rows a b (omega arith),
-      texts-most (rowAt row name n) 394 rows (λ m h. row-most m (row m) name n (omega arith) vars small),
+      texts-most (rowAt row name) 394 rows (λ m h. row-most m (row m) name (omega arith) small),
     )
 
 -- ---- Refusals

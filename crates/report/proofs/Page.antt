@@ -20,7 +20,7 @@ unfolding ringText decimal places widthOf holds firstOf
 ring = refl
 
 -- rows 3 and 0 of two variables, identifiers 17 and 18
-table : tableText (us 1000) 2 2 (item (3 ∷ 0 ∷ [])) (item (17 ∷ 18 ∷ [])) 2 ≡ word "WorldFIP table\nmicrocycle 1000 us 2 slots 2 rows\n" · word "row 0: 17 18\n" · word "row 1:\n"
+table : tableText (us 1000) 2 2 (item (3 ∷ 0 ∷ [])) (item (17 ∷ 18 ∷ [])) ≡ word "WorldFIP table\nmicrocycle 1000 us 2 slots 2 rows\n" · word "row 0: 17 18\n" · word "row 1:\n"
 unfolding tableText tableHead rowAt rowLine nameAt nameText inUs texts decimal places widthOf holds firstOf
 table = refl
 

@@ -33,12 +33,10 @@ holds n k = ltb n (10 ^ k)
 
 -- how many digits a number of 64 bits has: the fewest that hold it, and one at least
 unfoldable pub widthOf : ℕ → ℕ
-unfolding firstOf holds
 widthOf n = firstOf (holds n) 20 1
 
 -- a number: no leading zeros, `0` for 0
 unfoldable pub decimal : ℕ → List ℕ
-unfolding places widthOf
 decimal n = places (widthOf n) n
 
 -- ---- Texts
@@ -50,7 +48,6 @@ p · q = p ++ q
 
 -- a number between words
 unfoldable pub counted : List ℕ → ℕ → List ℕ → List ℕ
-unfolding decimal
 counted before n after = before · decimal n · after
 
 -- what stands at place i of a run

@@ -21,23 +21,19 @@ mostText = 1613927
 
 -- the line of master k; a master without streams has none
 unfoldable pub masterOf : Segment → ℕ → List ℕ
-unfolding count bound refined rounds masterLine
 masterOf S k = cond (eqb (count S k) 0) [] (masterLine k (bp (bound S k)) (bp (refined S k)) (rounds S k))
 
 -- masters 1..N
 unfoldable pub mastersOf : Segment → List ℕ
-unfolding texts masterOf
 mastersOf S = texts (λ i. masterOf S (i + 1)) (S .masters)
 
 -- what planning a P-NET sheet gave: the segment, or the refusal
 unfoldable pub segmentReport : Outcome → List ℕ
-unfolding mastersOf segmentOf refusalText
 segmentReport (Read H) = word "P-NET segment\n" · mastersOf (segmentOf H)
 segmentReport (Not n p) = refusalText n p
 
 -- ---- PROFIBUS
 
 unfoldable pub ringReport : Plan → List ℕ
-unfolding ringText refusalText
 ringReport (ring.Target rotation stream) = ringText rotation stream
 ringReport (ring.Refused n p) = refusalText n p

@@ -121,16 +121,15 @@ fn put_ident(out: &mut [u8], at: usize, bit: u64, name: u16) -> usize
     at
 }
 
-// The identifiers of a row's ranks.
-fn put_idents(out: &mut [u8], at: usize, row: u64, names: &[u16], n: usize) -> usize
-    requires { ⌜ n ≤ length (now names) ⌝ }
-    requires { ⌜ Room (now out) at (texts (nameAt row (item (now names))) n) ⌝ }
-    ensures { λ r. ⌜ Wrote (now (out .entry)) at (texts (nameAt row (item (now (names .entry)))) n) (now (out .exit)) r ⌝ }
+// The identifiers of the ranks that a row serves.
+fn put_idents(out: &mut [u8], at: usize, row: u64, names: &[u16; 64]) -> usize
+    requires { ⌜ Room (now out) at (texts (nameAt row (item (now names))) 64) ⌝ }
+    ensures { λ r. ⌜ Wrote (now (out .entry)) at (texts (nameAt row (item (now (names .entry)))) 64) (now (out .exit)) r ⌝ }
 {
     let mut next = at;
     let mut rest = row;
     let mut r = 0;
-    while r < n {
+    while r < 64 {
         next = put_ident(out, next, rest % 2, names[r]);
         rest /= 2;
         r += 1;
@@ -139,13 +138,12 @@ fn put_idents(out: &mut [u8], at: usize, row: u64, names: &[u16], n: usize) -> u
 }
 
 // Row m.
-fn put_row(out: &mut [u8], at: usize, m: u64, row: u64, names: &[u16], n: usize) -> usize
-    requires { ⌜ n ≤ length (now names) ⌝ }
-    requires { ⌜ Room (now out) at (rowLine m row (item (now names)) n) ⌝ }
-    ensures { λ r. ⌜ Wrote (now (out .entry)) at (rowLine m row (item (now (names .entry))) n) (now (out .exit)) r ⌝ }
+fn put_row(out: &mut [u8], at: usize, m: u64, row: u64, names: &[u16; 64]) -> usize
+    requires { ⌜ Room (now out) at (rowLine m row (item (now names))) ⌝ }
+    ensures { λ r. ⌜ Wrote (now (out .entry)) at (rowLine m row (item (now (names .entry)))) (now (out .exit)) r ⌝ }
 {
     let idents = put_counted(out, at, b"row ", m, b":");
-    let end = put_idents(out, idents, row, names, n);
+    let end = put_idents(out, idents, row, names);
     put_word(out, end, b"\n")
 }
 
@@ -154,18 +152,17 @@ pub(crate) fn put_rows(
     out: &mut [u8],
     at: usize,
     rows: &[u64],
-    names: &[u16],
-    n: usize,
     count: usize,
+    names: &[u16; 64],
 ) -> usize
-    requires { ⌜ (n ≤ length (now names)) × (count ≤ length (now rows)) ⌝ }
-    requires { ⌜ Room (now out) at (texts (rowAt (item (now rows)) (item (now names)) n) count) ⌝ }
-    ensures { λ r. ⌜ Wrote (now (out .entry)) at (texts (rowAt (item (now (rows .entry))) (item (now (names .entry))) n) count) (now (out .exit)) r ⌝ }
+    requires { ⌜ count ≤ length (now rows) ⌝ }
+    requires { ⌜ Room (now out) at (texts (rowAt (item (now rows)) (item (now names))) count) ⌝ }
+    ensures { λ r. ⌜ Wrote (now (out .entry)) at (texts (rowAt (item (now (rows .entry))) (item (now (names .entry)))) count) (now (out .exit)) r ⌝ }
 {
     let mut next = at;
     let mut m = 0;
     while m < count {
-        next = put_row(out, next, m as u64, rows[m], names, n);
+        next = put_row(out, next, m as u64, rows[m], names);
         m += 1;
     }
     next

@@ -6,36 +6,32 @@ use native.Mathlib.Nat.{div-one}
 use native.Mathlib.Omega.{arith}
 use borrow.Author.Needs.{needs}
 use denote.Ref.{now}
+use Rattle.report.specs.Lines.{nameAt}
 use Rattle.report.specs.Text.{item, texts, Wrote}
-use Rattle.report.specs.Lines.{nameText, nameAt}
-use Rattle.report.proofs.Numbers.{quotient-more}
 use Rattle.report.proofs.Writing.{length-wrote, wrote-none, wrote-next, wrote-all, room-next}
+use Rattle.report.proofs.Numbers.{quotient-more}
 use Rattle.report.proofs.lines.put_idents.Statement.{statement}
 use Rattle.report.proofs.lines.put_idents.Tie as tie
 
 abbrev Inv-loop : tie.InvT-loop
-Inv-loop out₀ at row names n next₀ rest₀ r₀ out next rest r = (r ≤ n) × (rest ≡ row / 2 ^ r) × Wrote out₀ at (texts (nameAt row (item names)) r) out next
+Inv-loop out₀ at row names next₀ rest₀ r₀ out next rest r = (r ≤ 64) × (rest ≡ row / 2 ^ r) × Wrote out₀ at (texts (nameAt row (item names)) r) out next
 
 abbrev μ-loop : tie.MeasureT-loop
-μ-loop out₀ at row names n next₀ rest₀ r₀ out next rest r = n - r
+μ-loop out₀ at row names next₀ rest₀ r₀ out next rest r = 64 - r
 
 loop-holds : tie.Need-loop-holds Inv-loop μ-loop
 unfolding texts
 loop-holds c = (search needs, sym (div-one _), wrote-none)
 
 mul-put-ident : tie.Need-mul-put-ident Inv-loop μ-loop
-mul-put-ident c =
-    let start = c .before .before .before .before .before in
-    omega (arith, start .good .1 .1 .1 .0, start .pre .0)
+mul-put-ident c = search needs
 
-shared-slice-read-put-ident : tie.Need-shared-slice-read-put-ident Inv-loop μ-loop
-shared-slice-read-put-ident c = search needs
+element-copy-out-put-ident : tie.Need-element-copy-out-put-ident Inv-loop μ-loop
+element-copy-out-put-ident c = search needs
 
 put-ident-requires : tie.Need-put-ident-requires Inv-loop μ-loop
 unfolding nameAt
-put-ident-requires c κs =
-    let start = c .before .before .before .before .before .before in
-    rw (c .before .before .before .loop .inv .1) (room-next (nameAt (start .args .row) (item (now (start .args .names)))) (c .before .before .before .loop .inv .2) (start .args .n) (start .pre .1) (c .before .before .loop-test .taken))
+put-ident-requires c κs = rw (c .before .before .before .loop .inv .1) (room-next (nameAt (c .before .before .before .before .before .args .row) (item (now (c .before .before .before .before .before .args .names)))) (c .before .before .before .loop .inv .2) 64 (c .before .before .before .before .before .pre) (c .before .before .loop-test .taken))
 
 add-r : tie.Need-add-r Inv-loop μ-loop
 add-r c = search needs
@@ -48,18 +44,16 @@ unfolding nameAt
 loop-again c =
     let l = c .before .before .before .before .before .before .loop in (
       omega arith,
-      ap (λ (x : ℕ). x / 2) (l .inv .1) ∙ quotient-more 2 (c .before .before .before .before .before .before .before .before .before .args .row) (l .r),
-      wrote-next (nameAt (c .before .before .before .before .before .before .before .before .before .args .row) (item (now (c .before .before .before .before .before .before .before .before .before .args .names)))) (l .inv .2) (rw (l .inv .1) at (c .before .before .put-ident .ensures)),
+      ap (λ (x : ℕ). x / 2) (l .inv .1) ∙ quotient-more 2 (c .before .before .before .before .before .before .before .before .args .row) (l .r),
+      wrote-next (nameAt (c .before .before .before .before .before .before .before .before .args .row) (item (now (c .before .before .before .before .before .before .before .before .args .names)))) (l .inv .2) (rw (l .inv .1) at (c .before .before .put-ident .ensures)),
     )
 
 same-length : tie.Need-same-length Inv-loop μ-loop
 same-length c = length-wrote (c .before .loop .inv .2)
 
 returns : tie.Need-returns Inv-loop μ-loop
-returns c =
-    let start = c .before .before .before .before in
-    wrote-all (nameAt (start .args .row) (item (now (start .args .names)))) (c .before .loop .inv .2) (omega arith)
+returns c = wrote-all (nameAt (c .before .before .before .args .row) (item (now (c .before .before .before .args .names)))) (c .before .loop .inv .2) (omega arith)
 
 pub put-idents-spec : {M : Type 1} → statement M
 put-idents-spec =
-    tie.close (tie.spec Inv-loop μ-loop loop-holds mul-put-ident shared-slice-read-put-ident put-ident-requires add-r loop-less loop-again same-length returns)
+    tie.close (tie.spec Inv-loop μ-loop loop-holds mul-put-ident element-copy-out-put-ident put-ident-requires add-r loop-less loop-again same-length returns)

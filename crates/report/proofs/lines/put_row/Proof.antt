@@ -11,9 +11,9 @@ use Rattle.report.proofs.lines.put_row.Statement.{statement}
 use Rattle.report.proofs.lines.put_row.Tie as tie
 
 -- the three pieces that the code stores
-pieces : (m row : ℕ) (names : ℕ → ℕ) (n : ℕ) → rowLine m row names n ≡ counted (word "row ") m (word ":") ++ (texts (nameAt row names) n ++ word "\n")
+pieces : (m row : ℕ) (names : ℕ → ℕ) → rowLine m row names ≡ counted (word "row ") m (word ":") ++ (texts (nameAt row names) 64 ++ word "\n")
 unfolding rowLine
-pieces m row names n = counted-then (word "row ") m (word ":") (texts (nameAt row names) n ++ word "\n")
+pieces m row names = counted-then (word "row ") m (word ":") (texts (nameAt row names) 64 ++ word "\n")
 
 slice-aggregate-put-counted : tie.Need-slice-aggregate-put-counted
 slice-aggregate-put-counted c = search needs
@@ -23,21 +23,21 @@ slice-aggregate-put-counted-2 c = search needs
 
 put-counted-requires : tie.Need-put-counted-requires
 put-counted-requires c κs =
-    let a = c .before .before .before .before .before .args in
-    room-before (texts (nameAt (a .row) (item (now (a .names)))) (a .n) ++ word "\n") (subst (Room _ _) (pieces (a .m) (a .row) (item (now (a .names))) (a .n)) (c .before .before .before .before .before .pre .1))
+    let a = c .before .before .before .before .args in
+    room-before (texts (nameAt (a .row) (item (now (a .names)))) 64 ++ word "\n") (subst (Room _ _) (pieces (a .m) (a .row) (item (now (a .names)))) (c .before .before .before .before .pre))
 
 put-idents-requires : tie.Need-put-idents-requires
 put-idents-requires c κs =
-    let a = c .before .before .before .before .before .before .before .before .before .args in
-    (c .before .before .before .before .before .before .before .before .before .pre .0, room-before (word "\n") (room-after (c .before .before .before .put-counted .ensures) (subst (Room _ _) (pieces (a .m) (a .row) (item (now (a .names))) (a .n)) (c .before .before .before .before .before .before .before .before .before .pre .1))))
+    let a = c .before .before .before .before .before .before .before .before .args in
+    room-before (word "\n") (room-after (c .before .before .before .put-counted .ensures) (subst (Room _ _) (pieces (a .m) (a .row) (item (now (a .names)))) (c .before .before .before .before .before .before .before .before .pre)))
 
 slice-aggregate-put-word : tie.Need-slice-aggregate-put-word
 slice-aggregate-put-word c = search needs
 
 put-word-requires : tie.Need-put-word-requires
 put-word-requires c κs =
-    let a = c .before .before .before .before .before .before .before .before .before .before .before .before .before .before .args in
-    room-after (c .before .before .before .before .put-idents .ensures) (room-after {p = counted (word "row ") (a .m) (word ":")} (c .before .before .before .before .before .before .before .before .put-counted .ensures) (subst (Room _ _) (pieces (a .m) (a .row) (item (now (a .names))) (a .n)) (c .before .before .before .before .before .before .before .before .before .before .before .before .before .before .pre .1)))
+    let a = c .before .before .before .before .before .before .before .before .before .before .before .before .before .args in
+    room-after (c .before .before .before .before .put-idents .ensures) (room-after {p = counted (word "row ") (a .m) (word ":")} (c .before .before .before .before .before .before .before .before .put-counted .ensures) (subst (Room _ _) (pieces (a .m) (a .row) (item (now (a .names)))) (c .before .before .before .before .before .before .before .before .before .before .before .before .before .pre)))
 
 same-length : tie.Need-same-length
 same-length c = search needs
