@@ -102,6 +102,27 @@ same-members (suc n) x y hx hy e =
     let z : x % 2 ≡ y % 2 = sym (bit-zero x) ∙ e 0 (omega arith) ∙ bit-zero y in
     omega arith
 
+below-own : (x : ℕ) → x < 2 ^ x
+below-own zero = omega arith
+below-own (suc x) = omega (arith, below-own x)
+
+pub or-assoc : (a b c : ℕ) → bitOr a (bitOr b c) ≡ bitOr (bitOr a b) c
+or-assoc a b c =
+    same-members n (bitOr a (bitOr b c)) (bitOr (bitOr a b) c) (or-lt n a (bitOr b c) ha (or-lt n b c hb hc)) (or-lt n (bitOr a b) c (or-lt n a b ha hb) hc)
+    (λ r l. omega (arith, bit-or a (bitOr b c) r, bit-or b c r, bit-or (bitOr a b) c r, bit-or a b r))
+  where
+    n : ℕ
+    n = a + b + c
+
+    ha : a < 2 ^ n
+    ha = omega (arith, below-own a, pow-mono {i = a} {j = n} (omega arith))
+
+    hb : b < 2 ^ n
+    hb = omega (arith, below-own b, pow-mono {i = b} {j = n} (omega arith))
+
+    hc : c < 2 ^ n
+    hc = omega (arith, below-own c, pow-mono {i = c} {j = n} (omega arith))
+
 -- the count of ones is the sum of the bits
 pub ones-sum : (n x : ℕ) → x < 2 ^ n → ones x ≡ sum (bit x) n
 unfolding sum ones
