@@ -1,11 +1,11 @@
 -- What the code holds of a sheet, in arrays that count from 0. Assumes nothing.
 use mathlib.Core.Path.{_≡_}
 use mathlib.Core.List.{List}
-use Prim.Native.Nat.{ℕ, suc, _-_, _/_, _≤_, _<_}
+use Prim.Native.Nat.{ℕ, suc, _-_, _/_, _%_, _≤_, _<_}
 use lib.ListN.{length, getD}
-use lib.Dec.{leb}
-use mathlib.Core.Bool.{Bool, cond}
+use lib.Dec.{eqb, leb}
 use Rattle.common.specs.Sums.{when}
+use Rattle.bits.specs.Sets.{setOf}
 use Rattle.table.specs.Table.{Asked}
 use Rattle.table.specs.Build.{byRank, late, missRow}
 use Rattle.table.specs.Traffic.{Traffic, variableOf}
@@ -38,6 +38,11 @@ pub record Cleared (t : List ℕ) (rows : ℕ) : Type 0 where
   pub few : rows ≤ 4096
   pub there : rows < length t
   pub none : (m : ℕ) → getD t m 0 ≡ 0
+
+-- of n periods in rows, those that divide row m
+unfoldable pub requests : List ℕ → ℕ → ℕ → ℕ
+unfolding setOf
+requests q n m = setOf (λ r. eqb (m % getD q r 0) 0) n
 
 -- periods in rows, by rank; s slots, so many rows
 unfoldable pub given : List ℕ → ℕ → ℕ → ℕ → Asked

@@ -40,8 +40,7 @@ loop-less c = omega arith
 loop-again : tie.Need-loop-again Inv-loop μ-loop
 loop-again c =
     let l = c .before .before .loop in
-    let a = c .before .before .before .args in
-    (
+    let a = c .before .before .before .args in (
       add-mod-right (l .m) (a .p) ∙ l .inv .0,
       simp length-set (l .inv .1),
       omega arith,

@@ -1,79 +1,102 @@
+-- `worldfip::mark_all` meets its contract. The invariant: with the group still to be marked, each row has the requests of the ranks below r;
+-- the group has the period of rank r, and is empty at the end. Assumes nothing.
+use borrow.Author.Needs.{needs}
+use mathlib.Core.Path.{_≡_, refl, sym, ap, _∙_}
+use Prim.Native.Nat.{ℕ, _+_, _-_, _≤_, _<_}
+use native.Mathlib.Omega.{arith}
+use lib.ListN.{length, getD}
+use Rattle.bits.specs.Sets.{setOf}
+use Rattle.bits.proofs.Members.{alone-is}
+use Rattle.worldfip.specs.Held.{requests}
+use Rattle.worldfip.proofs.Turns.{marked, marked-none, marked-more, group-on, group-marked}
 use Rattle.worldfip.proofs.mark_all.Statement.{statement}
 use Rattle.worldfip.proofs.mark_all.Tie as tie
-use Rattle.worldfip.proofs.mark_all.Reads as reads
-use Rattle.worldfip.proofs.mark_all.Lts as lts
-use Rattle.bits.proofs.single.Reads as single-reads
-use Rattle.worldfip.proofs.mark.Reads as mark-reads
 
 abbrev Inv-loop : tie.InvT-loop
-Inv-loop q n s rows t₀ group₀ r₀ t group r = ?
+Inv-loop q n rows t₀ group₀ r₀ t group r =
+    (r ≤ n) × (length t ≡ length t₀) × (getD q r 0 ≡ 0 → group ≡ 0) × ((m : ℕ) → m ≤ rows → marked q m r group (getD t m 0) ≡ requests q r m)
 
 abbrev μ-loop : tie.MeasureT-loop
-μ-loop q n s rows t₀ group₀ r₀ t group r = ?
+μ-loop q n rows t₀ group₀ r₀ t group r = n - r
 
--- src/lib.rt:167:5
 loop-holds : tie.Need-loop-holds Inv-loop μ-loop
-loop-holds c = ?
+unfolding requests setOf
+loop-holds c =
+    let p = c .before .before .pre in
+    let a = c .before .before .args in
+    (search needs, refl, λ e. refl, λ m l. marked-none (a .q .now) m 0 (getD (a .t .now) m 0) 0 refl ∙ p .1 .none m)
 
--- src/lib.rt:168:17
 mul-p : tie.Need-mul-p Inv-loop μ-loop
-mul-p c = ?
+mul-p c = omega (arith, c .before .before .before .before .pre .0)
 
--- src/lib.rt:168:17
 shared-slice-read-p : tie.Need-shared-slice-read-p Inv-loop μ-loop
-shared-slice-read-p c = ?
+shared-slice-read-p c = omega (arith, c .before .before .before .before .before .pre .0)
 
--- src/lib.rt:169:32
 cast-single : tie.Need-cast-single Inv-loop μ-loop
-cast-single c = ?
+cast-single c = omega (arith, c .before .before .before .before .before .pre .0)
 
--- src/lib.rt:169:25
 single-requires : tie.Need-single-requires Inv-loop μ-loop
-single-requires c κs = ?
+single-requires c κs = search needs
 
--- src/lib.rt:170:9
 add-r : tie.Need-add-r Inv-loop μ-loop
-add-r c = ?
+add-r c = omega (arith, c .before .before .before .before .before .before .pre .0)
 
--- src/lib.rt:171:12
 mul-if1 : tie.Need-mul-if1 Inv-loop μ-loop
-mul-if1 c = ?
+mul-if1 c = omega (arith, c .before .before .before .before .before .before .pre .0)
 
--- src/lib.rt:171:12
 shared-slice-read-if1 : tie.Need-shared-slice-read-if1 Inv-loop μ-loop
-shared-slice-read-if1 c = ?
+shared-slice-read-if1 c = omega (arith, c .before .before .before .before .before .before .before .pre .0)
 
--- src/lib.rt:172:18
 cast-mark : tie.Need-cast-mark Inv-loop μ-loop
-cast-mark c = ?
+cast-mark c = omega (arith, c .before .before .before .shared-slice-known2 .given (c .before .before .before .before .before .loop .r))
 
--- src/lib.rt:172:13
 mark-requires : tie.Need-mark-requires Inv-loop μ-loop
-mark-requires c κs = ?
+mark-requires c κs =
+    let s = c .before .before .before .before .before .before .before .before .before in
+    let l = c .before .before .before .before .before .before .loop in
+    (s .pre .0 .long (l .r) (omega arith), omega (arith, c .before .before .before .before .shared-slice-known2 .given (l .r)), omega (arith, s .pre .1), omega (arith, s .pre .1))
 
--- src/lib.rt:167:5
 loop-less : tie.Need-loop-less Inv-loop μ-loop
-loop-less c = ?
+loop-less c = omega arith
 
--- src/lib.rt:167:5
 loop-again : tie.Need-loop-again Inv-loop μ-loop
-loop-again c = ?
+loop-again c =
+    let l = c .before .before .before .before .before .before .before .before .before .loop in
+    let s = c .before .before .before .before .before .before .before .before .before .before .before .before in
+    let q = s .args .q .now in
+    let y = c .before .before .before .before .before .before .single in
+    let k = c .before .before .mark in (
+      omega arith,
+      k .kept .1 .1 .1 .0 ∙ l .inv .1,
+      λ e. refl,
+      λ m b. group-marked q m (l .r) (getD (l .t) m 0) _ _ (k .ensures m b) (marked-more q m (l .r) (getD (l .t) m 0) (l .group) (y .result) (y .ensures ∙ alone-is (l .r) (omega (arith, s .pre .0))) (l .inv .3 m b)),
+    )
 
--- src/lib.rt:167:5
 loop-less-2 : tie.Need-loop-less-2 Inv-loop μ-loop
-loop-less-2 c = ?
+loop-less-2 c = omega arith
 
--- src/lib.rt:167:5
 loop-again-2 : tie.Need-loop-again-2 Inv-loop μ-loop
-loop-again-2 c = ?
+loop-again-2 c =
+    let l = c .before .before .before .before .before .loop in
+    let s = c .before .before .before .before .before .before .before .before in
+    let q = s .args .q .now in
+    let long = s .pre .0 .long (l .r) (omega arith) in
+    let same : getD q (l .r + 1) 0 ≡ getD q (l .r) 0 = c .if1 .left in (
+      omega arith,
+      l .inv .1,
+      λ e. absurd (omega arith),
+      λ m k. group-on q m (l .r) (getD (l .t) m 0) _ same (marked-more q m (l .r) (getD (l .t) m 0) (l .group) (c .before .before .single .result) (c .before .before .single .ensures ∙ alone-is (l .r) (omega (arith, s .pre .0))) (l .inv .3 m k)),
+    )
 
--- src/lib.rt:160:1
 same-length : tie.Need-same-length Inv-loop μ-loop
-same-length c = ?
+same-length c = search needs
 
--- src/lib.rt:160:1
 returns : tie.Need-returns Inv-loop μ-loop
-returns c = ?
+returns c =
+    let s = c .before .before .before .before in
+    let l = c .before .loop in
+    let e : l .r ≡ s .args .n = omega arith in
+    λ m k. sym (marked-none (s .args .q .now) m (l .r) (getD (l .t) m 0) (l .group) (l .inv .2 (rw e (s .pre .0 .ends)))) ∙ (l .inv .3 m k ∙ ap (λ (x : ℕ). requests (s .args .q .now) x m) e)
 
 pub mark-all-spec : {M : Type 1} → statement M
 mark-all-spec =
