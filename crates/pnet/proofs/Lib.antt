@@ -1,0 +1,4 @@
+pub mod Arrays
+pub mod Gathering
+pub mod Bytes
+pub mod Tied
