@@ -13,8 +13,8 @@ use Rattle.common.specs.Checks.{Check, check, Verdict, verdict}
 use Rattle.common.specs.Checks.Verdict.{Passed, Refused}
 use Rattle.format.specs.declared.Record.{Record}
 use Rattle.format.specs.declared.Met.{Met}
-use Rattle.format.specs.Kinds.{Field, fieldsOf, kinds, limit, within, ranged, known, sizeOf, decode, inRange, whole, metAt, nothing}
-use Rattle.format.proofs.Tables.{both-true}
+use Rattle.format.specs.Kinds.{known, sizeOf, decode, inRange, whole, metAt, nothing}
+use Rattle.format.proofs.Ranges.{segment-ranges, pnet-stream-ranges, ring-ranges, ring-stream-ranges}
 use Rattle.sheet.specs.Sheets.{headOf, streamsOf, sheetOf, fits, hasMaster, mostInAll, countOf, overLimit, metBefore}
 use Rattle.sheet.specs.Whole.{placeOf, recordsOf, recordChecks, endChecks, judge, ended, reading, told, Outcome}
 use Rattle.sheet.specs.Whole.Outcome.{Read, Not}
@@ -27,28 +27,17 @@ use Rattle.sheet.proofs.Judged.{numbered, met-some, own-met, lateChecks
 use Rattle.sheet.proofs.Kept.{Keeps, keeps-none, keeps-more, late-variable, late-stream, not-late-variable}
 use Rattle.sheet.proofs.Known.{fits-behind, first-fits}
 
--- ---- Ranges of a first field
-
-first-field : (top long : ℕ) (r : Record) (f : Field) (fs : List Field) → fieldsOf (r .kind) ≡ f ∷ fs → inRange top long r ≡ true
-    → (f .least ≤ r .a) × (r .a ≤ limit top long r (f .most))
-unfolding inRange ranged within
-first-field top long r f fs e h =
-    let g = rw e at h in
-    let w = both-true (leb (f .least) (r .a) && leb (r .a) (limit top long r (f .most))) _ g .0 in
-    let p = both-true (leb (f .least) (r .a)) (leb (r .a) (limit top long r (f .most))) w in
-    (leb-true _ _ (p .0), leb-true _ _ (p .1))
+-- ---- Masters
 
 -- N and n are at most 32
-pub masters-at-most : (r : Record) → r .kind ≡ 1 ⊎ r .kind ≡ 3 → inRange 0 0 r ≡ true → r .a ≤ 32
-unfolding fieldsOf kinds limit
-masters-at-most r (inl e) h = first-field 0 0 r _ _ (ap fieldsOf e) h .1
-masters-at-most r (inr e) h = first-field 0 0 r _ _ (ap fieldsOf e) h .1
+masters-at-most : (r : Record) → r .kind ≡ 1 ⊎ r .kind ≡ 3 → inRange 0 0 r ≡ true → r .a ≤ 32
+masters-at-most r (inl e) h = segment-ranges 0 0 r h e .masters .most
+masters-at-most r (inr e) h = ring-ranges 0 0 r h e .masters .most
 
--- a master is at most N, or n
-pub master-at-most : (top long : ℕ) (r : Record) → r .kind ≡ 2 ⊎ r .kind ≡ 4 → inRange top long r ≡ true → r .a ≤ top
-unfolding fieldsOf kinds limit
-master-at-most top long r (inl e) h = first-field top long r _ _ (ap fieldsOf e) h .1
-master-at-most top long r (inr e) h = first-field top long r _ _ (ap fieldsOf e) h .1
+-- a stream's master is at most N, or n
+master-at-most : (top long : ℕ) (r : Record) → r .kind ≡ 2 ⊎ r .kind ≡ 4 → inRange top long r ≡ true → r .a ≤ top
+master-at-most top long r (inl e) h = pnet-stream-ranges top long r h e .master .most
+master-at-most top long r (inr e) h = ring-stream-ranges top long r h e .master .most
 
 -- ---- The state
 

@@ -51,7 +51,7 @@ pub record Known (s : List ℕ) (S : Sheet) : Type 0 where
 
 -- ---- Where it comes from
 
-both-fail : (a b : Bool) → (a || b) ≡ false → (a ≡ false) × (b ≡ false)
+pub both-fail : (a b : Bool) → (a || b) ≡ false → (a ≡ false) × (b ≡ false)
 both-fail true b e = let z : _≡_ {A = ℕ} 0 1 = cc in absurd (omega arith)
 both-fail false b e = (refl, e)
 

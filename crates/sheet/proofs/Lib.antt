@@ -5,4 +5,5 @@ pub mod Examples
 pub mod Judged
 pub mod Kept
 pub mod Known
+pub mod Refusals
 pub mod Walk

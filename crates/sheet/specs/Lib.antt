@@ -1,3 +1,4 @@
+pub mod Refusals
 pub mod Sheets
 pub mod Steps
 pub mod Whole
