@@ -30,6 +30,10 @@ pub record Declared (T : Traffic) : Type 0 where
 abbrev pub periodOf : Traffic → ℕ → ℕ
 periodOf T i = T .variable i .period
 
+-- periods alone: all that ranks, microcycle, slots and rows go by
+unfoldable pub plain : ℕ → ℕ → (ℕ → ℕ) → Traffic
+plain e n p = record { exchange = e; number = n; variable = λ i. record { identifier = 0; period = p i } }
+
 -- ---- Rank
 
 -- variable j goes before variable i: shorter period first, equal periods by sheet order

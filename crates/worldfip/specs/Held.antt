@@ -3,12 +3,19 @@ use mathlib.Core.Path.{_≡_}
 use mathlib.Core.List.{List}
 use Prim.Native.Nat.{ℕ, suc, _-_, _/_, _%_, _≤_, _<_}
 use lib.ListN.{length, getD}
-use lib.Dec.{eqb, leb}
+use lib.Dec.{eqb, ltb, leb}
 use Rattle.common.specs.Sums.{when}
+use Rattle.common.specs.Checks.{verdict}
+use Rattle.common.specs.Runs.{filled}
+use Rattle.sheet.specs.Sheets.{sheetOf, Sheet}
+use Rattle.sheet.specs.Whole.{Outcome, placeOf, recordsOf, reading}
+use Rattle.sheet.specs.Whole.Outcome.{Read}
 use Rattle.bits.specs.Sets.{setOf}
 use Rattle.table.specs.Table.{Asked}
 use Rattle.table.specs.Build.{byRank, late, missRow}
-use Rattle.table.specs.Traffic.{Traffic, variableOf}
+use Rattle.table.specs.Traffic.{Traffic, plain, microcycle, slots, rows}
+use Rattle.worldfip.specs.declared.answer.Plan.{Plan}
+use Rattle.worldfip.specs.Answer.{tableChecks, planBy, runBy}
 
 -- entry i of an array, counted from 1
 unfoldable pub numbered : List ℕ → ℕ → ℕ
@@ -16,8 +23,17 @@ numbered ps i = getD ps (i - 1) 0
 
 -- the first n periods of an array and one exchange of e, the identifiers left out
 unfoldable pub held : List ℕ → ℕ → ℕ → Traffic
-unfolding numbered
-held ps n e = record { exchange = e; number = n; variable = λ i. record { identifier = 0; period = numbered ps i } }
+unfolding plain numbered
+held ps n e = plain e n (numbered ps)
+
+-- what the planner answers of these periods, and what the lent run holds then, past refusal 3
+unfoldable pub tablePlan : Traffic → ℕ → Plan
+unfolding verdict tableChecks microcycle slots rows
+tablePlan T room = planBy (verdict (tableChecks T room)) T
+
+unfoldable pub tableRun : Traffic → List ℕ → List ℕ
+unfolding verdict tableChecks filled rows
+tableRun T old = runBy (verdict (tableChecks T (length old))) T old
 
 -- at most 64 periods, none shorter than c, which is not 0
 pub record Whole (ps : List ℕ) (n c : ℕ) : Type 0 where
@@ -52,3 +68,23 @@ given q n s rows = record { vars = n; period = λ r. getD q r 0; slots = s; rows
 unfoldable pub missing : Asked → ℕ
 unfolding missRow late
 missing A = when (leb (missRow A byRank) (A .rows)) (late A byRank (missRow A byRank))
+
+-- ---- From the bytes of a sheet to these arrays
+
+-- what the first record and n variables behind it say
+unfoldable pub sheetIn : List ℕ → ℕ → Sheet
+unfolding sheetOf recordsOf
+sheetIn s n = sheetOf (recordsOf s (suc n))
+
+-- these bytes are a WorldFIP sheet of n variables, and the first of them stands at a place
+pub record Ready (s : List ℕ) (first n : ℕ) : Type 0 where
+  pub reads : reading s ≡ Read (sheetIn s n)
+  pub bus : sheetIn s n .head .kind ≡ 5
+  pub starts : first ≡ placeOf s 1
+
+-- identifiers and periods in sheet order, with 0 behind the last
+pub record Gathered (T : Traffic) (names periods : List ℕ) : Type 0 where
+  pub names-long : length names ≡ 64
+  pub periods-long : length periods ≡ 64
+  pub names-are : (i : ℕ) → getD names i 0 ≡ when (ltb i (T .number)) (T .variable (suc i) .identifier)
+  pub periods-are : (i : ℕ) → getD periods i 0 ≡ when (ltb i (T .number)) (T .variable (suc i) .period)

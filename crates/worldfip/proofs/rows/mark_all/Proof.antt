@@ -1,4 +1,4 @@
--- `worldfip::mark_all` meets its contract. The invariant: with the group still to be marked, each row has the requests of the ranks below r;
+-- `worldfip::rows::mark_all` meets its contract. The invariant: with the group still to be marked, each row has the requests of the ranks below r;
 -- the group has the period of rank r, and is empty at the end. Assumes nothing.
 use borrow.Author.Needs.{needs}
 use mathlib.Core.Path.{_≡_, refl, sym, ap, _∙_}
@@ -9,8 +9,8 @@ use Rattle.bits.specs.Sets.{setOf}
 use Rattle.bits.proofs.Members.{alone-is}
 use Rattle.worldfip.specs.Held.{requests}
 use Rattle.worldfip.proofs.Turns.{marked, marked-none, marked-more, group-on, group-marked}
-use Rattle.worldfip.proofs.mark_all.Statement.{statement}
-use Rattle.worldfip.proofs.mark_all.Tie as tie
+use Rattle.worldfip.proofs.rows.mark_all.Statement.{statement}
+use Rattle.worldfip.proofs.rows.mark_all.Tie as tie
 
 abbrev Inv-loop : tie.InvT-loop
 Inv-loop q n rows t₀ group₀ r₀ t group r =

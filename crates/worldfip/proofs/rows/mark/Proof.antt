@@ -1,4 +1,4 @@
--- `worldfip::mark` meets its contract. The invariant: m is a multiple of p, and the rows below it are done. Assumes nothing.
+-- `worldfip::rows::mark` meets its contract. The invariant: m is a multiple of p, and the rows below it are done. Assumes nothing.
 use borrow.Author.Needs.{needs}
 use mathlib.Core.Path.{_≡_, refl, sym, ap, _∙_}
 use Prim.Native.Nat.{ℕ, _+_, _-_, _%_, _≤_}
@@ -6,8 +6,8 @@ use native.Mathlib.Omega.{arith}
 use native.Mathlib.Nat.{zero-mod, add-mod-right}
 use lib.ListN.{length, getD, length-set}
 use Rattle.worldfip.proofs.Turns.{walked, walked-none, walked-all, walked-more}
-use Rattle.worldfip.proofs.mark.Statement.{statement}
-use Rattle.worldfip.proofs.mark.Tie as tie
+use Rattle.worldfip.proofs.rows.mark.Statement.{statement}
+use Rattle.worldfip.proofs.rows.mark.Tie as tie
 
 abbrev Inv-loop : tie.InvT-loop
 Inv-loop p rows x t₀ m₀ t m =

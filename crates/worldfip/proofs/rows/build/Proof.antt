@@ -1,4 +1,4 @@
--- `worldfip::build` meets its contract. The invariant at row m: what is pending, nobody missed before, the rows below m are built, and the
+-- `worldfip::rows::build` meets its contract. The invariant at row m: what is pending, nobody missed before, the rows below m are built, and the
 -- requests of the others stand. Assumes nothing.
 use borrow.Author.Needs.{needs}
 use mathlib.Core.Path.{_≡_, refl, sym, ap, _∙_}
@@ -12,8 +12,8 @@ use Rattle.table.specs.Build.{byRank, row, missAt}
 use Rattle.worldfip.specs.Held.{requests, given}
 use Rattle.worldfip.proofs.Turns.{requests-new}
 use Rattle.worldfip.proofs.Builds.{late-is, miss-yes, miss-no, row-is, pending-more, missing-here, missing-nowhere, rows-more, requests-less}
-use Rattle.worldfip.proofs.build.Statement.{statement}
-use Rattle.worldfip.proofs.build.Tie as tie
+use Rattle.worldfip.proofs.rows.build.Statement.{statement}
+use Rattle.worldfip.proofs.rows.build.Tie as tie
 
 abbrev Inv-loop : tie.InvT-loop
 Inv-loop q n s rows t₀ pending₀ m₀ t pending m =

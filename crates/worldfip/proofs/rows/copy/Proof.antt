@@ -1,4 +1,4 @@
--- `worldfip::copy` meets its contract. The invariant: the first m places hold the first m numbers. Assumes nothing.
+-- `worldfip::rows::copy` meets its contract. The invariant: the first m places hold the first m numbers. Assumes nothing.
 use borrow.Author.Needs.{needs}
 use mathlib.Core.Path.{_≡_, refl, sym, ap, _∙_}
 use Prim.Native.Nat.{_-_, _≤_}
@@ -6,8 +6,8 @@ use native.Mathlib.Omega.{arith}
 use lib.ListN.{length, getD, length-set}
 use Rattle.common.specs.Runs.{filled}
 use Rattle.common.proofs.Runs.{filled-none, filled-step}
-use Rattle.worldfip.proofs.copy.Statement.{statement}
-use Rattle.worldfip.proofs.copy.Tie as tie
+use Rattle.worldfip.proofs.rows.copy.Statement.{statement}
+use Rattle.worldfip.proofs.rows.copy.Tie as tie
 
 abbrev Inv-loop : tie.InvT-loop
 Inv-loop t n out₀ m₀ out m = (m ≤ n) × (length out ≡ length out₀) × (out ≡ filled (λ k. getD t k 0) m out₀)
