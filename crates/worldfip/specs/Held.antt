@@ -1,9 +1,9 @@
 -- What the code holds of a sheet, in arrays that count from 0. Assumes nothing.
 use mathlib.Core.Path.{_≡_}
 use mathlib.Core.List.{List}
-use Prim.Native.Nat.{ℕ, suc, _-_, _/_, _%_, _≤_, _<_}
+use Prim.Native.Nat.{ℕ, suc, _+_, _-_, _/_, _%_, _≤_, _<_}
 use lib.ListN.{length, getD}
-use lib.Dec.{eqb, ltb, leb}
+use lib.Dec.{eqb, leb}
 use Rattle.common.specs.Sums.{when}
 use Rattle.common.specs.Checks.{verdict}
 use Rattle.common.specs.Runs.{filled}
@@ -82,9 +82,9 @@ pub record Ready (s : List ℕ) (first n : ℕ) : Type 0 where
   pub bus : sheetIn s n .head .kind ≡ 5
   pub starts : first ≡ placeOf s 1
 
--- identifiers and periods in sheet order, with 0 behind the last
+-- identifiers and periods in sheet order; both are 0 behind the last
 pub record Gathered (T : Traffic) (names periods : List ℕ) : Type 0 where
   pub names-long : length names ≡ 64
   pub periods-long : length periods ≡ 64
-  pub names-are : (i : ℕ) → getD names i 0 ≡ when (ltb i (T .number)) (T .variable (suc i) .identifier)
-  pub periods-are : (i : ℕ) → getD periods i 0 ≡ when (ltb i (T .number)) (T .variable (suc i) .period)
+  pub names-are : (i : ℕ) → getD names i 0 ≡ T .variable (i + 1) .identifier
+  pub periods-are : (i : ℕ) → getD periods i 0 ≡ T .variable (i + 1) .period
