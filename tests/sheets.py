@@ -375,6 +375,27 @@ def worldfip_huge(rng):
     return worldfip_sheet(rng.choice([1, 1, 1, 1000]), named(rng, periods))
 
 
+# coprime periods whose product, kept in 64 bits (the first six) or in 32 (the
+# rest), comes out as a small number of rows
+WRAPPING = [
+    (999_999_527, 999_999_503, 69_034_591, 104_559_193, 25),
+    (999_999_733, 999_999_527, 306_582_116, 437_776_731),
+    (999_999_677, 999_999_607, 929_145_127, 52_888_377),
+    (999_999_739, 999_999_587, 418_490_837, 314_290_939),
+    (999_999_757, 999_999_587, 320_698_421, 89_589_887),
+    (999_999_937, 999_999_503, 648_395_131, 396_840_354),
+    (999_999_937, 362_336_963),
+    (1_000_003, 764_519_065),
+    (123_456_791, 613_709_134),
+]
+
+
+def worldfip_wrapping(rng):
+    periods = list(rng.choice(WRAPPING))
+    rng.shuffle(periods)
+    return worldfip_sheet(1, named(rng, periods))
+
+
 def worldfip_no_fit(rng):
     """A microcycle just below one exchange, or just enough."""
     microcycle = rng.choice([1, 2, 100, 999_999])
@@ -642,9 +663,9 @@ def edges(rng):
     yield "greatest periods", worldfip_sheet(1, [(1, 999_999_937), (2, BILLION)])
     yield "64 huge periods", worldfip_sheet(1, [(i, BILLION - i) for i in range(64)])
     yield "64 primes", worldfip_sheet(1, list(enumerate(PRIMES[:64])))
-    # a multiple that comes to 0 when it is kept in 64 bits
-    yield "powers of two and primes", worldfip_sheet(
-        1, [(i, 2**29) for i in range(2)] + [(9 + i, 3**18) for i in range(2)] + [(20, 5**12)])
+    for periods in WRAPPING:
+        product = math.prod(periods)
+        yield "product %d" % product, worldfip_sheet(1, list(enumerate(periods)))
     yield "greatest slots", worldfip_sheet(1, [(65_535, BILLION)])
     yield "one slot, one row", worldfip_sheet(1_000_000, [(1, 1_000_000)])
     yield "no slot by one", worldfip_sheet(1_000_000, [(1, 999_999)])
@@ -665,7 +686,7 @@ FAMILIES = [
     profibus_random, profibus_exact, profibus_ties, profibus_below, profibus_short, profibus_over,
     worldfip_harmonic, worldfip_mixed, worldfip_one_slot, worldfip_many_slots,
     worldfip_full_row, worldfip_last_row, worldfip_many_rows, worldfip_huge,
-    worldfip_no_fit, worldfip_over, worldfip_repeated,
+    worldfip_wrapping, worldfip_no_fit, worldfip_over, worldfip_repeated,
     damaged, damaged, cut_short, shuffled, wrong_kind, noise, no_stream, field_edge, field_edge,
 ]
 
