@@ -393,6 +393,9 @@ WRAPPING = [
 def worldfip_wrapping(rng):
     periods = list(rng.choice(WRAPPING))
     rng.shuffle(periods)
+    # a last period of 1 leaves the multiple as it is, so that a limit looked at
+    # only there meets the wrapped number
+    periods += rng.choice([[], [1]])
     return worldfip_sheet(1, named(rng, periods))
 
 
@@ -666,6 +669,7 @@ def edges(rng):
     for periods in WRAPPING:
         product = math.prod(periods)
         yield "product %d" % product, worldfip_sheet(1, list(enumerate(periods)))
+        yield "product %d, then 1" % product, worldfip_sheet(1, list(enumerate(periods + (1,))))
     yield "greatest slots", worldfip_sheet(1, [(65_535, BILLION)])
     yield "one slot, one row", worldfip_sheet(1_000_000, [(1, 1_000_000)])
     yield "no slot by one", worldfip_sheet(1_000_000, [(1, 999_999)])
