@@ -122,3 +122,9 @@ up-mono x y t p h = up-at-most x t (up y t) p (omega (arith, up-covers y t p))
 
 pub up-zero : (t : ℕ) → 0 < t → up 0 t ≡ 0
 up-zero t p = omega (arith, up-at-most 0 t 0 p (omega arith))
+
+-- the first term apart
+pub upto-first : (f : ℕ → ℕ) (n : ℕ) → upto f (suc n) ≡ f 1 + upto (λ y. f (suc y)) n
+unfolding upto
+upto-first f zero = omega arith
+upto-first f (suc n) = omega (arith, upto-first f n)
