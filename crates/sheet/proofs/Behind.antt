@@ -8,15 +8,18 @@ use native.Mathlib.Numerals.{add-one}
 use native.Mathlib.Omega.{arith}
 use borrow.Author.Tests.{eqb-true, eqb-false, ne-eqb, eq-eqb, le-leb, lt-leb, leb-true, leb-false, lt-ltb, le-ltb}
 use lib.ListN.{length, getD, replicate, getD-replicate, length-replicate}
+use lib.Seq.{ext-getD}
 use lib.Dec.{eqb, leb, ltb}
+use Rattle.common.specs.Runs.{tab}
+use Rattle.common.proofs.Runs.{length-tab, getD-tab}
 use Rattle.common.specs.Checks.{Check, check, Verdict, verdict}
 use Rattle.common.specs.Checks.Verdict.{Passed, Refused}
 use Rattle.format.specs.declared.Record.{Record}
 use Rattle.format.specs.declared.Met.{Met}
 use Rattle.format.specs.Kinds.{known, sizeOf, decode, inRange, whole, metAt, nothing}
 use Rattle.format.proofs.Ranges.{segment-ranges, pnet-stream-ranges, ring-ranges, ring-stream-ranges}
-use Rattle.sheet.specs.Sheets.{headOf, streamsOf, sheetOf, fits, hasMaster, mostInAll, countOf, overLimit, metBefore}
-use Rattle.sheet.specs.Whole.{placeOf, recordsOf, recordChecks, endChecks, judge, ended, reading, told, Outcome}
+use Rattle.sheet.specs.Sheets.{Sheet, headOf, streamsOf, sheetOf, fits, hasMaster, mostInAll, countOf, overLimit, metBefore}
+use Rattle.sheet.specs.Whole.{placeOf, recordsOf, recordChecks, endChecks, judge, ended, reading, told, streamsOfMaster, countsTold, Outcome}
 use Rattle.sheet.specs.Whole.Outcome.{Read, Not}
 use Rattle.sheet.specs.Steps.{ownNo, lateNo, countsWith, idsWith, Begun}
 use Rattle.sheet.specs.declared.Reading.the-variants as answer
@@ -116,6 +119,21 @@ module _ (s : List ℕ) (some : 0 < length s) (met : Met) (q : met ≡ metAt s 0
         is-head = ap (λ (x : Met). x .found) m;
         is-first = ap (λ (x : Met). x .next) m;
       }
+
+-- ---- The counts that are handed over
+
+-- counts that are right at each of the 33 places
+counts-are : (S : Sheet) (counts : List ℕ) → length counts ≡ 33 → ((x : ℕ) → x ≤ 32 → getD counts x 0 ≡ countOf x (S .streams)) → counts ≡ tab (streamsOfMaster S) 33
+unfolding streamsOfMaster
+counts-are S counts l e =
+    ext-getD 0 counts (tab (streamsOfMaster S) 33) (l ∙ sym (length-tab (streamsOfMaster S) 33))
+    (λ x h. e x (omega (arith, l)) ∙ sym (getD-tab (streamsOfMaster S) 33 x (omega (arith, l))))
+
+-- on a refusal the lent memory keeps what it had
+pub refused-keeps : (s : List ℕ) (no' place : ℕ) (o : Outcome) (old : List ℕ) → answer.Refused no' place ≡ told s o → old ≡ countsTold o old
+unfolding countsTold
+refused-keeps s no' place (Read S) old e = let z : _≡_ {A = ℕ} 0 1 = cc in absurd (omega arith)
+refused-keeps s no' place (Not n p) old e = refl
 
 -- ---- A stream
 
@@ -272,3 +290,18 @@ module _ (s : List ℕ) (head : Record) (counts ids : List ℕ) (n at : ℕ) (b 
         let e : told s (reading s) ≡ answer.Accepted (headOf (recordsOf s (suc n))) (length (streamsOf (recordsOf s (suc n)))) (placeOf s 1) =
         ap (told s) (reading-ends ∙ ended-sheet s n h) in
         rw (f, b .is-head, ← head-at s n) (sym (rw (length-streams s n) at e))
+
+    -- and the counts are those of its masters
+    pub ends-counted : (n ≡ 0 → ⊥) → (head .kind ≡ 5 → ⊥) → (old : List ℕ) → counts ≡ countsTold (reading s) old
+    unfolding countsTold sheetOf
+    ends-counted h k old =
+        let z : headOf (recordsOf s (suc n)) .kind ≡ 5 → ⊥ = λ e. k (ap (λ (r : Record). r .kind) (b .is-head ∙ sym (head-at s n)) ∙ e) in
+        let six : head .kind + 1 ≡ 6 → ⊥ = λ e. k (omega arith) in
+        rw (reading-ends, ended-sheet s n h, ne-eqb (headOf (recordsOf s (suc n)) .kind) 5 z)
+        (counts-are (sheetOf (recordsOf s (suc n))) counts (b .keeps .masters) (b .keeps .counted six))
+
+    pub ends-uncounted : (n ≡ 0 → ⊥) → head .kind ≡ 5 → (old : List ℕ) → old ≡ countsTold (reading s) old
+    unfolding countsTold sheetOf
+    ends-uncounted h k old =
+        let z : headOf (recordsOf s (suc n)) .kind ≡ 5 = ap (λ (r : Record). r .kind) (head-at s n ∙ sym (b .is-head)) ∙ k in
+        rw (reading-ends, ended-sheet s n h, eq-eqb (headOf (recordsOf s (suc n)) .kind) 5 z)

@@ -11,7 +11,7 @@ ghost use Rattle.format.specs.Kinds.{known, inRange, decode};
 ghost use Rattle.sheet.specs.Sheets.{fits};
 ghost use Rattle.sheet.specs.Steps;
 ghost use Rattle.sheet.specs.Steps.{ownNo, lateNo, countsWith, idsWith, Begun};
-ghost use Rattle.sheet.specs.Whole.{told, reading};
+ghost use Rattle.sheet.specs.Whole.{told, countsTold, reading};
 
 // What reading a sheet answers.
 pub enum Reading {
@@ -111,9 +111,10 @@ fn keep(counts: &mut [u8; 33], ids: &mut [u32; 64], n: usize, r: Record)
 }
 
 // Reads the streams behind a first record that passed, up to the sheet's end or the first refusal.
-fn read_streams(s: &[u8], head: Record, first: usize) -> Reading
+fn read_streams(s: &[u8], head: Record, first: usize, handed: &mut [u8; 33]) -> Reading
     requires { ⌜ Begun (now s) head first ⌝ }
     ensures { λ r. ⌜ r ≡ told (now (s .entry)) (reading (now (s .entry))) ⌝ }
+    ensures { λ _. ⌜ now (handed .exit) ≡ countsTold (reading (now (s .entry))) (now (handed .entry)) ⌝ }
 {
     let mut counts: [u8; 33] = [0; 33];
     let mut ids: [u32; 64] = [0; 64];
@@ -144,16 +145,23 @@ fn read_streams(s: &[u8], head: Record, first: usize) -> Reading
             place: s.len(),
         };
     }
-    Reading::Accepted {
+    let accepted = Reading::Accepted {
         head,
         streams: n,
         first,
+    };
+    if head.kind == 5 {
+        return accepted;
     }
+    *handed = counts;
+    accepted
 }
 
-// What a whole sheet is: accepted, or refused with a number and a place.
-pub fn read(s: &[u8]) -> Reading
+// What a whole sheet is: accepted, or refused with a number and a place. Reading counts the streams of each master anyway, and hands
+// the counts over where the sheet is accepted: place k has those of master k.
+pub fn read_counting(s: &[u8], handed: &mut [u8; 33]) -> Reading
     ensures { λ r. ⌜ r ≡ told (now (s .entry)) (reading (now (s .entry))) ⌝ }
+    ensures { λ _. ⌜ now (handed .exit) ≡ countsTold (reading (now (s .entry))) (now (handed .entry)) ⌝ }
 {
     if s.len() == 0 {
         return Reading::Refused { no: 1, place: 0 };
@@ -165,5 +173,13 @@ pub fn read(s: &[u8]) -> Reading
         return Reading::Refused { no: own, place: 0 };
     }
     let head = met.found;
-    read_streams(s, head, met.next)
+    read_streams(s, head, met.next, handed)
+}
+
+// The same for callers that need no counts.
+pub fn read(s: &[u8]) -> Reading
+    ensures { λ r. ⌜ r ≡ told (now (s .entry)) (reading (now (s .entry))) ⌝ }
+{
+    let mut counts: [u8; 33] = [0; 33];
+    read_counting(s, &mut counts)
 }

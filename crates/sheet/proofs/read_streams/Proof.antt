@@ -3,15 +3,15 @@ use mathlib.Core.Path.{_≡_, refl, sym, _∙_, ap}
 use native.Mathlib.Omega.{arith}
 use borrow.Author.Needs.{needs}
 use lib.ListN.{length}
-use Rattle.sheet.proofs.Behind.{Behind, begun, kind-fits, refused-own, refused-late, master-here, behind-more, next-later, fewer-streams, ends-empty, ends-accepted}
+use Rattle.sheet.proofs.Behind.{Behind, begun, kind-fits, refused-own, refused-late, refused-keeps, master-here, behind-more, next-later, fewer-streams, ends-empty, ends-accepted, ends-counted, ends-uncounted}
 use Rattle.sheet.proofs.read_streams.Statement.{statement}
 use Rattle.sheet.proofs.read_streams.Tie as tie
 
 abbrev Inv-loop : tie.InvT-loop
-Inv-loop s head first counts₀ ids₀ n₀ at₀ counts ids n at = Behind s head counts ids n at
+Inv-loop s head first handed counts₀ ids₀ n₀ at₀ counts ids n at = Behind s head counts ids n at
 
 abbrev μ-loop : tie.MeasureT-loop
-μ-loop s head first counts₀ ids₀ n₀ at₀ counts ids n at = length s - at
+μ-loop s head first handed counts₀ ids₀ n₀ at₀ counts ids n at = length s - at
 
 loop-holds : tie.Need-loop-holds Inv-loop μ-loop
 loop-holds c =
@@ -39,7 +39,8 @@ returns : tie.Need-returns Inv-loop μ-loop
 returns c =
     let a = c .before .before .before .before .before .before .before .before .args in
     let l = c .before .before .before .before .before .before .loop in
-    refused-own (a .s .now) (a .head) (l .counts) (l .ids) (l .n) (l .at) (l .inv) (c .before .before .before .before .before .loop-test .taken) (c .before .before .before .record-at .result) (c .before .before .before .record-at .ensures) (c .before .own-no .result) (c .before .own-no .ensures) (c .if1 .taken)
+    let e = refused-own (a .s .now) (a .head) (l .counts) (l .ids) (l .n) (l .at) (l .inv) (c .before .before .before .before .before .loop-test .taken) (c .before .before .before .record-at .result) (c .before .before .before .record-at .ensures) (c .before .own-no .result) (c .before .own-no .ensures) (c .if1 .taken) in
+    (e, refused-keeps (a .s .now) _ _ _ (a .handed .now) e)
 
 late-no-requires : tie.Need-late-no-requires Inv-loop μ-loop
 late-no-requires c κs =
@@ -51,7 +52,8 @@ returns-2 : tie.Need-returns-2 Inv-loop μ-loop
 returns-2 c =
     let a = c .before .before .before .before .before .before .before .before .before .before .before .before .before .args in
     let l = c .before .before .before .before .before .before .before .before .before .before .before .loop in
-    refused-late (a .s .now) (a .head) (l .counts) (l .ids) (l .n) (l .at) (l .inv) (c .before .before .before .before .before .before .before .before .before .before .loop-test .taken) (c .before .before .before .before .before .before .before .before .record-at .result) (c .before .before .before .before .before .before .before .before .record-at .ensures) (c .before .before .before .before .before .before .own-no .result) (c .before .before .before .before .before .before .own-no .ensures) (c .before .before .before .before .before .if1 .left) (c .before .late-no .result) (c .before .late-no .ensures) (c .if2 .taken)
+    let e = refused-late (a .s .now) (a .head) (l .counts) (l .ids) (l .n) (l .at) (l .inv) (c .before .before .before .before .before .before .before .before .before .before .loop-test .taken) (c .before .before .before .before .before .before .before .before .record-at .result) (c .before .before .before .before .before .before .before .before .record-at .ensures) (c .before .before .before .before .before .before .own-no .result) (c .before .before .before .before .before .before .own-no .ensures) (c .before .before .before .before .before .if1 .left) (c .before .late-no .result) (c .before .late-no .ensures) (c .if2 .taken) in
+    (e, refused-keeps (a .s .now) _ _ _ (a .handed .now) e)
 
 keep-requires : tie.Need-keep-requires Inv-loop μ-loop
 keep-requires c κs =
@@ -82,13 +84,28 @@ returns-3 : tie.Need-returns-3 Inv-loop μ-loop
 returns-3 c =
     let a = c .before .before .before .before .args in
     let l = c .before .before .loop in
-    ends-empty (a .s .now) (a .head) (l .counts) (l .ids) (l .n) (l .at) (l .inv) (c .before .loop-test .left) (c .if3 .taken)
+    let e = ends-empty (a .s .now) (a .head) (l .counts) (l .ids) (l .n) (l .at) (l .inv) (c .before .loop-test .left) (c .if3 .taken) in
+    (e, refused-keeps (a .s .now) _ _ _ (a .handed .now) e)
 
 returns-4 : tie.Need-returns-4 Inv-loop μ-loop
 returns-4 c =
-    let a = c .before .before .before .before .args in
-    let l = c .before .before .loop in
-    ends-accepted (a .s .now) (a .head) (l .counts) (l .ids) (l .n) (l .at) (l .inv) (c .before .loop-test .left) (a .first) (c .before .before .before .before .pre .is-first) (c .if3 .left)
+    let a = c .before .before .before .before .before .before .args in
+    let l = c .before .before .before .before .loop in
+    let out = c .before .before .before .loop-test .left in
+    let some = c .before .before .if3 .left in (
+      ends-accepted (a .s .now) (a .head) (l .counts) (l .ids) (l .n) (l .at) (l .inv) out (a .first) (c .before .before .before .before .before .before .pre .is-first) some,
+      ends-uncounted (a .s .now) (a .head) (l .counts) (l .ids) (l .n) (l .at) (l .inv) out some (c .if4 .taken) (a .handed .now),
+    )
+
+returns-5 : tie.Need-returns-5 Inv-loop μ-loop
+returns-5 c =
+    let a = c .before .before .before .before .before .before .args in
+    let l = c .before .before .before .before .loop in
+    let out = c .before .before .before .loop-test .left in
+    let some = c .before .before .if3 .left in (
+      ends-accepted (a .s .now) (a .head) (l .counts) (l .ids) (l .n) (l .at) (l .inv) out (a .first) (c .before .before .before .before .before .before .pre .is-first) some,
+      ends-counted (a .s .now) (a .head) (l .counts) (l .ids) (l .n) (l .at) (l .inv) out some (c .if4 .left) (a .handed .now),
+    )
 
 pub read-streams-spec : {M : Type 1} → statement M
 read-streams-spec =
@@ -109,4 +126,5 @@ read-streams-spec =
     loop-less
     loop-again
     returns-3
-    returns-4)
+    returns-4
+    returns-5)
