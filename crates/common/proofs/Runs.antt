@@ -58,3 +58,9 @@ tab-set f g n k x l e other =
         let i : k < length (tab f n) = omega (arith, length-tab f n) in
         rw q (getD-set-same (tab f n) k x 0 i ∙ (e ∙ sym (getD-tab g n k l)))
     at y m (no q) = getD-set-other (tab f n) k y x 0 q ∙ (getD-tab f n y m ∙ (other y m q ∙ sym (getD-tab g n y m)))
+
+-- figures that agree below n fill a run alike
+pub tab-same : (f g : ℕ → ℕ) (n : ℕ) → ((i : ℕ) → i < n → f i ≡ g i) → tab f n ≡ tab g n
+unfolding tab
+tab-same f g zero e = refl
+tab-same f g (suc n) e = rw (e n (omega arith), tab-same f g n (λ i l. e i (omega arith)))
