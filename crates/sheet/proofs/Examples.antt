@@ -1,10 +1,10 @@
 -- Page 01, 'Sheets worked by hand', and one accepted sheet of each bus, as the definitions compute them. Assumes nothing.
 use Prim.Native.Nat.{ℕ}
 use mathlib.Core.Path.{_≡_, refl}
-use mathlib.Core.List.{List, [], _∷_}
+use mathlib.Core.List.{[], _∷_}
 use Rattle.format.specs.declared.Record.{Record}
-use Rattle.sheet.specs.Sheets.{Sheet, headOf, streamsOf}
-use Rattle.sheet.specs.Whole.{reading, Outcome}
+use Rattle.sheet.specs.Sheets.{headOf, streamsOf}
+use Rattle.sheet.specs.Whole.{reading}
 use Rattle.sheet.specs.Whole.Outcome.{Read, Not}
 
 -- empty: 1 at 0
