@@ -1,8 +1,8 @@
 -- Laws of the first number at which a test holds. Assumes nothing.
 use mathlib.Core.Path.{_≡_, refl, sym, ap, _∙_, subst}
 use mathlib.Core.Bool.{Bool, true, false, cond}
-use Prim.Native.Nat.{ℕ, zero, suc, _+_, _≤_, _<_}
-use native.Mathlib.Nat.{add-zero, add-suc, suc-add, le-of-suc-le-suc, not-suc-le-zero}
+use Prim.Native.Nat.{ℕ, zero, suc, _+_, _-_, _≤_, _<_}
+use native.Mathlib.Nat.{add-zero, add-comm, add-suc, suc-add, le-of-suc-le-suc, not-suc-le-zero}
 use native.Mathlib.Omega.{arith}
 use native.Mathlib.Decide.{ℕ-discrete}
 use Rattle.common.specs.Sums.{firstOf}
@@ -53,3 +53,22 @@ first-is f (suc n) i = split (f i) refl (first-is f n (suc i))
         before : (j : ℕ) → i ≤ j → j < firstOf f n (suc i) → Dec (j ≡ i) → f j ≡ false
         before j lo hi (yes e) = ap f e ∙ q
         before j lo hi (no e) = r .fails j (omega (arith, e)) hi
+
+-- the first number from 1, as a loop that counts from 0 finds it
+module _ (f : ℕ → Bool) (n i : ℕ) (miss : (j : ℕ) → j < i → f (j + 1) ≡ false) where
+  missed : (j : ℕ) → 1 ≤ j → j < 1 + i → f j ≡ false
+  missed j lo hi =
+      let e : j - 1 + 1 ≡ j = omega arith in
+      subst (λ (x : ℕ). f x ≡ false) e (miss (j - 1) (omega arith))
+
+  pub first-here : i < n → f (i + 1) ≡ true → i + 1 ≡ firstOf f n 1
+  first-here l hit = add-comm i 1 ∙ sym (first-hit f i 1 n missed (rw (add-comm i 1) at hit) l)
+
+  pub first-nowhere : i ≡ n → n + 1 ≡ firstOf f n 1
+  first-nowhere e = add-comm n 1 ∙ sym (first-none f 1 n (λ j lo hi. missed j lo (omega arith)))
+
+-- tests that agree on the way have one first number
+pub first-same : (f g : ℕ → Bool) (n i : ℕ) → ((j : ℕ) → i ≤ j → j < i + n → f j ≡ g j) → firstOf f n i ≡ firstOf g n i
+unfolding firstOf
+first-same f g zero i e = refl
+first-same f g (suc n) i e = rw (e i (omega arith) (omega arith), first-same f g n (suc i) (λ j lo hi. e j (omega arith) (omega arith)))

@@ -64,3 +64,22 @@ pub tab-same : (f g : ℕ → ℕ) (n : ℕ) → ((i : ℕ) → i < n → f i �
 unfolding tab
 tab-same f g zero e = refl
 tab-same f g (suc n) e = rw (e n (omega arith), tab-same f g n (λ i l. e i (omega arith)))
+
+-- a run on its way: its first n places are filled, and it is as long as it was
+pub record Filling (f : ℕ → ℕ) (n : ℕ) (old run : List ℕ) : Type 0 where
+  pub is : run ≡ filled f n old
+  pub long : length run ≡ length old
+
+pub filling-none : (f : ℕ → ℕ) (old : List ℕ) → Filling f 0 old old
+filling-none f old = record { is = filled-none f old; long = refl }
+
+pub filling-more : {f : ℕ → ℕ} {n : ℕ} {old run : List ℕ} (x : ℕ) → Filling f n old run → n < length old → x ≡ f n → Filling f (n + 1) old (set run n x)
+filling-more {f} {n} {old} {run} x r h q =
+    record { is = filled-step f old run n x (r .is) q h; long = length-set run n x ∙ r .long }
+
+pub filling-done : {f : ℕ → ℕ} {m : ℕ} {old run : List ℕ} (n : ℕ) → Filling f m old run → m ≡ n → run ≡ filled f n old
+filling-done {f} {m} {old} {run} n r e = r .is ∙ ap (λ (x : ℕ). filled f x old) e
+
+pub filled-same : (f g : ℕ → ℕ) (n : ℕ) (d : List ℕ) → ((i : ℕ) → i < n → f i ≡ g i) → filled f n d ≡ filled g n d
+unfolding filled
+filled-same f g n d e = ap (λ (l : List ℕ). l ++ drop n d) (tab-same f g n e)

@@ -1,11 +1,13 @@
 -- Laws of sums and greatest figures over 1..n, and of quotients rounded up. Assumes nothing.
 use mathlib.Core.Path.{_≡_, refl, sym, ap, _∙_, subst}
 use Prim.Native.Nat.{ℕ, zero, suc, _+_, _-_, _*_, _/_, _≤_, _<_, zero-le, max}
-use native.Mathlib.Nat.{mul-zero, mul-add, suc-mul, zero-div, div-lt-iff-lt-mul, le-div-iff-mul-le, mul-comm}
+use native.Mathlib.Nat.{mul-zero, mul-le-mul, mul-add, suc-mul, zero-div, div-zero, div-lt-iff-lt-mul, le-div-iff-mul-le, mul-comm}
 use native.Mathlib.Numerals.{add-one}
 use native.Mathlib.Omega.{arith}
 use native.Mathlib.Decide.{ℕ-discrete}
-use Rattle.common.specs.Sums.{upto, greatest, up}
+use borrow.Author.Tests.{eq-eqb, ne-eqb}
+use lib.Dec.{eqb}
+use Rattle.common.specs.Sums.{when, upto, greatest, up}
 
 -- ---- Sums
 
@@ -122,6 +124,45 @@ up-mono x y t p h = up-at-most x t (up y t) p (omega (arith, up-covers y t p))
 
 pub up-zero : (t : ℕ) → 0 < t → up 0 t ≡ 0
 up-zero t p = omega (arith, up-at-most 0 t 0 p (omega arith))
+
+-- one term alone
+pub upto-only : (x k n : ℕ) → 1 ≤ k → k ≤ n → upto (λ y. when (eqb y k) x) n ≡ x
+unfolding upto
+upto-only x k zero lo hi = omega arith
+upto-only x k (suc n) lo hi = last (ℕ-discrete k (suc n)) (upto-only x k n lo)
+  where
+    none : (m : ℕ) → m < k → upto (λ y. when (eqb y k) x) m ≡ 0
+    none zero l = refl
+    none (suc m) l = simp (none m (omega arith), ne-eqb (suc m) k (λ e. omega arith))
+
+    last : Dec (k ≡ suc n) → (k ≤ n → upto (λ y. when (eqb y k) x) n ≡ x) → upto (λ y. when (eqb y k) x) n + when (eqb (suc n) k) x ≡ x
+    last (yes q) ih = simp (none n (omega arith), eq-eqb (suc n) k (sym q)) (omega arith)
+    last (no q) ih = simp (ih (omega (arith, q)), ne-eqb (suc n) k (λ e. q (sym e))) (omega arith)
+
+-- a quotient never falls, whatever divides
+pub up-rises : (x y t : ℕ) → x ≤ y → up x t ≤ up y t
+unfolding up
+up-rises x y zero h = simp div-zero (omega arith)
+up-rises x y (suc t) h = up-mono x y (suc t) (omega arith) h
+
+-- a part of a sum is at most the whole
+pub upto-part : (f : ℕ → ℕ) (m n : ℕ) → m ≤ n → upto f m ≤ upto f n
+unfolding upto
+upto-part f m zero h = let e : m ≡ 0 = omega arith in omega (arith, ap (upto f) e)
+upto-part f m (suc n) h = last (ℕ-discrete m (suc n)) (upto-part f m n)
+  where
+    last : Dec (m ≡ suc n) → (m ≤ n → upto f m ≤ upto f n) → upto f m ≤ upto f n + f (suc n)
+    last (yes q) ih = omega (arith, ap (upto f) q)
+    last (no q) ih = omega (arith, ih (omega (arith, q)))
+
+-- what is divided is at least its quotient
+pub up-less : (x t : ℕ) → 0 < t → up x t ≤ x
+up-less x t p = up-at-most x t x p (omega (arith, mul-le-mul {n₁ = x} {m₁ = 1} {n₂ = x} {m₂ = t} (omega arith) p))
+
+-- nothing yet, as a loop begins
+pub upto-none : (f : ℕ → ℕ) → 0 ≡ upto f 0
+unfolding upto
+upto-none f = refl
 
 -- the first term apart
 pub upto-first : (f : ℕ → ℕ) (n : ℕ) → upto f (suc n) ≡ f 1 + upto (λ y. f (suc y)) n
