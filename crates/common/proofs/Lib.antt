@@ -1,4 +1,5 @@
 pub mod Checks
 pub mod Firsts
+pub mod FromZero
 pub mod Runs
 pub mod Sums

@@ -5,8 +5,8 @@ use Prim.Native.Nat.{ℕ, zero, suc, _+_, _-_, _≤_, _<_}
 use native.Mathlib.Numerals.{add-one}
 use native.Mathlib.Omega.{arith}
 use native.Mathlib.Decide.{ℕ-discrete}
-use lib.ListN.{length, getD, drop, set, length-append, length-drop, length-set, List·getD-append}
-use lib.Seq.{drop-cons, set-at, getD-at, getD-set-same, getD-set-other, ext-getD}
+use lib.ListN.{length, getD, take, drop, set, length-append, length-drop, length-set, List·getD-append}
+use lib.Seq.{take-suc, take-all, drop-cons, set-at, getD-at, getD-set-same, getD-set-other, ext-getD}
 use Rattle.common.specs.Runs.{tab, filled}
 
 module _ (f : ℕ → ℕ) where
@@ -83,3 +83,13 @@ filling-done {f} {m} {old} {run} n r e = r .is ∙ ap (λ (x : ℕ). filled f x 
 pub filled-same : (f g : ℕ → ℕ) (n : ℕ) (d : List ℕ) → ((i : ℕ) → i < n → f i ≡ g i) → filled f n d ≡ filled g n d
 unfolding filled
 filled-same f g n d e = ap (λ (l : List ℕ). l ++ drop n d) (tab-same f g n e)
+
+-- a run is known by its places
+front-tab : (f : ℕ → ℕ) (l : List ℕ) (n : ℕ) → n ≤ length l → ((i : ℕ) → i < n → getD l i 0 ≡ f i) → take n l ≡ tab f n
+unfolding tab
+front-tab f l zero h e = refl
+front-tab f l (suc n) h e =
+    take-suc l n 0 (omega arith) ∙ rw (e n (omega arith), front-tab f l n (omega arith) (λ i k. e i (omega arith)))
+
+pub tab-places : (f : ℕ → ℕ) (l : List ℕ) (n : ℕ) → length l ≡ n → ((i : ℕ) → i < n → getD l i 0 ≡ f i) → l ≡ tab f n
+tab-places f l n h e = sym (take-all n l (omega (arith, h))) ∙ front-tab f l n (omega (arith, h)) e

@@ -43,6 +43,12 @@ upto-terms f g (suc n) le e y lo hi = last (ℕ-discrete y (suc n)) (upto-terms 
     last (yes q) ih = ap f q ∙ (omega (arith, s, l) ∙ sym (ap g q))
     last (no q) ih = ih (omega (arith, s, l)) y lo (omega (arith, q))
 
+-- terms in order one by one, and one of them below: so are the sums
+pub upto-less : (f g : ℕ → ℕ) (n y : ℕ) → ((z : ℕ) → 1 ≤ z → z ≤ n → f z ≤ g z) → 1 ≤ y → y ≤ n → f y < g y → upto f n < upto g n
+upto-less f g n y le lo hi l =
+    let d : (upto f n ≡ upto g n → ⊥) = λ (e : upto f n ≡ upto g n). (let z = upto-terms f g n le e y lo hi in omega arith) in
+    omega (arith, d, upto-mono f g n le)
+
 -- a term is at most the sum
 pub upto-term : (f : ℕ → ℕ) (n y : ℕ) → 1 ≤ y → y ≤ n → f y ≤ upto f n
 unfolding upto

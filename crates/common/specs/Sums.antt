@@ -1,5 +1,5 @@
--- Sums, greatest figures and counts over numbers that begin at 1, as page 01 numbers masters and streams.
--- Assumes nothing.
+-- Sums, greatest figures and counts over numbers that begin at 1, as page 01 numbers masters and streams, and sums that begin at 0,
+-- as it numbers ranks and rows. Assumes nothing.
 use Prim.Native.Nat.{ℕ, zero, suc, _+_, _-_, _/_, max}
 use mathlib.Core.Bool.{Bool, cond}
 
@@ -11,6 +11,11 @@ when b x = cond b x 0
 unfoldable pub upto : (ℕ → ℕ) → ℕ → ℕ
 upto f zero = 0
 upto f (suc n) = upto f n + f (suc n)
+
+-- f 0 + .. + f (n - 1)
+unfoldable pub sum : (ℕ → ℕ) → ℕ → ℕ
+sum f zero = 0
+sum f (suc n) = sum f n + f n
 
 -- the greatest of f 1, .., f n, and 0 where n is 0
 unfoldable pub greatest : (ℕ → ℕ) → ℕ → ℕ

@@ -1,0 +1,25 @@
+-- Identifiers play no part in ranks, microcycle, slots, rows and the table. Assumes nothing.
+use mathlib.Core.Path.{_≡_, refl}
+use Prim.Native.Nat.{ℕ}
+use Rattle.table.specs.Traffic.{Traffic, Declared, periodOf, plain, ahead, rankOf, variableOf, microcycle, slots, inRows, rows, periodAt, askedOf, missingOf}
+
+-- T without its identifiers
+abbrev pub plainOf : Traffic → Traffic
+plainOf T = plain (T .exchange) (T .number) (periodOf T)
+
+module _ (T : Traffic) where
+  pub plain-declared : Declared T → Declared (plainOf T)
+  unfolding plain
+  plain-declared D = record { exchange-in = D .exchange-in; number-in = D .number-in; period-in = D .period-in }
+
+  pub plain-variable : (r : ℕ) → variableOf (plainOf T) r ≡ variableOf T r
+  unfolding plain variableOf rankOf ahead
+  plain-variable r = refl
+
+  pub plain-microcycle : microcycle (plainOf T) ≡ microcycle T
+  unfolding plain microcycle
+  plain-microcycle = refl
+
+  pub plain-asked : askedOf (plainOf T) ≡ askedOf T
+  unfolding plain askedOf slots rows periodAt inRows microcycle variableOf rankOf ahead
+  plain-asked = refl

@@ -1,0 +1,1 @@
+// The WorldFIP table of page 01 as definitions and laws; no code.

@@ -1,0 +1,97 @@
+-- `worldfip::plan` meets its contract: what the reader took is the sheet's traffic, and what it refused stays refused. Assumes nothing.
+use mathlib.Core.Path.{_≡_, sym, ap, _∙_}
+use native.Mathlib.Omega.{arith}
+use borrow.Author.Needs.{needs}
+use lib.ListN.{length}
+use Rattle.format.specs.declared.Record.{Record}
+use Rattle.sheet.specs.Whole.{Outcome}
+use Rattle.worldfip.specs.Answer.{planOf, runOf}
+use Rattle.worldfip.specs.Held.{sheetIn, Ready}
+use Rattle.worldfip.proofs.Passing.{Taken, taken, not-taken, held-declared, plan-is, run-is, other-bus, other-run, ready-declared, ready-number}
+use Rattle.worldfip.proofs.plan.Statement.{statement}
+use Rattle.worldfip.proofs.plan.Tie as tie
+
+-- what the reader took
+took : (c : tie.After-head)
+    → Taken (c .before .before .before .before .before .args .s .now) (c .head .given .0 .0) (c .head .given .0 .1 .0) (c .head .given .0 .1 .1 .0)
+took c =
+    taken (c .before .before .before .before .before .args .s .now) (c .head .given .0 .0) (c .head .given .0 .1 .0) (c .head .given .0 .1 .1 .0)
+    (sym (c .before .before .read .ensures) ∙ c .head .given .1)
+
+-- is a WorldFIP sheet
+ready : (c : tie.Else1) → Ready (c .before .before .before .before .before .before .before .before .args .s .now) (c .before .before .before .head .given .0 .1 .1 .0) (c .before .before .before .head .given .0 .1 .0)
+ready c =
+    let t = took (c .before .before .before) in
+    record { reads = t .reads; bus = ap (λ (r : Record). r .kind) (sym (t .begins)) ∙ c .if1 .left; starts = t .starts }
+
+read-requires : tie.Need-read-requires
+read-requires c κs = search needs
+
+enum-known-no : tie.Need-enum-known-no
+enum-known-no c = search needs
+
+enum-known-head : tie.Need-enum-known-head
+enum-known-head c = search needs
+
+returns : tie.Need-returns
+returns c =
+    let t = took (c .before .before .before) in
+    let s = c .before .before .before .before .before .before .before .before .args in
+    let S = sheetIn (s .s .now) (c .before .before .before .head .given .0 .1 .0) in
+    let other : (S .head .kind ≡ 5 → ⊥) = λ (e : S .head .kind ≡ 5). c .if1 .taken (ap (λ (r : Record). r .kind) (t .begins) ∙ e) in
+    (sym (ap (λ (o : Outcome). planOf o (length (s .rows .now))) (t .reads) ∙ other-bus S other (length (s .rows .now))), sym (ap (λ (o : Outcome). runOf o (s .rows .now)) (t .reads) ∙ other-run S other (s .rows .now)))
+
+gather-requires : tie.Need-gather-requires
+gather-requires c κs = ready c
+
+slice-aggregate-table : tie.Need-slice-aggregate-table
+slice-aggregate-table c = search needs
+
+table-requires : tie.Need-table-requires
+table-requires c κs =
+    let e = c .before .before .before .before in
+    let h = c .before .before .before .before .before .before .before .head .given .0 in
+    let s = c .before .before .before .before .before .before .before .before .before .before .before .before .args .s .now in
+    let g = c .before .before .before .gather .ensures in
+    let n = ready-number s (h .1 .1 .0) (h .1 .0) (ready e) in
+    let d = ready-declared s (h .1 .1 .0) (h .1 .0) (ready e) in (
+      omega (arith, g .periods-long, n, d .number-in),
+      held-declared s (h .1 .1 .0) (h .1 .0) (h .0 .a) (ready e) (ap (λ (r : Record). r .a) (took (c .before .before .before .before .before .before .before) .begins)) _ _ g,
+    )
+
+returns-2 : tie.Need-returns-2
+unfolding planOf runOf
+returns-2 c =
+    let s = c .before .before .before .before .before .before .args in
+    let e = not-taken (s .s .now) (c .before .no .given .0 .0) (c .before .no .given .0 .1 .0) (sym (c .before .before .before .read .ensures) ∙ c .before .no .given .1) in
+    (sym (ap (λ (o : Outcome). planOf o (length (s .rows .now))) e), sym (ap (λ (o : Outcome). runOf o (s .rows .now)) e))
+
+same-length : tie.Need-same-length
+same-length c = search needs
+
+returns-3 : tie.Need-returns-3
+returns-3 c =
+    let e = c .before .before .before .before .before .before .before in
+    let h = c .before .before .before .before .before .before .before .before .before .before .head .given .0 in
+    let s = c .before .before .before .before .before .before .before .before .before .before .before .before .before .before .before .args in
+    let g = c .before .before .before .before .before .before .gather .ensures in
+    let a = ap (λ (r : Record). r .a) (took (c .before .before .before .before .before .before .before .before .before .before) .begins) in
+    let t = c .before .before .table .ensures in (
+      t .0 ∙ plan-is (s .s .now) (h .1 .1 .0) (h .1 .0) (h .0 .a) (ready e) a _ _ g (length (s .rows .now)),
+      t .1 ∙ run-is (s .s .now) (h .1 .1 .0) (h .1 .0) (h .0 .a) (ready e) a _ _ g (s .rows .now),
+    )
+
+pub plan-spec : {M : Type 1} → statement M
+plan-spec =
+    tie.close
+    (tie.spec
+    read-requires
+    enum-known-no
+    enum-known-head
+    returns
+    gather-requires
+    slice-aggregate-table
+    table-requires
+    returns-2
+    same-length
+    returns-3)

@@ -1,0 +1,90 @@
+-- What the code holds of a sheet, in arrays that count from 0. Assumes nothing.
+use mathlib.Core.Path.{_≡_}
+use mathlib.Core.List.{List}
+use Prim.Native.Nat.{ℕ, suc, _+_, _-_, _/_, _%_, _≤_, _<_}
+use lib.ListN.{length, getD}
+use lib.Dec.{eqb, leb}
+use Rattle.common.specs.Sums.{when}
+use Rattle.common.specs.Checks.{verdict}
+use Rattle.common.specs.Runs.{filled}
+use Rattle.sheet.specs.Sheets.{sheetOf, Sheet}
+use Rattle.sheet.specs.Whole.{Outcome, placeOf, recordsOf, reading}
+use Rattle.sheet.specs.Whole.Outcome.{Read}
+use Rattle.bits.specs.Sets.{setOf}
+use Rattle.table.specs.Table.{Asked}
+use Rattle.table.specs.Build.{byRank, late, missRow}
+use Rattle.table.specs.Traffic.{Traffic, plain, microcycle, slots, rows}
+use Rattle.worldfip.specs.declared.answer.Plan.{Plan}
+use Rattle.worldfip.specs.Answer.{tableChecks, planBy, runBy}
+
+-- entry i of an array, counted from 1
+unfoldable pub numbered : List ℕ → ℕ → ℕ
+numbered ps i = getD ps (i - 1) 0
+
+-- the first n periods of an array and one exchange of e, the identifiers left out
+unfoldable pub held : List ℕ → ℕ → ℕ → Traffic
+unfolding plain numbered
+held ps n e = plain e n (numbered ps)
+
+-- what the planner answers of these periods, and what the lent run holds then, past refusal 3
+unfoldable pub tablePlan : Traffic → ℕ → Plan
+unfolding verdict tableChecks microcycle slots rows
+tablePlan T room = planBy (verdict (tableChecks T room)) T
+
+unfoldable pub tableRun : Traffic → List ℕ → List ℕ
+unfolding verdict tableChecks filled rows
+tableRun T old = runBy (verdict (tableChecks T (length old))) T old
+
+-- at most 64 periods, none shorter than c, which is not 0
+pub record Whole (ps : List ℕ) (n c : ℕ) : Type 0 where
+  pub few : n ≤ 64
+  pub there : n ≤ length ps
+  pub some : 0 < c
+  pub long : (i : ℕ) → 1 ≤ i → i ≤ n → 0 < numbered ps i / c
+
+-- periods in rows by rank, none of them 0, and a 0 behind the last
+pub record Usable (q : List ℕ) (n : ℕ) : Type 0 where
+  pub few : n ≤ 64
+  pub there : n < length q
+  pub long : (r : ℕ) → r < n → 0 < getD q r 0
+  pub ends : getD q n 0 ≡ 0
+
+-- room for so many rows and the end of the last, all 0
+pub record Cleared (t : List ℕ) (rows : ℕ) : Type 0 where
+  pub few : rows ≤ 4096
+  pub there : rows < length t
+  pub none : (m : ℕ) → getD t m 0 ≡ 0
+
+-- of n periods in rows, those that divide row m
+unfoldable pub requests : List ℕ → ℕ → ℕ → ℕ
+unfolding setOf
+requests q n m = setOf (λ r. eqb (m % getD q r 0) 0) n
+
+-- periods in rows, by rank; s slots, so many rows
+unfoldable pub given : List ℕ → ℕ → ℕ → ℕ → Asked
+given q n s rows = record { vars = n; period = λ r. getD q r 0; slots = s; rows = rows }
+
+-- the variables that miss at the row of the earliest miss; none where nobody misses
+unfoldable pub missing : Asked → ℕ
+unfolding missRow late
+missing A = when (leb (missRow A byRank) (A .rows)) (late A byRank (missRow A byRank))
+
+-- ---- From the bytes of a sheet to these arrays
+
+-- what the first record and n variables behind it say
+unfoldable pub sheetIn : List ℕ → ℕ → Sheet
+unfolding sheetOf recordsOf
+sheetIn s n = sheetOf (recordsOf s (suc n))
+
+-- these bytes are a WorldFIP sheet of n variables, and the first of them stands at a place
+pub record Ready (s : List ℕ) (first n : ℕ) : Type 0 where
+  pub reads : reading s ≡ Read (sheetIn s n)
+  pub bus : sheetIn s n .head .kind ≡ 5
+  pub starts : first ≡ placeOf s 1
+
+-- identifiers and periods in sheet order; both are 0 behind the last
+pub record Gathered (T : Traffic) (names periods : List ℕ) : Type 0 where
+  pub names-long : length names ≡ 64
+  pub periods-long : length periods ≡ 64
+  pub names-are : (i : ℕ) → getD names i 0 ≡ T .variable (i + 1) .identifier
+  pub periods-are : (i : ℕ) → getD periods i 0 ≡ T .variable (i + 1) .period
