@@ -4,8 +4,9 @@ use mathlib.Core.List.{List, [], _∷_, _++_, append-assoc}
 use Prim.Native.Nat.{ℕ, zero, suc, _+_, _-_, _≤_, _<_}
 use native.Mathlib.Numerals.{add-one}
 use native.Mathlib.Omega.{arith}
-use lib.ListN.{length, getD, take, drop, set, length-append, length-drop, length-set}
-use lib.Seq.{take-suc, take-all, drop-cons, set-at}
+use native.Mathlib.Decide.{ℕ-discrete}
+use lib.ListN.{length, getD, take, drop, set, length-append, length-drop, length-set, List·getD-append}
+use lib.Seq.{take-suc, take-all, drop-cons, set-at, getD-at, getD-set-same, getD-set-other, ext-getD}
 use Rattle.common.specs.Runs.{tab, filled}
 
 module _ (f : ℕ → ℕ) where
@@ -33,6 +34,37 @@ module _ (f : ℕ → ℕ) where
 pub filled-step : (f : ℕ → ℕ) (d l : List ℕ) (n x : ℕ) → l ≡ filled f n d → x ≡ f n → n < length d → set l n x ≡ filled f (n + 1) d
 filled-step f d l n x e q h = rw (e, q) (filled-more f n d h)
 
+-- ---- Each place by itself
+
+pub getD-tab : (f : ℕ → ℕ) (n k : ℕ) → k < n → getD (tab f n) k 0 ≡ f k
+unfolding tab
+getD-tab f zero k l = absurd (omega arith)
+getD-tab f (suc n) k l = last (ℕ-discrete k n) (getD-tab f n k)
+  where
+    last : Dec (k ≡ n) → (k < n → getD (tab f n) k 0 ≡ f k) → getD (tab f n ++ (f n ∷ [])) k 0 ≡ f k
+    last (yes e) ih = rw e (getD-at (tab f n) (f n) [] 0 n (length-tab f n))
+    last (no e) ih =
+        let m : k < length (tab f n) = omega (arith, e, length-tab f n) in
+        List·getD-append (tab f n) (f n ∷ []) 0 k m ∙ ih (omega (arith, e))
+
+-- a store that makes of the run by f the run by g
+pub tab-set : (f g : ℕ → ℕ) (n k x : ℕ) → k < n → x ≡ g k → ((y : ℕ) → y < n → (y ≡ k → ⊥) → f y ≡ g y) → set (tab f n) k x ≡ tab g n
+tab-set f g n k x l e other =
+    ext-getD 0 (set (tab f n) k x) (tab g n) (rw (length-set, length-tab f n, length-tab g n))
+    (λ y h. let m : y < n = omega (arith, length-set (tab f n) k x, length-tab f n) in at y m (ℕ-discrete y k))
+  where
+    at : (y : ℕ) → y < n → Dec (y ≡ k) → getD (set (tab f n) k x) y 0 ≡ getD (tab g n) y 0
+    at y m (yes q) =
+        let i : k < length (tab f n) = omega (arith, length-tab f n) in
+        rw q (getD-set-same (tab f n) k x 0 i ∙ (e ∙ sym (getD-tab g n k l)))
+    at y m (no q) = getD-set-other (tab f n) k y x 0 q ∙ (getD-tab f n y m ∙ (other y m q ∙ sym (getD-tab g n y m)))
+
+-- figures that agree below n fill a run alike
+pub tab-same : (f g : ℕ → ℕ) (n : ℕ) → ((i : ℕ) → i < n → f i ≡ g i) → tab f n ≡ tab g n
+unfolding tab
+tab-same f g zero e = refl
+tab-same f g (suc n) e = rw (e n (omega arith), tab-same f g n (λ i l. e i (omega arith)))
+
 -- a run on its way: its first n places are filled, and it is as long as it was
 pub record Filling (f : ℕ → ℕ) (n : ℕ) (old run : List ℕ) : Type 0 where
   pub is : run ≡ filled f n old
@@ -47,12 +79,6 @@ filling-more {f} {n} {old} {run} x r h q =
 
 pub filling-done : {f : ℕ → ℕ} {m : ℕ} {old run : List ℕ} (n : ℕ) → Filling f m old run → m ≡ n → run ≡ filled f n old
 filling-done {f} {m} {old} {run} n r e = r .is ∙ ap (λ (x : ℕ). filled f x old) e
-
--- figures that agree below n fill a run alike
-tab-same : (f g : ℕ → ℕ) (n : ℕ) → ((i : ℕ) → i < n → f i ≡ g i) → tab f n ≡ tab g n
-unfolding tab
-tab-same f g zero e = refl
-tab-same f g (suc n) e = rw (e n (omega arith), tab-same f g n (λ i l. e i (omega arith)))
 
 pub filled-same : (f g : ℕ → ℕ) (n : ℕ) (d : List ℕ) → ((i : ℕ) → i < n → f i ≡ g i) → filled f n d ≡ filled g n d
 unfolding filled

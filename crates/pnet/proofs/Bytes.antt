@@ -9,7 +9,9 @@ use Rattle.format.specs.declared.Met.{Met}
 use Rattle.format.specs.declared.Record.{Record}
 use Rattle.format.specs.Kinds.{nothing, metAt}
 use Rattle.sheet.specs.Sheets.{Sheet}
-use Rattle.sheet.specs.Whole.{Outcome, placeOf, reading}
+use Rattle.sheet.specs.declared.Reading.the-variants as answer
+use Rattle.sheet.specs.Whole.{Outcome, placeOf, reading, told}
+use Rattle.sheet.specs.Whole.Outcome.{Read, Not}
 use Rattle.sheet.proofs.Known.{Known, reading-read}
 use Rattle.segment.specs.Segment.{Segment, Stream, streamOf, streamAt, segmentOf}
 use Rattle.segment.specs.Limits.{Ranged, Declared}
@@ -44,3 +46,26 @@ module _ {s : List ℕ} {n first : ℕ} (p : Pnet s n first) where
         stream = ap (λ (x : Met). streamOf (x .found)) m ∙ (ap streamOf (known .met i l') ∙ ap (λ (x : ℕ). streamOf (getD (sheetIn (reading s) .streams) x nothing)) (sym b));
         next = ap (λ (x : Met). x .next) m ∙ (known .next i l' ∙ ap (λ (x : ℕ). placeOf s (suc x)) a);
       }
+
+-- ---- What the reader answers
+
+-- a sheet, with its first record, the number of its streams and the place of the first of them
+pub record Told (s : List ℕ) (o : Outcome) (h : Record) (n first : ℕ) : Type 0 where
+  pub reads : o ≡ Read (sheetIn o)
+  pub head : sheetIn o .head ≡ h
+  pub number : n ≡ length (sheetIn o .streams)
+  pub place : first ≡ placeOf s 1
+
+pub told-read : (s : List ℕ) (o : Outcome) (h : Record) (n first : ℕ) → answer.Accepted h n first ≡ told s o → Told s o h n first
+told-read s (Read H) h n first e = record { reads = refl; head = cc; number = cc; place = cc }
+told-read s (Not x p) h n first e = let z : _≡_ {A = ℕ} 0 1 = cc in absurd (omega arith)
+
+pub told-unread : (s : List ℕ) (o : Outcome) (n p : ℕ) → answer.Refused n p ≡ told s o → o ≡ Not n p
+told-unread s (Read H) n p e = let z : _≡_ {A = ℕ} 0 1 = cc in absurd (omega arith)
+told-unread s (Not x q) n p e = cc
+
+-- of the kind 1: what the code of a segment goes by
+pub told-pnet : (s : List ℕ) (h : Record) (n first : ℕ) → Told s (reading s) h n first → h .kind ≡ 1 → Pnet s n first × (h .a ≡ segmentIn s .masters)
+unfolding segmentIn segmentOf
+told-pnet s h n first t k =
+    (record { reads = t .reads; kind = ap (λ (r : Record). r .kind) (t .head) ∙ k; number = t .number; place = t .place }, ap (λ (r : Record). r .a) (sym (t .head)))

@@ -2,3 +2,4 @@ pub mod Arrays
 pub mod Gathering
 pub mod Bytes
 pub mod Tied
+pub mod Cases

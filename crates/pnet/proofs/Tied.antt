@@ -14,7 +14,7 @@ use Rattle.segment.specs.Segment.{Segment, owns, count, hold, turnBy, boundBy, 
 use Rattle.segment.specs.Refined.{saving, rightBy, valueOf, roundsOf, mostRounds, asked, right, rounds, refined}
 use Rattle.segment.specs.Limits.{Declared}
 use Rattle.segment.proofs.Holds.{hold-at-least, hold-at-most}
-use Rattle.pnet.specs.Plan.{firstLate}
+use Rattle.pnet.specs.Planned.{firstLate}
 use Rattle.pnet.specs.Arrays.{at, Gathered, askedIn, turnIn, boundIn, lateIn, savedIn, rightIn, roundsIn, refinedIn, Spaced, Served, Kept}
 
 module _ {S : Segment} (d : Declared S) {masters deadlines counts holds spacings : List ℕ} (g : Gathered S masters deadlines counts holds spacings) where

@@ -1,2 +1,2 @@
 pub mod Arrays
-pub mod Plan
+pub mod Planned

@@ -1,18 +1,18 @@
 // The P-NET planner, page 01 'P-NET bounds'.
+pub mod answer;
+
+pub use answer::Plan;
+use sheet::Reading;
 ghost use mathlib.Core.Path.{_≡_};
 ghost use Prim.Native.Nat.{ℕ, _+_, _*_, _≤_, _<_, min, max};
 ghost use lib.ListN.{length};
 ghost use Rattle.common.specs.Runs.{filled};
 ghost use Rattle.common.specs.Sums.{firstOf};
-ghost use Rattle.pnet.specs.Plan.{planned, planOf, atPlace, runOf};
+ghost use Rattle.segment.specs.Segment;
+ghost use Rattle.segment.specs.Refined;
+ghost use Rattle.pnet.specs.Planned.{planned, planOf, atPlace, runOf};
 ghost use Rattle.pnet.specs.Arrays.{part, Gathered, segmentIn, Pnet};
 ghost use Rattle.pnet.specs.Arrays.{at, askedIn, turnIn, boundIn, lateIn, savedIn, rightIn, roundsIn, refinedIn, Spaced, Served, Kept};
-
-// What the planner answers: the masters and the streams of the sheet, or the refusal's number and place.
-pub enum Plan {
-    Accepted { masters: usize, streams: usize },
-    Refused { no: u8, place: usize },
-}
 
 // W of a master, and its rounds.
 struct Found {
@@ -209,5 +209,76 @@ fn fill(
         refined[i] = found.refined;
         rounds[i] = found.rounds;
         i += 1;
+    }
+}
+
+// The plan of a P-NET sheet with n masters and `streams` streams, the first at a place, where the runs are long enough.
+fn plan_segment(
+    s: &[u8],
+    n: usize,
+    streams: usize,
+    first: usize,
+    bound: &mut [u32],
+    refined: &mut [u32],
+    rounds: &mut [u32],
+) -> Plan
+    requires { ⌜ Pnet (now s) streams first × (n ≡ segmentIn (now s) .masters) ⌝ }
+    requires { ⌜ (n ≤ length (now bound)) × (n ≤ length (now refined)) × (n ≤ length (now rounds)) ⌝ }
+    ensures { λ r. ⌜ r ≡ planOf (planned (now (s .entry)) (length (now (bound .entry))) (length (now (refined .entry))) (length (now (rounds .entry)))) ⌝ }
+    ensures { λ r. ⌜ now (bound .exit) ≡ runOf (planned (now (s .entry)) (length (now (bound .entry))) (length (now (refined .entry))) (length (now (rounds .entry)))) Segment.bound (now (bound .entry)) ⌝ }
+    ensures { λ r. ⌜ now (refined .exit) ≡ runOf (planned (now (s .entry)) (length (now (bound .entry))) (length (now (refined .entry))) (length (now (rounds .entry)))) Refined.refined (now (refined .entry)) ⌝ }
+    ensures { λ r. ⌜ now (rounds .exit) ≡ runOf (planned (now (s .entry)) (length (now (bound .entry))) (length (now (refined .entry))) (length (now (rounds .entry)))) Refined.rounds (now (rounds .entry)) ⌝ }
+{
+    let mut masters = [0u8; 800];
+    let mut deadlines = [0u32; 800];
+    let mut counts = [0u32; 33];
+    let mut holds = [10u32; 33];
+    let mut spacings = [0u32; 2640];
+    gather(
+        s,
+        first,
+        streams,
+        &mut masters,
+        &mut deadlines,
+        &mut counts,
+        &mut holds,
+        &mut spacings,
+    );
+    let turn = turn_of(&holds, n);
+    let late = first_late(&masters, &deadlines, &counts, streams, turn);
+    if late <= streams {
+        return Plan::Refused { no: 8, place: late };
+    }
+    fill(&counts, &holds, &spacings, n, turn, bound, refined, rounds);
+    Plan::Accepted {
+        masters: n,
+        streams,
+    }
+}
+
+// The plan of a sheet: R, W and rounds of masters 1..N into the first N places of the three runs, which keep what they had on a refusal.
+pub fn plan(s: &[u8], bound: &mut [u32], refined: &mut [u32], rounds: &mut [u32]) -> Plan
+    ensures { λ r. ⌜ r ≡ planOf (planned (now (s .entry)) (length (now (bound .entry))) (length (now (refined .entry))) (length (now (rounds .entry)))) ⌝ }
+    ensures { λ r. ⌜ now (bound .exit) ≡ runOf (planned (now (s .entry)) (length (now (bound .entry))) (length (now (refined .entry))) (length (now (rounds .entry)))) Segment.bound (now (bound .entry)) ⌝ }
+    ensures { λ r. ⌜ now (refined .exit) ≡ runOf (planned (now (s .entry)) (length (now (bound .entry))) (length (now (refined .entry))) (length (now (rounds .entry)))) Refined.refined (now (refined .entry)) ⌝ }
+    ensures { λ r. ⌜ now (rounds .exit) ≡ runOf (planned (now (s .entry)) (length (now (bound .entry))) (length (now (refined .entry))) (length (now (rounds .entry)))) Refined.rounds (now (rounds .entry)) ⌝ }
+{
+    let read = sheet::read(s);
+    match read {
+        Reading::Refused { no, place } => Plan::Refused { no, place },
+        Reading::Accepted {
+            head,
+            streams,
+            first,
+        } => {
+            if head.kind != 1 {
+                return Plan::Refused { no: 3, place: 0 };
+            }
+            let n = head.a as usize;
+            if bound.len() < n || refined.len() < n || rounds.len() < n {
+                return Plan::Refused { no: 13, place: n };
+            }
+            plan_segment(s, n, streams, first, bound, refined, rounds)
+        }
     }
 }

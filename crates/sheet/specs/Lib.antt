@@ -1,3 +1,5 @@
+pub mod Lengths
+pub mod Records
 pub mod Refusals
 pub mod Sheets
 pub mod Steps

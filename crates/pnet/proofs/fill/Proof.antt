@@ -5,14 +5,11 @@ use native.Mathlib.Omega.{arith}
 use borrow.Author.Needs.{needs}
 use lib.ListN.{length, length-set}
 use Rattle.common.proofs.Runs.{Filling, filling-none, filling-more, filling-done}
-use Rattle.pnet.specs.Plan.{atPlace}
+use Rattle.pnet.specs.Planned.{atPlace}
 use Rattle.pnet.specs.Arrays.{boundIn, refinedIn, roundsIn}
 use Rattle.pnet.proofs.Arrays.{bound-is, bound-small}
 use Rattle.pnet.proofs.fill.Statement.{statement}
 use Rattle.pnet.proofs.fill.Tie as tie
-use Rattle.pnet.proofs.fill.Reads as reads
-use Rattle.pnet.proofs.fill.Lts as lts
-use Rattle.pnet.proofs.search.Reads as search-reads
 
 abbrev Inv-loop : tie.InvT-loop
 Inv-loop counts holds spacings n turn bound₀ refined₀ rounds₀ i₀ bound refined rounds i = (i ≤ n) × Filling (atPlace (boundIn counts holds n)) i bound₀ bound × Filling (atPlace (refinedIn counts holds spacings n)) i refined₀ refined × Filling (atPlace (roundsIn counts holds spacings n)) i rounds₀ rounds
@@ -20,23 +17,18 @@ Inv-loop counts holds spacings n turn bound₀ refined₀ rounds₀ i₀ bound r
 abbrev μ-loop : tie.MeasureT-loop
 μ-loop counts holds spacings n turn bound₀ refined₀ rounds₀ i₀ bound refined rounds i = n - i
 
--- src/lib.rt:88:5
 loop-holds : tie.Need-loop-holds Inv-loop μ-loop
 loop-holds c = (search needs, filling-none _ _, filling-none _ _, filling-none _ _)
 
--- src/lib.rt:89:24
 add-r : tie.Need-add-r Inv-loop μ-loop
 add-r c = omega (arith, c .before .before .before .before .before .pre .0 .1 .few)
 
--- src/lib.rt:89:17
 mul-r : tie.Need-mul-r Inv-loop μ-loop
 mul-r c = omega (arith, c .before .before .before .before .before .pre .0 .1 .few)
 
--- src/lib.rt:89:17
 element-copy-out-r : tie.Need-element-copy-out-r Inv-loop μ-loop
 element-copy-out-r c = omega (arith, c .before .before .before .before .before .pre .0 .1 .few)
 
--- src/lib.rt:89:17
 mul-r-2 : tie.Need-mul-r-2 Inv-loop μ-loop
 mul-r-2 c =
     let a = c .before .before .before .before .before .before .args in
@@ -44,11 +36,9 @@ mul-r-2 c =
     let k = c .before .before .loop .i + 1 in
     omega (arith, bound-is (a .counts .now) (a .holds .now) (a .n) k (a .turn) (p .0), bound-small (a .counts .now) (a .holds .now) (a .spacings .now) (a .n) k (p .1) (omega arith) (omega arith))
 
--- src/lib.rt:90:56
 add-search : tie.Need-add-search Inv-loop μ-loop
 add-search c = search needs
 
--- src/lib.rt:90:13
 search-requires : tie.Need-search-requires Inv-loop μ-loop
 search-requires c κs =
     let a = c .before .before .before .before .before .before .args in
@@ -56,39 +46,30 @@ search-requires c κs =
     let k = c .before .before .loop .i + 1 in
     (search needs, search needs, bound-is (a .counts .now) (a .holds .now) (a .n) k (a .turn) (p .0), p .1)
 
--- src/lib.rt:91:9
 mul-bound : tie.Need-mul-bound Inv-loop μ-loop
 mul-bound c = search needs
 
--- src/lib.rt:91:9
 slice-write-bound : tie.Need-slice-write-bound Inv-loop μ-loop
 slice-write-bound c = search needs
 
--- src/lib.rt:92:9
 mul-refined : tie.Need-mul-refined Inv-loop μ-loop
 mul-refined c = search needs
 
--- src/lib.rt:92:9
 slice-write-refined : tie.Need-slice-write-refined Inv-loop μ-loop
 slice-write-refined c = search needs
 
--- src/lib.rt:93:9
 mul-rounds : tie.Need-mul-rounds Inv-loop μ-loop
 mul-rounds c = search needs
 
--- src/lib.rt:93:9
 slice-write-rounds : tie.Need-slice-write-rounds Inv-loop μ-loop
 slice-write-rounds c = search needs
 
--- src/lib.rt:94:9
 add-i : tie.Need-add-i Inv-loop μ-loop
 add-i c = search needs
 
--- src/lib.rt:88:5
 loop-less : tie.Need-loop-less Inv-loop μ-loop
 loop-less c = search needs
 
--- src/lib.rt:88:5
 loop-again : tie.Need-loop-again Inv-loop μ-loop
 loop-again c =
     let a = c .before .before .before .before .before .before .before .args in
@@ -100,19 +81,15 @@ loop-again c =
       filling-more _ (l .inv .3) (omega arith) (c .search .ensures .1),
     )
 
--- src/lib.rt:80:1
 same-length : tie.Need-same-length Inv-loop μ-loop
 same-length c = c .before .loop .inv .1 .long
 
--- src/lib.rt:80:1
 same-length-2 : tie.Need-same-length-2 Inv-loop μ-loop
 same-length-2 c = c .before .loop .inv .2 .long
 
--- src/lib.rt:80:1
 same-length-3 : tie.Need-same-length-3 Inv-loop μ-loop
 same-length-3 c = c .before .loop .inv .3 .long
 
--- src/lib.rt:80:1
 returns : tie.Need-returns Inv-loop μ-loop
 returns c =
     let n = c .before .before .before .before .before .args .n in

@@ -12,8 +12,6 @@ use Rattle.pnet.specs.Arrays.{at, lateIn}
 use Rattle.pnet.proofs.Arrays.{late-is}
 use Rattle.pnet.proofs.first_late.Statement.{statement}
 use Rattle.pnet.proofs.first_late.Tie as tie
-use Rattle.pnet.proofs.first_late.Reads as reads
-use Rattle.pnet.proofs.first_late.Lts as lts
 
 abbrev Inv-loop : tie.InvT-loop
 Inv-loop masters deadlines counts n turn i₀ i = (i ≤ n) × ((j : ℕ) → j < i → lateIn masters deadlines counts turn (j + 1) ≡ false)
@@ -21,15 +19,12 @@ Inv-loop masters deadlines counts n turn i₀ i = (i ≤ n) × ((j : ℕ) → j 
 abbrev μ-loop : tie.MeasureT-loop
 μ-loop masters deadlines counts n turn i₀ i = n - i
 
--- src/lib.rt:35:5
 loop-holds : tie.Need-loop-holds Inv-loop μ-loop
 loop-holds c = (search needs, below-none _)
 
--- src/lib.rt:36:17
 element-copy-out-y : tie.Need-element-copy-out-y Inv-loop μ-loop
 element-copy-out-y c = search needs
 
--- src/lib.rt:36:17
 -- the master read is one of 0..32
 inside : (c : tie.After-y Inv-loop μ-loop) → at (c .before .before .before .args .masters .now) (c .before .before .loop .i) ≤ 32
 inside c = c .before .before .before .pre .2 (c .before .before .loop .i) (omega arith)
@@ -37,15 +32,12 @@ inside c = c .before .before .before .pre .2 (c .before .before .loop .i) (omega
 cast-y : tie.Need-cast-y Inv-loop μ-loop
 cast-y c = omega (arith, inside c)
 
--- src/lib.rt:37:21
 mul-bound : tie.Need-mul-bound Inv-loop μ-loop
 mul-bound c = omega (arith, inside c)
 
--- src/lib.rt:37:21
 element-copy-out-bound : tie.Need-element-copy-out-bound Inv-loop μ-loop
 element-copy-out-bound c = omega (arith, inside c)
 
--- src/lib.rt:37:21
 mul-bound-2 : tie.Need-mul-bound-2 Inv-loop μ-loop
 mul-bound-2 c =
     let p = c .before .before .before .before .pre in
@@ -53,19 +45,15 @@ mul-bound-2 c =
     let y = at (a .masters .now) (c .before .before .before .loop .i) in
     omega (arith, mul-le-mul {n₁ = at (a .counts .now) y} {m₁ = a .turn} {n₂ = 80} {m₂ = 51040} (p .3 y (p .2 (c .before .before .before .loop .i) (omega arith))) (p .1))
 
--- src/lib.rt:38:24
 mul-deadline : tie.Need-mul-deadline Inv-loop μ-loop
 mul-deadline c = search needs
 
--- src/lib.rt:38:24
 element-copy-out-deadline : tie.Need-element-copy-out-deadline Inv-loop μ-loop
 element-copy-out-deadline c = search needs
 
--- src/lib.rt:40:20
 add-result : tie.Need-add-result Inv-loop μ-loop
 add-result c = search needs
 
--- src/lib.rt:40:13
 returns : tie.Need-returns Inv-loop μ-loop
 returns c =
     let a = c .before .before .before .before .before .before .args in
@@ -73,26 +61,21 @@ returns c =
     first-here (lateIn (a .masters .now) (a .deadlines .now) (a .counts .now) (a .turn)) (a .n) (l .i) (l .inv .1) (omega arith)
     (late-is (a .masters .now) (a .deadlines .now) (a .counts .now) (a .turn) (l .i) ∙ lt-ltb _ _ (c .if1 .taken))
 
--- src/lib.rt:42:9
 add-i : tie.Need-add-i Inv-loop μ-loop
 add-i c = search needs
 
--- src/lib.rt:35:5
 loop-less : tie.Need-loop-less Inv-loop μ-loop
 loop-less c = search needs
 
--- src/lib.rt:35:5
 loop-again : tie.Need-loop-again Inv-loop μ-loop
 loop-again c =
     let a = c .before .before .before .before .before .before .args in
     let l = c .before .before .before .before .before .loop in
     (search needs, below-more _ _ (l .inv .1) (late-is (a .masters .now) (a .deadlines .now) (a .counts .now) (a .turn) (l .i) ∙ le-ltb _ _ (c .if1 .left)))
 
--- src/lib.rt:44:5
 add-result-2 : tie.Need-add-result-2 Inv-loop μ-loop
 add-result-2 c = search needs
 
--- src/lib.rt:30:1
 returns-2 : tie.Need-returns-2 Inv-loop μ-loop
 returns-2 c =
     let a = c .before .before .args in

@@ -10,10 +10,6 @@ use Rattle.pnet.proofs.Bytes.{Here, here}
 use Rattle.pnet.proofs.Gathering.{Small, small, gathered-next, gathered-all}
 use Rattle.pnet.proofs.gather.Statement.{statement}
 use Rattle.pnet.proofs.gather.Tie as tie
-use Rattle.pnet.proofs.gather.Reads as reads
-use Rattle.pnet.proofs.gather.Lts as lts
-use Rattle.format.proofs.record_at.Reads as record-at-reads
-use Rattle.pnet.proofs.larger.Reads as larger-reads
 
 abbrev Inv-loop : tie.InvT-loop
 Inv-loop s first n masters₀ deadlines₀ counts₀ holds₀ spacings₀ at₀ i₀ masters deadlines counts holds spacings at i =
@@ -22,15 +18,12 @@ Inv-loop s first n masters₀ deadlines₀ counts₀ holds₀ spacings₀ at₀ 
 abbrev μ-loop : tie.MeasureT-loop
 μ-loop s first n masters₀ deadlines₀ counts₀ holds₀ spacings₀ at₀ i₀ masters deadlines counts holds spacings at i = n - i
 
--- src/lib.rt:38:5
 loop-holds : tie.Need-loop-holds Inv-loop μ-loop
 loop-holds c = (search needs, c .before .pre .0 .place, c .before .pre .1)
 
--- src/lib.rt:39:13
 record-at-requires : tie.Need-record-at-requires Inv-loop μ-loop
 record-at-requires c κs = search needs
 
--- src/lib.rt:41:17
 -- the record read is stream i + 1
 its : (c : tie.After-record-at Inv-loop μ-loop) → Here (c .before .before .before .before .args .s .now) (c .before .before .loop .i) (c .record-at .result)
 its c =
@@ -45,95 +38,72 @@ few c = small (c .before .before .before .before .pre .0) (c .before .before .lo
 cast-m : tie.Need-cast-m Inv-loop μ-loop
 cast-m c = omega (arith, few (c .before .before))
 
--- src/lib.rt:42:21
 mul-count : tie.Need-mul-count Inv-loop μ-loop
 mul-count c = omega (arith, few (c .before .before))
 
--- src/lib.rt:42:21
 element-copy-out-count : tie.Need-element-copy-out-count Inv-loop μ-loop
 element-copy-out-count c = omega (arith, few (c .before .before))
 
--- src/lib.rt:43:22
 cast-masters : tie.Need-cast-masters Inv-loop μ-loop
 cast-masters c = omega (arith, few (c .before .before .before .before))
 
--- src/lib.rt:43:9
 element-write-masters : tie.Need-element-write-masters Inv-loop μ-loop
 element-write-masters c = omega (arith, few (c .before .before .before .before))
 
--- src/lib.rt:44:9
 mul-deadlines : tie.Need-mul-deadlines Inv-loop μ-loop
 mul-deadlines c = omega (arith, few (c .before .before .before .before))
 
--- src/lib.rt:44:9
 element-write-deadlines : tie.Need-element-write-deadlines Inv-loop μ-loop
 element-write-deadlines c = omega (arith, few (c .before .before .before .before))
 
--- src/lib.rt:45:18
 mul-spacings : tie.Need-mul-spacings Inv-loop μ-loop
 mul-spacings c = omega (arith, few (c .before .before .before .before))
 
--- src/lib.rt:45:27
 cast-spacings : tie.Need-cast-spacings Inv-loop μ-loop
 cast-spacings c = omega (arith, few (c .before .before .before .before))
 
--- src/lib.rt:45:18
 add-spacings : tie.Need-add-spacings Inv-loop μ-loop
 add-spacings c = omega (arith, few (c .before .before .before .before))
 
--- src/lib.rt:45:9
 mul-spacings-2 : tie.Need-mul-spacings-2 Inv-loop μ-loop
 mul-spacings-2 c = omega (arith, few (c .before .before .before .before))
 
--- src/lib.rt:45:9
 element-write-spacings : tie.Need-element-write-spacings Inv-loop μ-loop
 element-write-spacings c = omega (arith, few (c .before .before .before .before))
 
--- src/lib.rt:46:27
 mul-larger : tie.Need-mul-larger Inv-loop μ-loop
 mul-larger c = omega (arith, few (c .before .before .before .before))
 
--- src/lib.rt:46:27
 element-copy-out-larger : tie.Need-element-copy-out-larger Inv-loop μ-loop
 element-copy-out-larger c = omega (arith, few (c .before .before .before .before))
 
--- src/lib.rt:46:37
 add-larger : tie.Need-add-larger Inv-loop μ-loop
 add-larger c = omega (arith, few (c .before .before .before .before .before .before))
 
--- src/lib.rt:46:20
 larger-requires : tie.Need-larger-requires Inv-loop μ-loop
 larger-requires c κs = search needs
 
--- src/lib.rt:46:9
 mul-holds : tie.Need-mul-holds Inv-loop μ-loop
 mul-holds c = omega (arith, few (c .before .before .before .before .before .before .before))
 
--- src/lib.rt:46:9
 element-write-holds : tie.Need-element-write-holds Inv-loop μ-loop
 element-write-holds c = omega (arith, few (c .before .before .before .before .before .before .before))
 
--- src/lib.rt:47:21
 add-counts : tie.Need-add-counts Inv-loop μ-loop
 add-counts c = omega (arith, few (c .before .before .before .before .before .before .before))
 
--- src/lib.rt:47:9
 mul-counts : tie.Need-mul-counts Inv-loop μ-loop
 mul-counts c = omega (arith, few (c .before .before .before .before .before .before .before))
 
--- src/lib.rt:47:9
 element-write-counts : tie.Need-element-write-counts Inv-loop μ-loop
 element-write-counts c = omega (arith, few (c .before .before .before .before .before .before .before))
 
--- src/lib.rt:49:9
 add-i : tie.Need-add-i Inv-loop μ-loop
 add-i c = search needs
 
--- src/lib.rt:38:5
 loop-less : tie.Need-loop-less Inv-loop μ-loop
 loop-less c = search needs
 
--- src/lib.rt:38:5
 loop-again : tie.Need-loop-again Inv-loop μ-loop
 loop-again c =
     let x = c .before .before .before .before .before .before .before in
@@ -141,7 +111,6 @@ loop-again c =
     let p = x .before .before .before .before .pre .0 in
     (search needs, its x .next, gathered-next p (l .inv .2) (omega arith) (x .record-at .result) (its x) (c .larger .result) (c .larger .ensures))
 
--- src/lib.rt:31:1
 returns : tie.Need-returns Inv-loop μ-loop
 returns c = gathered-all (c .before .before .before .pre .0) (c .before .loop .inv .2) (omega arith)
 

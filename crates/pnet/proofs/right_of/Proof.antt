@@ -9,9 +9,6 @@ use Rattle.pnet.specs.Arrays.{savedIn, rightIn}
 use Rattle.pnet.proofs.Arrays.{saved-at-most}
 use Rattle.pnet.proofs.right_of.Statement.{statement}
 use Rattle.pnet.proofs.right_of.Tie as tie
-use Rattle.pnet.proofs.right_of.Reads as reads
-use Rattle.pnet.proofs.right_of.Lts as lts
-use Rattle.pnet.proofs.saved_at.Reads as saved-at-reads
 
 abbrev Inv-loop : tie.InvT-loop
 Inv-loop counts holds spacings n k bound w saved₀ y₀ saved y = (y ≤ n) × (saved ≡ upto (savedIn counts holds spacings k w) y) × (saved ≤ 126800 * y)
@@ -19,31 +16,25 @@ Inv-loop counts holds spacings n k bound w saved₀ y₀ saved y = (y ≤ n) × 
 abbrev μ-loop : tie.MeasureT-loop
 μ-loop counts holds spacings n k bound w saved₀ y₀ saved y = n - y
 
--- src/lib.rt:47:5
 loop-holds : tie.Need-loop-holds Inv-loop μ-loop
 loop-holds c =
     let a = c .args in
     (search needs, upto-none (savedIn (a .counts .now) (a .holds .now) (a .spacings .now) (a .k) (a .w)), search needs)
 
--- src/lib.rt:48:9
 add-y : tie.Need-add-y Inv-loop μ-loop
 add-y c = omega (arith, c .before .before .pre .4 .few)
 
--- src/lib.rt:49:18
 saved-at-requires : tie.Need-saved-at-requires Inv-loop μ-loop
 saved-at-requires c κs =
     let p = c .before .before .pre in
     (omega (arith, p .4 .few), p .4 .each (c .before .before .args .k) (p .0) (p .1) .count-to, p .2, p .4 .each (c .before .loop .y + 1) (omega arith) (omega arith))
 
--- src/lib.rt:49:9
 add-saved : tie.Need-add-saved Inv-loop μ-loop
 add-saved c = omega (arith, c .before .before .before .pre .4 .few)
 
--- src/lib.rt:47:5
 loop-less : tie.Need-loop-less Inv-loop μ-loop
 loop-less c = search needs
 
--- src/lib.rt:47:5
 loop-again : tie.Need-loop-again Inv-loop μ-loop
 loop-again c =
     let a = c .before .before .before .args in
@@ -53,7 +44,6 @@ loop-again c =
       search needs,
     )
 
--- src/lib.rt:51:5
 -- after the loop: all of what is saved
 done : (c : tie.After-loop Inv-loop μ-loop) → c .before .loop .saved
     ≡ upto (savedIn (c .before .before .args .counts .now) (c .before .before .args .holds .now) (c .before .before .args .spacings .now) (c .before .before .args .k) (c .before .before .args .w)) (c .before .before .args .n)
@@ -67,7 +57,6 @@ sub-result c =
     let a = c .before .before .args in
     omega (arith, done c, saved-at-most (a .counts .now) (a .holds .now) (a .spacings .now) (a .n) (a .k) (c .before .before .pre .4) (a .w))
 
--- src/lib.rt:41:1
 returns : tie.Need-returns Inv-loop μ-loop
 unfolding rightIn
 returns c =

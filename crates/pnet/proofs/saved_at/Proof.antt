@@ -5,63 +5,47 @@ use Rattle.pnet.proofs.Arrays.{saved-own, saved-other, saved-small}
 use borrow.Author.Needs.{needs}
 use Rattle.pnet.proofs.saved_at.Statement.{statement}
 use Rattle.pnet.proofs.saved_at.Tie as tie
-use Rattle.pnet.proofs.saved_at.Reads as reads
-use Rattle.pnet.proofs.saved_at.Lts as lts
-use Rattle.pnet.proofs.visits.Reads as visits-reads
 
--- src/lib.rt:32:9
 returns : tie.Need-returns
 returns c =
     let a = c .before .args in
     (saved-own (a .counts .now) (a .holds .now) (a .spacings .now) (a .k) (a .w) (a .y) (c .if1 .taken), search needs)
 
--- src/lib.rt:34:13
 mul-s : tie.Need-mul-s
 mul-s c = search needs
 
--- src/lib.rt:34:13
 element-copy-out-s : tie.Need-element-copy-out-s
 element-copy-out-s c = search needs
 
--- src/lib.rt:35:13
 mul-n : tie.Need-mul-n
 mul-n c = search needs
 
--- src/lib.rt:35:13
 element-copy-out-n : tie.Need-element-copy-out-n
 element-copy-out-n c = search needs
 
--- src/lib.rt:35:13
 cast-n : tie.Need-cast-n
 cast-n c = search needs
 
--- src/lib.rt:36:16
 mul-hold : tie.Need-mul-hold
 mul-hold c = search needs
 
--- src/lib.rt:36:16
 element-copy-out-hold : tie.Need-element-copy-out-hold
 element-copy-out-hold c = search needs
 
--- src/lib.rt:37:9
 visits-requires : tie.Need-visits-requires
 visits-requires c κs = search needs
 
--- src/lib.rt:38:6
 sub-result : tie.Need-sub-result
 sub-result c = search needs
 
--- src/lib.rt:38:16
 sub-result-2 : tie.Need-sub-result-2
 sub-result-2 c = search needs
 
--- src/lib.rt:38:5
 mul-result : tie.Need-mul-result
 mul-result c =
     let a = c .before .before .before .before .before .args in
     omega (arith, saved-small (at (a .counts .now) (a .k)) (c .visits .result) (at (a .holds .now) (a .y)) (search needs) (search needs))
 
--- src/lib.rt:27:1
 returns-2 : tie.Need-returns-2
 returns-2 c =
     let a = c .before .before .before .before .before .args in (

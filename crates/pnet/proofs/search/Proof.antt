@@ -9,9 +9,6 @@ use Rattle.pnet.specs.Arrays.{at, rightIn}
 use Rattle.pnet.proofs.Arrays.{moving-small, moving-few, rounds-small, found}
 use Rattle.pnet.proofs.search.Statement.{statement}
 use Rattle.pnet.proofs.search.Tie as tie
-use Rattle.pnet.proofs.search.Reads as reads
-use Rattle.pnet.proofs.search.Lts as lts
-use Rattle.pnet.proofs.right_of.Reads as right-of-reads
 
 abbrev Inv-loop : tie.InvT-loop
 Inv-loop counts holds spacings n k bound w₀ rounds₀ w rounds = Moving (rightIn counts holds spacings n k) rounds w
@@ -19,11 +16,9 @@ Inv-loop counts holds spacings n k bound w₀ rounds₀ w rounds = Moving (right
 abbrev μ-loop : tie.MeasureT-loop
 μ-loop counts holds spacings n k bound w₀ rounds₀ w rounds = 2 + (n - 1) * at counts k - rounds
 
--- src/lib.rt:67:5
 loop-holds : tie.Need-loop-holds Inv-loop μ-loop
 loop-holds c = moving-none (rightIn (c .args .counts .now) (c .args .holds .now) (c .args .spacings .now) (c .args .n) (c .args .k))
 
--- src/lib.rt:68:13
 right-of-requires : tie.Need-right-of-requires Inv-loop μ-loop
 right-of-requires c κs =
     let a = c .before .args in
@@ -31,7 +26,6 @@ right-of-requires c κs =
     let small = moving-small (a .counts .now) (a .holds .now) (a .spacings .now) (a .n) (a .k) (p .3) (p .0) (p .1) (c .loop .rounds) (c .loop .w) (c .loop .inv) in
     (p .0, p .1, small, p .2, p .3)
 
--- src/lib.rt:70:13
 returns : tie.Need-returns Inv-loop μ-loop
 returns c =
     let a = c .before .before .before .args in
@@ -39,7 +33,6 @@ returns c =
     let l = c .before .before .loop in
     found (a .counts .now) (a .holds .now) (a .spacings .now) (a .n) (a .k) (p .3) (p .0) (p .1) (l .rounds) (l .w) (c .before .right-of .result) (l .inv) (c .before .right-of .ensures) (c .if1 .taken)
 
--- src/lib.rt:73:9
 few : (c : tie.Else1 Inv-loop μ-loop) → c .before .before .loop .rounds ≤ 1 + (c .before .before .before .args .n - 1) * at (c .before .before .before .args .counts .now) (c .before .before .before .args .k)
 few c =
     let a = c .before .before .before .args in
@@ -53,11 +46,9 @@ add-rounds c =
     let p = c .before .before .before .pre in
     omega (arith, few c, rounds-small (a .counts .now) (a .holds .now) (a .spacings .now) (a .n) (a .k) (p .3) (p .0) (p .1))
 
--- src/lib.rt:67:5
 loop-less : tie.Need-loop-less Inv-loop μ-loop
 loop-less c = omega (arith, few c)
 
--- src/lib.rt:67:5
 loop-again : tie.Need-loop-again Inv-loop μ-loop
 loop-again c =
     let a = c .before .before .before .args in

@@ -8,8 +8,6 @@ use Rattle.common.proofs.Sums.{upto-none, upto-more}
 use Rattle.pnet.specs.Arrays.{at, turnIn}
 use Rattle.pnet.proofs.turn_of.Statement.{statement}
 use Rattle.pnet.proofs.turn_of.Tie as tie
-use Rattle.pnet.proofs.turn_of.Reads as reads
-use Rattle.pnet.proofs.turn_of.Lts as lts
 
 abbrev Inv-loop : tie.InvT-loop
 Inv-loop holds n turn₀ y₀ turn y = (y ≤ n) × (turn ≡ upto (at holds) y) × (turn ≤ 1595 * y)
@@ -17,31 +15,24 @@ Inv-loop holds n turn₀ y₀ turn y = (y ≤ n) × (turn ≡ upto (at holds) y)
 abbrev μ-loop : tie.MeasureT-loop
 μ-loop holds n turn₀ y₀ turn y = n - y
 
--- src/lib.rt:22:5
 loop-holds : tie.Need-loop-holds Inv-loop μ-loop
 loop-holds c = (search needs, upto-none (at (c .args .holds .now)), search needs)
 
--- src/lib.rt:23:9
 add-y : tie.Need-add-y Inv-loop μ-loop
 add-y c = search needs
 
--- src/lib.rt:24:17
 mul-turn : tie.Need-mul-turn Inv-loop μ-loop
 mul-turn c = search needs
 
--- src/lib.rt:24:17
 element-copy-out-turn : tie.Need-element-copy-out-turn Inv-loop μ-loop
 element-copy-out-turn c = search needs
 
--- src/lib.rt:24:9
 add-turn : tie.Need-add-turn Inv-loop μ-loop
 add-turn c = omega (arith, c .before .before .before .pre .1 (c .before .before .loop .y + 1) (omega arith) (omega arith))
 
--- src/lib.rt:22:5
 loop-less : tie.Need-loop-less Inv-loop μ-loop
 loop-less c = search needs
 
--- src/lib.rt:22:5
 loop-again : tie.Need-loop-again Inv-loop μ-loop
 loop-again c = (
   search needs,
@@ -49,7 +40,6 @@ loop-again c = (
   omega (arith, c .before .before .before .pre .1 (c .before .before .loop .y + 1) (omega arith) (omega arith)),
 )
 
--- src/lib.rt:16:1
 returns : tie.Need-returns Inv-loop μ-loop
 unfolding turnIn
 returns c =

@@ -12,8 +12,8 @@ use Rattle.sheet.specs.Sheets.{Sheet}
 use Rattle.sheet.specs.Whole.{Outcome, orElse, reading}
 use Rattle.sheet.specs.Whole.Outcome.{Read, Not}
 use Rattle.segment.specs.Segment.{Segment, segmentOf, late}
-use Rattle.pnet.specs.declared.Plan.{Plan}
-use Rattle.pnet.specs.declared.Plan.the-variants as answer
+use Rattle.pnet.specs.declared.answer.Plan.{Plan}
+use Rattle.pnet.specs.declared.answer.Plan.the-variants as answer
 
 -- the first stream whose R is above its D, and the number past the last where there is none
 unfoldable pub firstLate : Segment → ℕ

@@ -1,0 +1,99 @@
+-- What a pass over the streams meets: stream after stream of the sheet's ring, and each master's count. Assumes nothing.
+use mathlib.Core.Path.{_≡_, refl, sym, ap, _∙_}
+use mathlib.Core.List.{List}
+use Prim.Native.Nat.{ℕ, zero, suc, _+_, _-_, _≤_, _<_}
+use native.Mathlib.Numerals.{add-one}
+use native.Mathlib.Omega.{arith}
+use borrow.Author.Tests.{ne-eqb}
+use lib.ListN.{length}
+use Rattle.common.specs.Runs.{tab}
+use Rattle.common.proofs.Runs.{tab-same}
+use Rattle.format.specs.declared.Met.{Met}
+use Rattle.format.specs.declared.Record.{Record}
+use Rattle.format.specs.Kinds.{nothing, metAt}
+use Rattle.sheet.specs.Sheets.{Sheet, streamsOf, sheetOf}
+use Rattle.sheet.specs.Whole.{placeOf, recordsOf, reading, told, streamsOfMaster, countsTold, Outcome}
+use Rattle.sheet.specs.Whole.Outcome.{Read, Not}
+use Rattle.sheet.specs.declared.Reading.the-variants as answer
+use Rattle.sheet.proofs.Walk.{length-streams}
+use Rattle.sheet.proofs.Known.{Known, reading-read}
+use Rattle.ring.specs.Ring.{Ring, Stream, streamOf, streamAt, ringOf, On, owns, count, Declared}
+use Rattle.ring.proofs.Declared.{declared, counted}
+use Rattle.profibus.specs.Planned.{sheetIn, Ready}
+
+-- ---- From the reader's answer
+
+-- the answer `Accepted head n first`: the first record and n streams behind it are the whole sheet
+pub record Taken (s : List ℕ) (head : Record) (n first : ℕ) : Type 0 where
+  pub reads : reading s ≡ Read (sheetIn s n)
+  pub begins : head ≡ sheetIn s n .head
+  pub starts : first ≡ placeOf s 1
+
+pub taken : (s : List ℕ) (h : Record) (n f : ℕ) → told s (reading s) ≡ answer.Accepted h n f → Taken s h n f
+unfolding sheetIn
+taken s h n f e = split (reading s) refl e
+  where
+    split : (o : Outcome) → reading s ≡ o → told s o ≡ answer.Accepted h n f → Taken s h n f
+    split (Read S) q a =
+        let eh : h ≡ S .head = cc in
+        let en : length (S .streams) ≡ n = cc in
+        let ef : f ≡ placeOf s 1 = cc in
+        let w : S ≡ sheetIn s n = rw (← en) (reading-read s S q .says) in
+        record { reads = q ∙ ap Read w; begins = eh ∙ ap (λ (x : Sheet). x .head) w; starts = ef }
+    split (Not no' p) q a = let z : _≡_ {A = ℕ} 0 1 = cc in absurd (omega arith)
+
+pub not-taken : (s : List ℕ) (x p : ℕ) → told s (reading s) ≡ answer.Refused x p → reading s ≡ Not x p
+not-taken s x p e = split (reading s) refl e
+  where
+    split : (o : Outcome) → reading s ≡ o → told s o ≡ answer.Refused x p → reading s ≡ Not x p
+    split (Read S) q a = let z : _≡_ {A = ℕ} 0 1 = cc in absurd (omega arith)
+    split (Not y r) q a = let ex : y ≡ x = cc in let ep : r ≡ p = cc in cc
+
+-- ---- Stream after stream
+
+-- a record that was met is stream i of the ring, and behind it stands record i + 1
+pub record Stepped (s : List ℕ) (R : Ring) (i : ℕ) (m : Met) : Type 0 where
+  pub on : On R i
+  pub master : m .found .a ≡ R .stream i .master
+  pub cycle : m .found .b ≡ R .stream i .cycle
+  pub deadline : m .found .c ≡ R .stream i .deadline
+  pub small : m .found .a < 33
+  pub next : m .next ≡ placeOf s (suc i)
+
+module _ (s : List ℕ) (first n : ℕ) (ready : Ready s first n) where
+  known : Known s (sheetIn s n)
+  known = reading-read s (sheetIn s n) (ready .reads)
+
+  pub ready-declared : Declared (ringOf (sheetIn s n))
+  ready-declared = declared s (sheetIn s n) known (ready .bus)
+
+  pub ready-number : ringOf (sheetIn s n) .number ≡ n
+  unfolding ringOf sheetIn sheetOf
+  ready-number = length-streams s n
+
+  pub stepped : (i at : ℕ) (m : Met) → i < n → at ≡ placeOf s (suc i) → m ≡ metAt s at → Stepped s (ringOf (sheetIn s n)) (i + 1) m
+  unfolding ringOf streamAt
+  stepped i at m l e q =
+      let l' : i < length (sheetIn s n .streams) = omega (arith, ready-number) in
+      let q' : m ≡ metAt s (placeOf s (suc i)) = q ∙ ap (metAt s) e in
+      let p : i + 1 - 1 ≡ i = omega arith in
+      let on : On (ringOf (sheetIn s n)) (i + 1) = (omega arith, omega (arith, ready-number)) in
+      let e' : streamOf (m .found) ≡ ringOf (sheetIn s n) .stream (i + 1) = rw (p, ← (known .met i l'), q') in
+      let a = ap (λ (x : Stream). x .master) e' in
+      record {
+        on = on;
+        master = a;
+        cycle = ap (λ (x : Stream). x .cycle) e';
+        deadline = ap (λ (x : Stream). x .deadline) e';
+        small = omega (arith, a, ready-declared .master-in (i + 1) on, ready-declared .masters-in);
+        next = rw (add-one i, q') (known .next i l');
+      }
+
+  -- the counts that reading hands over are each master's h
+  pub ready-counts : (old : List ℕ) → countsTold (reading s) old ≡ tab (count (ringOf (sheetIn s n))) 33
+  unfolding countsTold streamsOfMaster count owns ringOf
+  ready-counts old =
+      let S = sheetIn s n in
+      let other : S .head .kind ≡ 5 → ⊥ = λ e. omega (arith, ready .bus) in
+      rw (ready .reads, ne-eqb (S .head .kind) 5 other)
+      (tab-same (streamsOfMaster S) (count (ringOf S)) 33 (λ k l. sym (counted k (S .streams))))

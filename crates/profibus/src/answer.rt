@@ -1,0 +1,16 @@
+// Bit periods of a PROFIBUS ring. They are never converted: a ring's bit rate is not on its sheet.
+pub struct RingPeriods(pub u32);
+
+// What the planner answers.
+pub enum Plan {
+    // The largest TTR, and the first stream that fails at TTR + 1.
+    Target {
+        rotation: RingPeriods,
+        stream: usize,
+    },
+    // The refusal's number, and its place.
+    Refused {
+        no: u8,
+        place: usize,
+    },
+}

@@ -1,0 +1,1 @@
+// The PROFIBUS rules of page 01 as definitions and laws; no code.
