@@ -59,6 +59,12 @@ tab-set f g n k x l e other =
         rw q (getD-set-same (tab f n) k x 0 i ∙ (e ∙ sym (getD-tab g n k l)))
     at y m (no q) = getD-set-other (tab f n) k y x 0 q ∙ (getD-tab f n y m ∙ (other y m q ∙ sym (getD-tab g n y m)))
 
+-- figures that agree below n fill a run alike
+pub tab-same : (f g : ℕ → ℕ) (n : ℕ) → ((i : ℕ) → i < n → f i ≡ g i) → tab f n ≡ tab g n
+unfolding tab
+tab-same f g zero e = refl
+tab-same f g (suc n) e = rw (e n (omega arith), tab-same f g n (λ i l. e i (omega arith)))
+
 -- a run on its way: its first n places are filled, and it is as long as it was
 pub record Filling (f : ℕ → ℕ) (n : ℕ) (old run : List ℕ) : Type 0 where
   pub is : run ≡ filled f n old
@@ -73,12 +79,6 @@ filling-more {f} {n} {old} {run} x r h q =
 
 pub filling-done : {f : ℕ → ℕ} {m : ℕ} {old run : List ℕ} (n : ℕ) → Filling f m old run → m ≡ n → run ≡ filled f n old
 filling-done {f} {m} {old} {run} n r e = r .is ∙ ap (λ (x : ℕ). filled f x old) e
-
--- figures that agree below n fill a run alike
-tab-same : (f g : ℕ → ℕ) (n : ℕ) → ((i : ℕ) → i < n → f i ≡ g i) → tab f n ≡ tab g n
-unfolding tab
-tab-same f g zero e = refl
-tab-same f g (suc n) e = rw (e n (omega arith), tab-same f g n (λ i l. e i (omega arith)))
 
 pub filled-same : (f g : ℕ → ℕ) (n : ℕ) (d : List ℕ) → ((i : ℕ) → i < n → f i ≡ g i) → filled f n d ≡ filled g n d
 unfolding filled

@@ -1,11 +1,11 @@
 -- Page 01, 'Sheet records': closed examples, as the definitions compute them. Assumes nothing.
-use Prim.Native.Nat.{ℕ, _-_, _^_}
+use Prim.Native.Nat.{_-_, _^_}
 use mathlib.Core.Path.{_≡_, refl}
-use mathlib.Core.Bool.{true, false}
-use mathlib.Core.List.{List, [], _∷_, map}
+use mathlib.Core.Bool.{false}
+use mathlib.Core.List.{[], _∷_, map}
 use Rattle.common.specs.Checks.{verdict}
 use Rattle.format.specs.declared.Record.{Record}
-use Rattle.format.specs.declared.Put.the-variants.{Next, Refused}
+use Rattle.format.specs.declared.Put.the-variants.{Refused}
 use Rattle.format.specs.Numbers.{be, digits}
 use Rattle.format.specs.Kinds.{kinds, fieldsOf, widths, sizeOf, known, fieldAt, decode, body, encode, limit, within, ranged, inRange}
 use Rattle.format.specs.Writing.{needed, writeChecks, putAnswer, putBytes}

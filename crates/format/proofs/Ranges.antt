@@ -1,8 +1,8 @@
 -- Page 01, 'Sheet records': what a record in range is, kind by kind, in the page's words. Assumes nothing.
-use mathlib.Core.Path.{_≡_, refl, ap}
+use mathlib.Core.Path.{_≡_, refl}
 use mathlib.Core.Bool.{Bool, true, false, _&&_}
 use mathlib.Core.List.{List, [], _∷_}
-use Prim.Native.Nat.{ℕ, _+_, _≤_, _<_}
+use Prim.Native.Nat.{ℕ, _≤_}
 use native.Mathlib.Nat.{le-refl, le-trans}
 use borrow.Author.Tests.{le-leb, leb-true, eqb-true}
 use lib.Dec.{leb, eqb}
@@ -30,7 +30,8 @@ range-within lo x hi w = simp (le-leb lo x (w .least), le-leb x hi (w .most))
 
 -- ---- Larger limits allow what smaller ones do
 
-pub limit-mono : (top top' long long' : ℕ) (r r' : Record) (l : Limit) → top ≤ top' → long ≤ long' → r .c ≤ r' .c → limit top long r l ≤ limit top' long' r' l
+pub limit-mono : (top top' long long' : ℕ) (r r' : Record) (l : Limit) → top ≤ top' → long ≤ long' → r .c ≤ r' .c
+    → limit top long r l ≤ limit top' long' r' l
 unfolding limit
 limit-mono top top' long long' r r' (is n) t m c = le-refl n
 limit-mono top top' long long' r r' masters t m c = t
@@ -99,13 +100,13 @@ pub record VariableRanges (r : Record) : Type 0 where
   pub no-d : r .d ≡ 0
 
 -- the tests of the four fields, one by one
-pub record Tests (p q s t : Bool) : Type 0 where
-  pub for-a : p ≡ true
-  pub for-b : q ≡ true
-  pub for-c : s ≡ true
-  pub for-d : t ≡ true
+record Tests (p q s t : Bool) : Type 0 where
+  for-a : p ≡ true
+  for-b : q ≡ true
+  for-c : s ≡ true
+  for-d : t ≡ true
 
-pub tests : (p q s t : Bool) → p && (q && (s && (t && true))) ≡ true → Tests p q s t
+tests : (p q s t : Bool) → p && (q && (s && (t && true))) ≡ true → Tests p q s t
 tests true true true true e = record { for-a = refl; for-b = refl; for-c = refl; for-d = refl }
 tests true true true false e = record { for-a = refl; for-b = refl; for-c = refl; for-d = e }
 tests true true false t e = record { for-a = refl; for-b = refl; for-c = e; for-d = cc }

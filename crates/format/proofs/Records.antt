@@ -1,6 +1,6 @@
 -- Laws of a record that stands at a place: its fields one by one, and what `metAt` answers. Assumes nothing.
 use mathlib.Core.Path.{_≡_, refl, sym, ap, _∙_}
-use mathlib.Core.Bool.{Bool, true, false, cond, _&&_}
+use mathlib.Core.Bool.{false}
 use mathlib.Core.List.{List, [], _∷_}
 use Prim.Native.Nat.{ℕ, zero, suc, _+_, _≤_, _<_}
 use native.Mathlib.Nat.{add-zero, add-assoc}
@@ -22,11 +22,15 @@ field-is s p [] (suc j) = refl
 field-is s p (f ∷ fs) zero = rw add-zero refl
 field-is s p (f ∷ fs) (suc j) = field-is s (p + f .width) fs j ∙ ap (λ (q : ℕ). be s q (widthAt fs j)) (add-assoc p (f .width) (widths (take j fs)))
 
--- the place just after a record, and the record, as `metAt` answers them
+-- a record and the place just after it, as `metAt` answers them
 abbrev pub found-at : Record → ℕ → Met
 found-at r n = record { found = r; next = n }
 
 module _ (s : List ℕ) (at : ℕ) where
+  -- the fields of the kind that stands there
+  abbrev fields : List Field
+  fields = fieldsOf (getD s at 0)
+
   pub met-unknown : known (getD s at 0) ≡ false → found-at nothing at ≡ metAt s at
   unfolding metAt whole
   met-unknown e = simp e
@@ -42,11 +46,12 @@ module _ (s : List ℕ) (at : ℕ) where
         let l : length s < at + sizeOf (getD s at 0) = omega (arith, size-is (getD s at 0) wa wb wc wd w) in
         simp (w .is-known, lt-leb (at + sizeOf (getD s at 0)) (length s) l)
 
-    field-read : (j p v : ℕ) → p ≡ at + 1 + widths (take j (fieldsOf (getD s at 0))) → v ≡ widthAt (fieldsOf (getD s at 0)) j → be s p v ≡ fieldAt s (at + 1) (fieldsOf (getD s at 0)) j
-    field-read j p v e q = rw (e, q) (sym (field-is s (at + 1) (fieldsOf (getD s at 0)) j))
+    field-read : (j p v : ℕ) → p ≡ at + 1 + widths (take j fields) → v ≡ widthAt fields j → be s p v ≡ fieldAt s (at + 1) fields j
+    field-read j p v e q = rw (e, q) (sym (field-is s (at + 1) fields j))
 
     -- the record, its fields read one behind the other
-    pub decode-is : (k a b c d : ℕ) → k ≡ getD s at 0 → a ≡ be s (at + 1) wa → b ≡ be s (at + 1 + wa) wb → c ≡ be s (at + 1 + wa + wb) wc → d ≡ be s (at + 1 + wa + wb + wc) wd
+    pub decode-is : (k a b c d : ℕ) → k ≡ getD s at 0 → a ≡ be s (at + 1) wa → b ≡ be s (at + 1 + wa) wb
+        → c ≡ be s (at + 1 + wa + wb) wc → d ≡ be s (at + 1 + wa + wb + wc) wd
         → record { kind = k; a = a; b = b; c = c; d = d } ≡ decode s at
     unfolding decode widths
     decode-is k a b c d ek ea eb ec ed =

@@ -6,7 +6,7 @@ use native.Mathlib.Omega.{arith}
 use lib.ListN.{length, set, length-append}
 use Rattle.format.specs.declared.Record.{Record}
 use Rattle.format.specs.Numbers.{digits, pasted}
-use Rattle.format.specs.Kinds.{Field, fieldsOf, widths, sizeOf, body, numbers, encode}
+use Rattle.format.specs.Kinds.{Field, fieldsOf, body, encode}
 use Rattle.format.specs.Widths.{widthAt, Wide}
 use Rattle.format.proofs.Numbers.{length-digits, paste-one, paste-next}
 

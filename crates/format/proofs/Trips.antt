@@ -1,27 +1,27 @@
 -- A record and its bytes: what is encoded decodes to itself, wherever it stands; what is decoded encodes to the bytes that stand there;
 -- and decoding looks at no other bytes. Assumes nothing.
-use mathlib.Core.Path.{_≡_, refl, sym, ap, _∙_, subst}
+use mathlib.Core.Path.{_≡_, refl, sym, ap, _∙_}
 use mathlib.Core.Bool.{Bool, true, false, _&&_}
 use mathlib.Core.List.{List, [], _∷_, _++_, append-assoc}
-use Prim.Native.Nat.{ℕ, zero, suc, _+_, _*_, _/_, _%_, _^_, _≤_, _<_}
+use Prim.Native.Nat.{ℕ, zero, suc, _+_, _^_, _≤_, _<_}
 use native.Mathlib.Nat.{le-refl}
 use native.Mathlib.Numerals.{add-one}
 use native.Mathlib.Omega.{arith}
 use borrow.Author.Tests.{le-leb, leb-true, ltb-true, eqb-true}
 use lib.Dec.{ltb, leb, eqb}
 use lib.ListN.{length, getD, take, drop, length-append}
-use lib.Seq.{getD-at, getD-take, take-add, drop-drop, drop-cons, take-suc}
+use lib.Seq.{getD-at, getD-take, take-add, drop-drop, drop-cons}
 use Rattle.format.specs.declared.Record.{Record}
 use Rattle.format.specs.Numbers.{be, digits}
 use Rattle.format.specs.Kinds.{Field, Limit, kinds, fieldsOf, widths, sizeOf, known, fieldAt, decode, body, numbers, encode, whole, limit, within, ranged, inRange}
 use Rattle.format.specs.Kinds.Limit.{is, masters, message, spacing}
-use Rattle.format.specs.Widths.{widthAt, Wide}
+use Rattle.format.specs.Widths.{widthAt}
 use Rattle.format.specs.Writing.{mostMasters, mostMessage}
 use Rattle.format.proofs.Numbers.{length-digits, be-digits, be-same, digits-be}
 use Rattle.format.proofs.Tables.{both-true, at-every-kind, wide, size-is, fields-at-most}
 use Rattle.format.proofs.Stored.{encode-is}
 use Rattle.format.proofs.Records.{decode-is}
-use Rattle.format.proofs.Ranges.{Range, within-range, limit-mono, Tests, tests}
+use Rattle.format.proofs.Ranges.{within-range, limit-mono}
 
 -- ---- Whole records
 
@@ -106,7 +106,8 @@ spacing-limit r spacing q = let z : _≡_ {A = ℕ} 0 1 = cc in absurd (omega ar
 
 module _ (r : Record) where
   -- the fields behind the first
-  ranged-rest : (fs : List Field) (x : ℕ) (xs : List ℕ) → ranged mostMasters mostMessage r fs (x ∷ xs) ≡ true → ranged mostMasters mostMessage r (drop 1 fs) xs ≡ true
+  ranged-rest : (fs : List Field) (x : ℕ) (xs : List ℕ) → ranged mostMasters mostMessage r fs (x ∷ xs) ≡ true
+      → ranged mostMasters mostMessage r (drop 1 fs) xs ≡ true
   unfolding ranged
   ranged-rest [] x xs e = both-true (eqb x 0) (ranged mostMasters mostMessage r [] xs) e .1
   ranged-rest (f ∷ fs) x xs e = both-true (within (f .least) x (limit mostMasters mostMessage r (f .most))) (ranged mostMasters mostMessage r fs xs) e .1
@@ -198,14 +199,21 @@ module _ (s : List ℕ) (at : ℕ) (bytes : (i : ℕ) → getD s i 0 < 256) wher
       let n : sizeOf k ≡ suc (wa + (wb + (wc + wd))) = omega arith in
       let r : Record = record { kind = k; a = be s a wa; b = be s b wb; c = be s c wc; d = be s d wd } in
       let q : encode r ≡ k ∷ (take wa (drop a s) ++ (take wb (drop b s) ++ (take wc (drop c s) ++ take wd (drop d s)))) =
-      encode-is r wa wb wc wd w ∙ simp (digits-be s a wa bytes (omega (arith, h .ends)), digits-be s b wb bytes (omega (arith, h .ends)), digits-be s c wc bytes (omega (arith, h .ends)), digits-be s d wd bytes (omega (arith, h .ends))) in
+      encode-is r wa wb wc wd w
+      ∙ simp (
+        digits-be s a wa bytes (omega (arith, h .ends)),
+        digits-be s b wb bytes (omega (arith, h .ends)),
+        digits-be s c wc bytes (omega (arith, h .ends)),
+        digits-be s d wd bytes (omega (arith, h .ends)),
+      ) in
       let l : at < length s = omega (arith, h .ends) in
       rw (n, drop-cons s at 0 l, ← add-one at, take-run wa (wb + (wc + wd)) a s, take-run wb (wc + wd) b s, take-run wc wd c s)
       (sym q ∙ ap encode (decode-is s at wa wb wc wd w k (r .a) (r .b) (r .c) (r .d) refl refl refl refl refl))
 
 -- ---- Decoding looks at the record's own bytes only
 
-fields-same : (s t : List ℕ) (at : ℕ) (fs : List Field) (j : ℕ) → ((i : ℕ) → at ≤ i → i < at + widths fs → getD s i 0 ≡ getD t i 0) → fieldAt s at fs j ≡ fieldAt t at fs j
+fields-same : (s t : List ℕ) (at : ℕ) (fs : List Field) (j : ℕ) → ((i : ℕ) → at ≤ i → i < at + widths fs → getD s i 0 ≡ getD t i 0)
+    → fieldAt s at fs j ≡ fieldAt t at fs j
 unfolding fieldAt widths
 fields-same s t at [] j same = refl
 fields-same s t at (f ∷ fs) zero same = be-same s t at (f .width) (λ i lo hi. same i lo (omega arith))

@@ -219,6 +219,7 @@ pub fn put_record(buf: &mut [u8], at: usize, r: Record) -> Put
     if !known(kind) {
         return Put::Refused { no: 2, place: at };
     }
+    // Limits that need another record are taken at their greatest.
     if !in_range(32, 100000, r) {
         return Put::Refused { no: 4, place: at };
     }
@@ -228,6 +229,7 @@ pub fn put_record(buf: &mut [u8], at: usize, r: Record) -> Put
         3 => put_whole(buf, at, r, 1, 4, 4, 0),
         4 => put_whole(buf, at, r, 1, 4, 4, 0),
         5 => put_whole(buf, at, r, 4, 0, 0, 0),
+        // 6, the known kind that is left
         _ => put_whole(buf, at, r, 2, 4, 0, 0),
     }
 }

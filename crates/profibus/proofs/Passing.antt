@@ -1,28 +1,24 @@
--- What a pass over the streams meets: stream after stream of the sheet's ring, each counted for its master. Assumes nothing.
+-- What a pass over the streams meets: stream after stream of the sheet's ring, and each master's count. Assumes nothing.
 use mathlib.Core.Path.{_≡_, refl, sym, ap, _∙_}
-use mathlib.Core.Bool.{Bool, true, false}
 use mathlib.Core.List.{List}
 use Prim.Native.Nat.{ℕ, zero, suc, _+_, _-_, _≤_, _<_}
 use native.Mathlib.Numerals.{add-one}
 use native.Mathlib.Omega.{arith}
-use borrow.Author.Tests.{eq-eqb, ne-eqb}
-use lib.ListN.{length, getD, set}
-use lib.Dec.{eqb}
-use Rattle.common.specs.Sums.{when, upto}
+use borrow.Author.Tests.{ne-eqb}
+use lib.ListN.{length}
 use Rattle.common.specs.Runs.{tab}
-use Rattle.common.proofs.Sums.{upto-more, upto-most}
-use Rattle.common.proofs.Runs.{getD-tab, tab-set}
+use Rattle.common.proofs.Runs.{tab-same}
 use Rattle.format.specs.declared.Met.{Met}
 use Rattle.format.specs.declared.Record.{Record}
 use Rattle.format.specs.Kinds.{nothing, metAt}
 use Rattle.sheet.specs.Sheets.{Sheet, streamsOf, sheetOf}
-use Rattle.sheet.specs.Whole.{placeOf, recordsOf, reading, told, Outcome}
+use Rattle.sheet.specs.Whole.{placeOf, recordsOf, reading, told, streamsOfMaster, countsTold, Outcome}
 use Rattle.sheet.specs.Whole.Outcome.{Read, Not}
 use Rattle.sheet.specs.declared.Reading.the-variants as answer
 use Rattle.sheet.proofs.Walk.{length-streams}
 use Rattle.sheet.proofs.Known.{Known, reading-read}
 use Rattle.ring.specs.Ring.{Ring, Stream, streamOf, streamAt, ringOf, On, owns, count, Declared}
-use Rattle.ring.proofs.Declared.{declared}
+use Rattle.ring.proofs.Declared.{declared, counted}
 use Rattle.profibus.specs.Planned.{sheetIn, Ready}
 
 -- ---- From the reader's answer
@@ -93,37 +89,11 @@ module _ (s : List ℕ) (first n : ℕ) (ready : Ready s first n) where
         next = rw (add-one i, q') (known .next i l');
       }
 
--- ---- Counts
-
--- how many of streams 1..i are master k's
-unfoldable pub countTo : Ring → ℕ → ℕ → ℕ
-unfolding upto owns
-countTo R i k = upto (λ j. when (owns R k j) 1) i
-
-pub count-to-all : (R : Ring) (n : ℕ) → R .number ≡ n → tab (countTo R n) 33 ≡ tab (count R) 33
-unfolding countTo count
-count-to-all R n e = rw (← e)
-
-module _ (R : Ring) (i k : ℕ) where
-  pub count-to-most : countTo R i k ≤ i
-  unfolding countTo
-  count-to-most = omega (arith, upto-most (λ j. when (owns R k j) 1) 1 i (λ j lo hi. one (owns R k j)))
-    where
-      one : (b : Bool) → when b 1 ≤ 1
-      one true = omega arith
-      one false = omega arith
-
-  count-to-own : R .stream (i + 1) .master ≡ k → countTo R i k + 1 ≡ countTo R (i + 1) k
-  unfolding countTo owns
-  count-to-own e = rw (upto-more, eq-eqb (R .stream (i + 1) .master) k e)
-
-  count-to-other : (R .stream (i + 1) .master ≡ k → ⊥) → countTo R i k ≡ countTo R (i + 1) k
-  unfolding countTo owns
-  count-to-other e = rw (upto-more, ne-eqb (R .stream (i + 1) .master) k e) (omega arith)
-
--- one stream more, of master k, in an array of the counts so far
-pub count-to-step : (R : Ring) (i k : ℕ) (l : List ℕ) → l ≡ tab (countTo R i) 33 → k < 33 → R .stream (i + 1) .master ≡ k
-    → set l k (getD l k 0 + 1) ≡ tab (countTo R (i + 1)) 33
-count-to-step R i k l q h e =
-    rw (q, getD-tab (countTo R i) 33 k h)
-    (tab-set (countTo R i) (countTo R (i + 1)) 33 k (countTo R i k + 1) h (count-to-own R i k e) (λ y h' ne. count-to-other R i y (λ o. ne (sym o ∙ e))))
+  -- the counts that reading hands over are each master's h
+  pub ready-counts : (old : List ℕ) → countsTold (reading s) old ≡ tab (count (ringOf (sheetIn s n))) 33
+  unfolding countsTold streamsOfMaster count owns ringOf
+  ready-counts old =
+      let S = sheetIn s n in
+      let other : S .head .kind ≡ 5 → ⊥ = λ e. omega (arith, ready .bus) in
+      rw (ready .reads, ne-eqb (S .head .kind) 5 other)
+      (tab-same (streamsOfMaster S) (count (ringOf S)) 33 (λ k l. sym (counted k (S .streams))))

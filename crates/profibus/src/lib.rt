@@ -14,32 +14,13 @@ ghost use Rattle.profibus.specs.Planned.{planOf, sheetIn, Ready};
 // The longest deadline of a sheet. No stream bears a rotation as long, since C is at least 1.
 const LONGEST: u64 = 1000000000;
 
-// How many streams each master has. Masters count from 1, so place 0 stays 0.
-fn counts_of(s: &[u8], first: usize, streams: usize) -> [u64; 33]
-    requires { ⌜ Ready (now s) first streams ⌝ }
-    ensures { λ r. ⌜ r ≡ tab (count (ringOf (sheetIn (now (s .entry)) streams))) 33 ⌝ }
-{
-    let mut counts = [0u64; 33];
-    let mut at = first;
-    let mut i: usize = 0;
-    while i < streams {
-        let met = format::record_at(s, at);
-        let r = met.found;
-        let master = r.a as usize;
-        counts[master] += 1;
-        at = met.next;
-        i += 1;
-    }
-    counts
-}
-
 // The largest TTR, or the first stream that fails at L. A stream shares out its D only where it fails at the rotation that all
 // before it bear; so the first to bear less than L allows is the first that fails at L, and of equals the first is kept.
 fn largest_target(
     s: &[u8],
     first: usize,
     streams: usize,
-    counts: &[u64; 33],
+    counts: &[u8; 33],
     latency: u64,
     longest: u64,
 ) -> Plan
@@ -57,7 +38,7 @@ fn largest_target(
         let met = format::record_at(s, at);
         let r = met.found;
         let master = r.a as usize;
-        let h = counts[master];
+        let h = counts[master] as u64;
         let c = r.b as u64;
         let d = r.c as u64;
         at = met.next;
@@ -81,7 +62,8 @@ fn largest_target(
 pub fn plan(s: &[u8]) -> Plan
     ensures { λ r. ⌜ r ≡ planOf (reading (now (s .entry))) ⌝ }
 {
-    match sheet::read(s) {
+    let mut counts: [u8; 33] = [0; 33];
+    match sheet::read_counting(s, &mut counts) {
         Reading::Refused { no, place } => Plan::Refused { no, place },
         Reading::Accepted {
             head,
@@ -91,7 +73,6 @@ pub fn plan(s: &[u8]) -> Plan
             if head.kind != 3 {
                 return Plan::Refused { no: 3, place: 0 };
             }
-            let counts = counts_of(s, first, streams);
             let longest = head.a as u64 * head.c as u64;
             largest_target(s, first, streams, &counts, head.b as u64, longest)
         }

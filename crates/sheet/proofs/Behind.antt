@@ -1,27 +1,30 @@
 -- The reader's state behind n streams that passed, and what the next record makes of it. Assumes nothing.
-use mathlib.Core.Path.{_≡_, refl, sym, ap, _∙_, subst}
-use mathlib.Core.Bool.{Bool, true, false, cond, not, _&&_, _||_}
-use mathlib.Core.List.{List, [], _∷_, _++_}
+use mathlib.Core.Path.{_≡_, refl, sym, ap, _∙_}
+use mathlib.Core.Bool.{Bool, true, false, not}
+use mathlib.Core.List.{List, [], _∷_}
 use mathlib.Core.Logic.{_⊎_, inl, inr, ⊎-elim}
 use Prim.Native.Nat.{ℕ, zero, suc, _+_, _≤_, _<_}
 use native.Mathlib.Numerals.{add-one}
 use native.Mathlib.Omega.{arith}
-use borrow.Author.Tests.{eqb-true, eqb-false, ne-eqb, eq-eqb, le-leb, lt-leb, leb-true, leb-false, lt-ltb, le-ltb}
-use lib.ListN.{length, getD, replicate, getD-replicate, length-replicate}
-use lib.Dec.{eqb, leb, ltb}
-use Rattle.common.specs.Checks.{Check, check, Verdict, verdict}
+use borrow.Author.Tests.{eqb-true, ne-eqb, eq-eqb}
+use lib.ListN.{length, getD, replicate, getD-replicate}
+use lib.Seq.{ext-getD}
+use lib.Dec.{eqb, leb}
+use Rattle.common.specs.Runs.{tab}
+use Rattle.common.proofs.Runs.{length-tab, getD-tab}
+use Rattle.common.specs.Checks.{check, Verdict, verdict}
 use Rattle.common.specs.Checks.Verdict.{Passed, Refused}
 use Rattle.format.specs.declared.Record.{Record}
 use Rattle.format.specs.declared.Met.{Met}
 use Rattle.format.specs.Kinds.{known, sizeOf, decode, inRange, whole, metAt, nothing}
 use Rattle.format.proofs.Ranges.{segment-ranges, pnet-stream-ranges, ring-ranges, ring-stream-ranges}
-use Rattle.sheet.specs.Sheets.{headOf, streamsOf, sheetOf, fits, hasMaster, mostInAll, countOf, overLimit, metBefore}
-use Rattle.sheet.specs.Whole.{placeOf, recordsOf, recordChecks, endChecks, judge, ended, reading, told, Outcome}
+use Rattle.sheet.specs.Sheets.{Sheet, headOf, streamsOf, sheetOf, fits, hasMaster, mostInAll, countOf, overLimit, metBefore}
+use Rattle.sheet.specs.Whole.{placeOf, recordsOf, judge, ended, reading, told, streamsOfMaster, countsTold, Outcome}
 use Rattle.sheet.specs.Whole.Outcome.{Read, Not}
 use Rattle.sheet.specs.Steps.{ownNo, lateNo, countsWith, idsWith, Begun}
 use Rattle.sheet.specs.declared.Reading.the-variants as answer
 use Rattle.sheet.proofs.Walk.{head-at, length-records, length-streams, streams-none, streams-more, place-next, place-from}
-use Rattle.sheet.proofs.Cases.{Upto, Stops, PassesAt, passes-then, upto-none, upto-more, upto-place, stops-once, ended-empty, ended-no-stream, ended-sheet}
+use Rattle.sheet.proofs.Cases.{Upto, passes-then, upto-none, upto-more, upto-place, stops-once, ended-empty, ended-no-stream, ended-sheet}
 use Rattle.sheet.proofs.Cases.Stops.{by-record, at-end}
 use Rattle.sheet.proofs.Judged.{numbered, met-some, own-met, lateChecks, ownAt, judge-own}
 use Rattle.sheet.proofs.Kept.{Keeps, keeps-none, keeps-more, late-variable, late-stream, not-late-variable}
@@ -89,13 +92,13 @@ late-first r p (inl e) = rw e
 late-first r p (inr (inl e)) = rw e
 late-first r p (inr (inr e)) = rw e
 
-module _ (s : List ℕ) (some : 0 < length s) (met : Met) (q : met ≡ metAt s 0) (right : Bool) (r : right ≡ fits [] (getD s 0 0)) where
+module _ (s : List ℕ) (some : 0 < length s) (met : Met) (q : met ≡ metAt s 0) (ranged : Bool) (w : ranged ≡ inRange 0 0 (met .found)) (right : Bool) (r : right ≡ fits [] (getD s 0 0)) where
   abbrev pub ownFirst : ℕ
-  ownFirst = ownNo (known (getD s 0 0)) right (not (eqb (met .next) 0)) (inRange 0 0 (met .found))
+  ownFirst = ownNo (known (getD s 0 0)) right (not (eqb (met .next) 0)) ranged
 
   first-is : ownFirst ≡ ownAt s 0
   unfolding ownAt placeOf recordsOf headOf
-  first-is = rw (q, r, own-met s 0)
+  first-is = rw (w, q, r, own-met s 0)
 
   pub refused-first : (own : ℕ) → own ≡ ownFirst → (own ≡ 0 → ⊥) → answer.Refused own 0 ≡ told s (reading s)
   unfolding placeOf
@@ -107,8 +110,8 @@ module _ (s : List ℕ) (some : 0 < length s) (met : Met) (q : met ≡ metAt s 0
   unfolding ownAt lateChecks placeOf recordsOf streamsOf headOf numbered decode whole
   begun-first own e z =
       let p = own-passed _ _ _ _ (sym first-is ∙ (sym e ∙ z)) in
-      let w : whole s 0 ≡ true = rw (p .0, p .2) in
-      let m = q ∙ met-some s 0 w in
+      let h : whole s 0 ≡ true = rw (p .0, p .2) in
+      let m = q ∙ met-some s 0 h in
       let k = first-fits (getD s 0 0) (p .1) in
       record {
         some = some;
@@ -116,6 +119,21 @@ module _ (s : List ℕ) (some : 0 < length s) (met : Met) (q : met ≡ metAt s 0
         is-head = ap (λ (x : Met). x .found) m;
         is-first = ap (λ (x : Met). x .next) m;
       }
+
+-- ---- The counts that are handed over
+
+-- counts that are right at each of the 33 places
+counts-are : (S : Sheet) (counts : List ℕ) → length counts ≡ 33 → ((x : ℕ) → x ≤ 32 → getD counts x 0 ≡ countOf x (S .streams)) → counts ≡ tab (streamsOfMaster S) 33
+unfolding streamsOfMaster
+counts-are S counts l e =
+    ext-getD 0 counts (tab (streamsOfMaster S) 33) (l ∙ sym (length-tab (streamsOfMaster S) 33))
+    (λ x h. e x (omega (arith, l)) ∙ sym (getD-tab (streamsOfMaster S) 33 x (omega (arith, l))))
+
+-- on a refusal the lent memory keeps what it had
+pub refused-keeps : (s : List ℕ) (no' place : ℕ) (o : Outcome) (old : List ℕ) → answer.Refused no' place ≡ told s o → old ≡ countsTold o old
+unfolding countsTold
+refused-keeps s no' place (Read S) old e = let z : _≡_ {A = ℕ} 0 1 = cc in absurd (omega arith)
+refused-keeps s no' place (Not n p) old e = refl
 
 -- ---- A stream
 
@@ -144,10 +162,10 @@ module _ (s : List ℕ) (head : Record) (counts ids : List ℕ) (n at : ℕ) (b 
   pub fewer-streams : n < at
   fewer-streams = omega (arith, place-from s (suc n), b .is-at)
 
-  module _ (inside : at < length s) (met : Met) (q : met ≡ metAt s at) where
+  module _ (inside : at < length s) (met : Met) (q : met ≡ metAt s at) (ranged : Bool) (w : ranged ≡ inRange (head .a) (head .c) (met .found)) where
     -- what the record at the place gives by itself, as the code has it
     abbrev pub ownHere : ℕ
-    ownHere = ownNo (known (getD s at 0)) (eqb (getD s at 0) (head .kind + 1)) (not (eqb (met .next) at)) (inRange (head .a) (head .c) (met .found))
+    ownHere = ownNo (known (getD s at 0)) (eqb (getD s at 0) (head .kind + 1)) (not (eqb (met .next) at)) ranged
 
     here : placeOf s (suc n) < length s
     here = rw (b .is-at) at inside
@@ -156,7 +174,7 @@ module _ (s : List ℕ) (head : Record) (counts ids : List ℕ) (n at : ℕ) (b 
     unfolding ownAt
     own-is =
         let f = fits-behind (recordsOf s (suc n)) (getD s (placeOf s (suc n)) 0) (rw (length-records s (suc n)) (omega arith)) in
-        rw (q, b .is-at, own-met s (placeOf s (suc n)), f, head-at s n, b .is-head)
+        rw (w, q, b .is-at, own-met s (placeOf s (suc n)), f, head-at s n, b .is-head)
 
     pub refused-own : (own : ℕ) → own ≡ ownHere → (own ≡ 0 → ⊥) → answer.Refused own at ≡ told s (reading s)
     refused-own own e h =
@@ -243,6 +261,9 @@ module _ (s : List ℕ) (head : Record) (counts ids : List ℕ) (n at : ℕ) (b 
           rw (b .is-at) (told-refused s (suc n) late (placeOf s (suc n)) (b .upto) here g)
 
       -- it passes
+      pub not-late : (late : ℕ) → late ≡ lateNo counts ids n (met .found) → late ≡ 0 → lateNo counts ids n (met .found) ≡ 0
+      not-late late late-told f = sym late-told ∙ f
+
       pub behind-more : (counts' ids' : List ℕ) (late : ℕ) → late ≡ lateNo counts ids n (met .found) → late ≡ 0 → counts' ≡ countsWith counts (met .found) → ids' ≡ idsWith ids n (met .found)
           → Behind s head counts' ids' (n + 1) (met .next)
       unfolding numbered
@@ -272,3 +293,18 @@ module _ (s : List ℕ) (head : Record) (counts ids : List ℕ) (n at : ℕ) (b 
         let e : told s (reading s) ≡ answer.Accepted (headOf (recordsOf s (suc n))) (length (streamsOf (recordsOf s (suc n)))) (placeOf s 1) =
         ap (told s) (reading-ends ∙ ended-sheet s n h) in
         rw (f, b .is-head, ← head-at s n) (sym (rw (length-streams s n) at e))
+
+    -- and the counts are those of its masters
+    pub ends-counted : (n ≡ 0 → ⊥) → (head .kind ≡ 5 → ⊥) → (old : List ℕ) → counts ≡ countsTold (reading s) old
+    unfolding countsTold sheetOf
+    ends-counted h k old =
+        let z : headOf (recordsOf s (suc n)) .kind ≡ 5 → ⊥ = λ e. k (ap (λ (r : Record). r .kind) (b .is-head ∙ sym (head-at s n)) ∙ e) in
+        let six : head .kind + 1 ≡ 6 → ⊥ = λ e. k (omega arith) in
+        rw (reading-ends, ended-sheet s n h, ne-eqb (headOf (recordsOf s (suc n)) .kind) 5 z)
+        (counts-are (sheetOf (recordsOf s (suc n))) counts (b .keeps .masters) (b .keeps .counted six))
+
+    pub ends-uncounted : (n ≡ 0 → ⊥) → head .kind ≡ 5 → (old : List ℕ) → old ≡ countsTold (reading s) old
+    unfolding countsTold sheetOf
+    ends-uncounted h k old =
+        let z : headOf (recordsOf s (suc n)) .kind ≡ 5 = ap (λ (r : Record). r .kind) (head-at s n ∙ sym (b .is-head)) ∙ k in
+        rw (reading-ends, ended-sheet s n h, eq-eqb (headOf (recordsOf s (suc n)) .kind) 5 z)

@@ -1,23 +1,21 @@
 -- Page 01, 'Numbered refusals': what it means that a record passes, and where a reading stops. Assumes nothing.
 use mathlib.Core.Path.{_≡_, refl, sym, ap, _∙_, subst}
 use mathlib.Core.Bool.{Bool, true, false, cond, not}
-use mathlib.Core.List.{List, [], _∷_, _++_}
-use mathlib.Core.Logic.{_⊎_, inl, inr, ⊎-elim}
+use mathlib.Core.List.{List}
 use Prim.Native.Nat.{ℕ, zero, suc, _+_, _-_, _≤_, _<_, zero-le}
 use native.Mathlib.Nat.{not-suc-le-zero}
 use native.Mathlib.Omega.{arith}
 use native.Mathlib.Decide.{ℕ-discrete}
-use borrow.Author.Tests.{ltb-true, ltb-false, lt-ltb, le-ltb, eqb-true, eqb-false, ne-eqb, eq-eqb, not-true, not-false}
-use lib.ListN.{length, getD}
-use lib.Dec.{ltb, eqb}
-use Rattle.common.specs.Checks.{Check, check, Verdict, verdict}
+use borrow.Author.Tests.{ltb-true, ltb-false, lt-ltb, le-ltb, ne-eqb, not-false}
+use lib.ListN.{length}
+use lib.Dec.{ltb}
+use Rattle.common.specs.Checks.{Verdict, verdict}
 use Rattle.common.specs.Checks.Verdict.{Passed, Refused}
-use Rattle.common.proofs.Checks.{Applies, Clear, refused-if, refused-then, passed-if, passed-then}
-use Rattle.common.proofs.Checks.Applies.{here, later}
+use Rattle.common.proofs.Checks.{Clear, passed-if, passed-then}
 use Rattle.common.proofs.Checks.Clear.{none, and}
 use Rattle.format.specs.declared.Record.{Record}
 use Rattle.format.specs.Kinds.{known, sizeOf, decode, inRange}
-use Rattle.sheet.specs.Sheets.{Sheet, headOf, streamsOf, sheetOf, fits, overLimit, metBefore}
+use Rattle.sheet.specs.Sheets.{headOf, streamsOf, sheetOf, fits, overLimit, metBefore}
 use Rattle.sheet.specs.Whole.{placeOf, recordsOf, recordChecks, endChecks, judge, ended, readFrom, reading, Outcome, orElse}
 use Rattle.sheet.specs.Whole.Outcome.{Read, Not}
 use Rattle.sheet.proofs.Walk.{place-next, place-from, length-records, length-streams}

@@ -1,14 +1,13 @@
 -- What is known of a sheet that reads without refusal: all that a planner goes by, with nothing about bytes. Assumes nothing.
 use mathlib.Core.Path.{_≡_, refl, sym, ap, _∙_, subst}
-use mathlib.Core.Bool.{Bool, true, false, cond, not, _&&_, _||_}
-use mathlib.Core.List.{List, [], _∷_, _++_}
+use mathlib.Core.Bool.{Bool, true, false, cond, _&&_, _||_}
+use mathlib.Core.List.{List, [], _∷_}
 use mathlib.Core.Logic.{_⊎_, inl, inr, ⊎-elim}
-use Prim.Native.Nat.{ℕ, zero, suc, _+_, _-_, _*_, _≤_, _<_, zero-le}
+use Prim.Native.Nat.{ℕ, zero, suc, _+_, _-_, _*_, _≤_, _<_}
 use native.Mathlib.Nat.{not-suc-le-zero, zero-mul, suc-mul}
 use native.Mathlib.Omega.{arith}
-use native.Mathlib.Decide.{ℕ-discrete}
-use borrow.Author.Tests.{ltb-true, ltb-false, leb-false, lt-ltb, le-leb, le-ltb, eqb-true, eqb-false, ne-eqb, eq-eqb}
-use lib.ListN.{length, getD, length-append}
+use borrow.Author.Tests.{ltb-false, leb-false, le-leb, eqb-true, eqb-false}
+use lib.ListN.{length, getD}
 use lib.Dec.{ltb, leb, eqb}
 use Rattle.common.specs.Sums.{when}
 use Rattle.common.specs.Checks.{verdict, Verdict}
@@ -19,10 +18,10 @@ use Rattle.format.specs.declared.Met.{Met}
 use Rattle.format.specs.declared.Record.{Record}
 use Rattle.format.specs.Kinds.{known, sizeOf, decode, inRange, whole, metAt, nothing}
 use Rattle.sheet.specs.Sheets.{Sheet, headOf, streamsOf, sheetOf, fits, countOf, mostInAll, hasMaster, overLimit, metBefore}
-use Rattle.sheet.specs.Whole.{placeOf, recordsOf, endChecks, judge, ended, reading, Outcome, orElse}
+use Rattle.sheet.specs.Whole.{placeOf, recordsOf, endChecks, ended, reading}
 use Rattle.sheet.specs.Whole.Outcome.{Read, Not}
-use Rattle.sheet.proofs.Walk.{place-from, streams-none, length-records, length-streams, record-at, stream-at, head-at, streams-more}
-use Rattle.sheet.proofs.Cases.{Passes, PassesAt, Upto, Stops, reading-stops}
+use Rattle.sheet.proofs.Walk.{streams-none, length-records, length-streams, stream-at, head-at, streams-more}
+use Rattle.sheet.proofs.Cases.{PassesAt, Upto, Stops, reading-stops}
 use Rattle.sheet.proofs.Cases.Stops.{by-record, at-end}
 use Rattle.sheet.proofs.Counts.{count-more, count-none}
 

@@ -1,29 +1,28 @@
 -- No accepted sheet is longer than 9,602 bytes, and reading looks at the first 9,614 bytes of any sheet only. Assumes nothing.
-use mathlib.Core.Path.{_≡_, refl, sym, ap, _∙_, subst}
+use mathlib.Core.Path.{_≡_, refl, sym, ap, _∙_}
 use mathlib.Core.Bool.{Bool, true, false}
 use mathlib.Core.List.{List, [], _∷_, _++_}
-use mathlib.Core.Logic.{_⊎_, inl, inr, ⊎-elim}
+use mathlib.Core.Logic.{_⊎_, inl, inr}
 use Prim.Native.Nat.{ℕ, zero, suc, _+_, _*_, _≤_, _<_, zero-le}
-use native.Mathlib.Nat.{mul-le-mul-right}
 use native.Mathlib.Omega.{arith}
 use borrow.Author.Tests.{leb-true, leb-false, le-ltb}
 use lib.ListN.{length, getD, take}
-use lib.Dec.{leb, ltb}
+use lib.Dec.{leb}
 use lib.Seq.{take-all, length-take-le}
 use Rattle.common.specs.Sums.{greatest}
-use Rattle.common.specs.Checks.{Verdict, verdict}
-use Rattle.common.specs.Checks.Verdict.{Passed, Refused}
+use Rattle.common.specs.Checks.{verdict}
+use Rattle.common.specs.Checks.Verdict.{Refused}
 use Rattle.format.specs.declared.Record.{Record}
 use Rattle.format.specs.Kinds.{kinds, fieldsOf, widths, sizeOf, decode}
 use Rattle.format.proofs.Tables.{size-at-most}
 use Rattle.format.proofs.Trips.{decode-take, kind-take}
 use Rattle.sheet.specs.Sheets.{Sheet, mostInAll}
-use Rattle.sheet.specs.Whole.{placeOf, recordsOf, recordChecks, judge, ended, reading, told, Outcome}
+use Rattle.sheet.specs.Whole.{placeOf, recordsOf, recordChecks, judge, reading, told, Outcome}
 use Rattle.sheet.specs.Whole.Outcome.{Read, Not}
 use Rattle.sheet.specs.Lengths.{longest-record, longest-sheet, enough}
-use Rattle.sheet.proofs.Cases.{PassesAt, Upto, Stops, passes-if, passes-then, upto-front, reading-stops, stops-once}
+use Rattle.sheet.proofs.Cases.{Upto, Stops, passes-if, passes-then, upto-front, reading-stops, stops-once}
 use Rattle.sheet.proofs.Cases.Stops.{by-record, at-end}
-use Rattle.sheet.proofs.Known.{Known, reading-read, place-is, first-kinds, streams-few}
+use Rattle.sheet.proofs.Known.{place-is, first-kinds, streams-few}
 
 -- ---- The constants
 

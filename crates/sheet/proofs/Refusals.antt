@@ -1,22 +1,22 @@
 -- Page 01, 'Numbered refusals' 1..7: reading gives a number with a place exactly if the page's table gives it, and accepts a sheet
 -- exactly if the table gives none. Assumes nothing.
-use mathlib.Core.Path.{_≡_, refl, sym, ap, _∙_, subst}
-use mathlib.Core.Bool.{Bool, true, false, cond, not, _&&_, _||_}
-use mathlib.Core.List.{List, [], _∷_}
+use mathlib.Core.Path.{_≡_, refl, sym, ap, _∙_}
+use mathlib.Core.Bool.{Bool, true, false, not, _&&_}
+use mathlib.Core.List.{List}
 use mathlib.Core.Logic.{_⊎_, inl, inr, ⊎-elim, _↔_}
 use Prim.Native.Nat.{ℕ, zero, suc, _+_, _≤_, _<_}
 use native.Mathlib.Omega.{arith}
-use borrow.Author.Tests.{ltb-true, ltb-false, leb-true, leb-false, lt-leb, le-leb, le-ltb, lt-ltb, eqb-true, eqb-false, eq-eqb, ne-eqb, not-true, not-false}
-use lib.ListN.{length, getD}
+use borrow.Author.Tests.{ltb-true, ltb-false, leb-false, lt-leb, le-leb, le-ltb, eqb-true, eq-eqb, not-true, not-false}
+use lib.ListN.{length}
 use lib.Dec.{ltb, leb, eqb}
-use Rattle.common.specs.Checks.{Verdict, verdict}
-use Rattle.common.specs.Checks.Verdict.{Passed, Refused}
+use Rattle.common.specs.Checks.{verdict}
+use Rattle.common.specs.Checks.Verdict.{Refused}
 use Rattle.common.proofs.Checks.{Applies, refused-if, refused-then}
 use Rattle.common.proofs.Checks.Applies.{here, later}
 use Rattle.format.specs.declared.Record.{Record}
-use Rattle.format.specs.Kinds.{known, sizeOf, decode, inRange, nothing}
+use Rattle.format.specs.Kinds.{known, sizeOf, nothing}
 use Rattle.format.proofs.Tables.{both-true, known-within, known-bounds}
-use Rattle.sheet.specs.Sheets.{Sheet, headOf, streamsOf, sheetOf, fits, countOf, mostInAll, hasMaster, overLimit, metBefore}
+use Rattle.sheet.specs.Sheets.{Sheet, streamsOf, sheetOf, fits, countOf, mostInAll, hasMaster, overLimit, metBefore}
 use Rattle.sheet.specs.Whole.{placeOf, recordsOf, recordChecks, judge, ended, reading, Outcome}
 use Rattle.sheet.specs.Whole.Outcome.{Read, Not}
 use Rattle.sheet.specs.Refusals.{recordAt, streamsBefore, KnownKind, RightKind, Complete, Ranged, InLimits, MetBefore, RefusedWith, Accepted, Reached, OnlyFirst, Given}
@@ -24,7 +24,7 @@ use Rattle.sheet.specs.Refusals.RightKind.{at-first, behind}
 use Rattle.sheet.specs.Refusals.RefusedWith.{unknown, misplaced, cut, out-of-range, one-too-many, met-before}
 use Rattle.sheet.specs.Refusals.Given.{empty, at-record, no-stream}
 use Rattle.sheet.proofs.Walk.{length-records, length-streams, stream-at, head-at}
-use Rattle.sheet.proofs.Cases.{Passes, PassesAt, Upto, Stops, passes-if, passes-then, upto-none, reading-stops, stops-once, ended-empty, ended-no-stream, ended-sheet}
+use Rattle.sheet.proofs.Cases.{PassesAt, Upto, Stops, upto-none, reading-stops, stops-once, ended-empty, ended-no-stream, ended-sheet}
 use Rattle.sheet.proofs.Cases.Stops.{by-record, at-end}
 use Rattle.sheet.proofs.Counts.{count-none, count-some}
 use Rattle.sheet.proofs.Known.{both-fail, fits-behind, first-fits}

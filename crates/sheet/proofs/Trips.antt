@@ -1,29 +1,28 @@
 -- Round trips: records that make a right sheet are written and read back as they were; and the records of a sheet that reads without
 -- refusal, written again, give its bytes. Assumes nothing.
-use mathlib.Core.Path.{_≡_, refl, sym, ap, _∙_, subst}
-use mathlib.Core.Bool.{Bool, true, false}
+use mathlib.Core.Path.{_≡_, refl, sym, ap, _∙_}
+use mathlib.Core.Bool.{true}
 use mathlib.Core.List.{List, [], _∷_, _++_, append-assoc, append-nil}
-use mathlib.Core.Logic.{_⊎_, inl, inr, ⊎-elim}
+use mathlib.Core.Logic.{_⊎_, inl, inr}
 use Prim.Native.Nat.{ℕ, zero, suc, _+_, _≤_, _<_}
 use native.Mathlib.Nat.{not-suc-le-zero}
 use native.Mathlib.Omega.{arith}
 use borrow.Author.Tests.{eqb-true}
 use lib.ListN.{length, getD, take, drop, length-append, length-take}
-use lib.Seq.{split-at, take-suc, take-length, take-add, take-at, length-take-le}
+use lib.Seq.{split-at, take-suc, take-length, take-add}
 use Rattle.format.specs.declared.Record.{Record}
 use Rattle.format.specs.declared.Put.the-variants as put
-use Rattle.format.specs.Numbers.{pasted}
-use Rattle.format.specs.Kinds.{kinds, fieldsOf, limit, ranged, known, sizeOf, decode, encode, inRange, whole, nothing}
-use Rattle.format.specs.Writing.{putAnswer, putBytes, mostMasters, mostMessage}
+use Rattle.format.specs.Kinds.{kinds, fieldsOf, limit, ranged, known, sizeOf, decode, encode, inRange, nothing}
+use Rattle.format.specs.Writing.{mostMasters, mostMessage}
 use Rattle.format.proofs.Ranges.{segment-ranges, ring-ranges, in-range-mono}
 use Rattle.format.proofs.Trips.{length-encode, decode-encode, encode-decode, whole-if}
-use Rattle.sheet.specs.Sheets.{Sheet, headOf, streamsOf, sheetOf, fits}
-use Rattle.sheet.specs.Whole.{placeOf, recordsOf, ended, reading, Outcome}
-use Rattle.sheet.specs.Whole.Outcome.{Read, Not}
-use Rattle.sheet.specs.Records.{recordsIn, bytesOf, Follows, Right, Writes}
+use Rattle.sheet.specs.Sheets.{Sheet, headOf, streamsOf, sheetOf}
+use Rattle.sheet.specs.Whole.{placeOf, recordsOf, ended, reading}
+use Rattle.sheet.specs.Whole.Outcome.{Read}
+use Rattle.sheet.specs.Records.{recordsIn, bytesOf, Follows, Right}
 use Rattle.sheet.proofs.Walk.{length-records, record-at, records-front}
-use Rattle.sheet.proofs.Cases.{Passes, PassesAt, Upto, upto-front, Stops, reading-stops, stops-once, ended-sheet}
-use Rattle.sheet.proofs.Cases.Stops.{by-record, at-end}
+use Rattle.sheet.proofs.Cases.{PassesAt, Upto, upto-front, stops-once, ended-sheet}
+use Rattle.sheet.proofs.Cases.Stops.{at-end}
 use Rattle.sheet.proofs.Judged.{size-some}
 use Rattle.sheet.proofs.Known.{ReadsTo, reading-whole, fits-behind, first-fits}
 

@@ -1,16 +1,15 @@
 -- Page 01, 'Sheet records': the walk from record to record, by places and by records. Assumes nothing.
-use mathlib.Core.Path.{_≡_, refl, sym, ap, _∙_, subst}
+use mathlib.Core.Path.{_≡_, refl, _∙_}
 use mathlib.Core.List.{List, [], _∷_, _++_}
 use Prim.Native.Nat.{ℕ, zero, suc, _+_, _≤_, _<_}
 use native.Mathlib.Nat.{not-suc-le-zero, add-comm}
 use native.Mathlib.Numerals.{add-one}
 use native.Mathlib.Omega.{arith}
 use native.Mathlib.Decide.{ℕ-discrete}
-use lib.ListN.{length, getD, take, drop, length-append, length-drop, List·getD-append}
+use lib.ListN.{length, getD, take, length-append, length-drop, List·getD-append}
 use lib.Seq.{getD-at, getD-drop, drop-append-le, take-append-le, take-all}
-use Rattle.format.specs.declared.Record.{Record}
 use Rattle.format.specs.Kinds.{sizeOf, decode, nothing}
-use Rattle.sheet.specs.Sheets.{headOf, streamsOf, sheetOf}
+use Rattle.sheet.specs.Sheets.{headOf, streamsOf}
 use Rattle.sheet.specs.Whole.{placeOf, recordsOf}
 
 -- ---- Places

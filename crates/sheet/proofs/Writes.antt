@@ -1,9 +1,9 @@
 -- The same round trips through the writer: records written one after the other, each at the place that the one before it answered.
 -- Assumes nothing.
 use mathlib.Core.Path.{_≡_, refl, sym, ap, _∙_, subst}
-use mathlib.Core.Bool.{true, false}
-use mathlib.Core.List.{List, [], _∷_, _++_, append-nil}
-use Prim.Native.Nat.{ℕ, zero, suc, _+_, _≤_, _<_}
+use mathlib.Core.Bool.{true}
+use mathlib.Core.List.{List, [], _∷_, append-nil}
+use Prim.Native.Nat.{ℕ, suc, _+_, _≤_, _<_}
 use native.Mathlib.Nat.{add-zero, zero-add}
 use native.Mathlib.Omega.{arith}
 use lib.ListN.{length, getD, take, drop, length-append, take-append-drop, drop-of-length-le}
@@ -19,8 +19,8 @@ use Rattle.format.proofs.Numbers.{paste-next}
 use Rattle.format.proofs.Trips.{length-encode}
 use Rattle.format.proofs.Writing.{written, room-written}
 use Rattle.sheet.specs.Sheets.{Sheet, sheetOf}
-use Rattle.sheet.specs.Whole.{reading, Outcome}
-use Rattle.sheet.specs.Whole.Outcome.{Read, Not}
+use Rattle.sheet.specs.Whole.{reading}
+use Rattle.sheet.specs.Whole.Outcome.{Read}
 use Rattle.sheet.specs.Records.{recordsIn, bytesOf, Right, Writes}
 use Rattle.sheet.specs.Records.Writes.{none, next}
 use Rattle.sheet.proofs.Trips.{writable, written-reads, read-written, read-right}

@@ -1,11 +1,11 @@
 -- Page 01, 'Numbered refusals' 1..7, in the page's own words: when a number is given, and at which place. Numbers 1..7 alone come
 -- from reading; record i is counted from 0, the first record is record 0. Assumes nothing.
-use Prim.Native.Nat.{ℕ, zero, suc, _+_, _≤_, _<_}
+use Prim.Native.Nat.{ℕ, suc, _+_, _≤_, _<_}
 use mathlib.Core.Path.{_≡_}
-use mathlib.Core.Bool.{true, false}
+use mathlib.Core.Bool.{true}
 use mathlib.Core.List.{List}
 use mathlib.Core.Logic.{_⊎_}
-use lib.ListN.{length, getD}
+use lib.ListN.{length}
 use Rattle.format.specs.declared.Record.{Record}
 use Rattle.format.specs.Kinds.{sizeOf, decode, inRange}
 use Rattle.sheet.specs.Sheets.{headOf, streamsOf, countOf, mostInAll, hasMaster}

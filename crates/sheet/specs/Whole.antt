@@ -7,9 +7,10 @@ use lib.ListN.{length, getD}
 use lib.Dec.{ltb, leb, eqb}
 use Rattle.common.specs.Checks.{Check, check, Verdict, verdict}
 use Rattle.common.specs.Checks.Verdict.{Passed, Refused}
+use Rattle.common.specs.Runs.{tab}
 use Rattle.format.specs.declared.Record.{Record}
 use Rattle.format.specs.Kinds.{known, sizeOf, decode, inRange}
-use Rattle.sheet.specs.Sheets.{Sheet, headOf, streamsOf, sheetOf, fits, overLimit, metBefore}
+use Rattle.sheet.specs.Sheets.{Sheet, countOf, headOf, streamsOf, sheetOf, fits, overLimit, metBefore}
 use Rattle.sheet.specs.declared.Reading.{Reading}
 use Rattle.sheet.specs.declared.Reading.the-variants as answer
 
@@ -87,3 +88,15 @@ reading s = readFrom s (length s) 0
 abbrev pub told : List ℕ → Outcome → Reading
 told s (Read S) = answer.Accepted (S .head) (length (S .streams)) (placeOf s 1)
 told s (Not n p) = answer.Refused n p
+
+-- how many streams master k has
+unfoldable pub streamsOfMaster : Sheet → ℕ → ℕ
+unfolding countOf
+streamsOfMaster S k = countOf k (S .streams)
+
+-- lent memory of 33 places: place k has the number of master k's streams. It keeps what it had on a refusal, and for WorldFIP, whose
+-- variables have no master
+unfoldable pub countsTold : Outcome → List ℕ → List ℕ
+unfolding streamsOfMaster tab
+countsTold (Read S) old = cond (eqb (S .head .kind) 5) old (tab (streamsOfMaster S) 33)
+countsTold (Not n p) old = old

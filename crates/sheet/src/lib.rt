@@ -1,17 +1,13 @@
 // Reading a whole sheet, page 01 'Sheet records' and 'Numbered refusals' 1..7.
-use format::Met;
 use format::Record;
 ghost use mathlib.Core.Path.{_≡_};
-ghost use mathlib.Core.Bool.{not};
 ghost use mathlib.Core.List.{[]};
-ghost use Prim.Native.Nat.{_≤_, _<_};
-ghost use lib.ListN.{length};
-ghost use lib.Dec.{eqb};
-ghost use Rattle.format.specs.Kinds.{known, inRange, decode};
+ghost use Prim.Native.Nat.{_≤_};
+ghost use Rattle.format.specs.Kinds.{known};
 ghost use Rattle.sheet.specs.Sheets.{fits};
 ghost use Rattle.sheet.specs.Steps;
 ghost use Rattle.sheet.specs.Steps.{ownNo, lateNo, countsWith, idsWith, Begun};
-ghost use Rattle.sheet.specs.Whole.{told, reading};
+ghost use Rattle.sheet.specs.Whole.{told, countsTold, reading};
 
 // What reading a sheet answers.
 pub enum Reading {
@@ -35,10 +31,9 @@ fn begins(kind: u8) -> bool
     (kind == 1) | ((kind == 3) | (kind == 5))
 }
 
-// The refusal of a record by itself, in the order 2, 3, 1, 4; 0 if there is none. What is met is the record at this place,
-// and the place itself where it is not whole.
-fn own_no(kind: u8, right: bool, at: usize, met: Met, top: u32, long: u32) -> u8
-    ensures { λ no. ⌜ no ≡ ownNo (known kind) right (not (eqb (met .next) at)) (inRange top long (met .found)) ⌝ }
+// The refusal of a record by itself, in the order 2, 3, 1, 4; 0 if there is none.
+fn own_no(kind: u8, right: bool, whole: bool, ranged: bool) -> u8
+    ensures { λ no. ⌜ no ≡ ownNo (known kind) right whole ranged ⌝ }
 {
     if !format::known(kind) {
         return 2;
@@ -46,11 +41,10 @@ fn own_no(kind: u8, right: bool, at: usize, met: Met, top: u32, long: u32) -> u8
     if !right {
         return 3;
     }
-    if met.next == at {
+    if !whole {
         return 1;
     }
-    let found = met.found;
-    if !format::in_range(top, long, found) {
+    if !ranged {
         return 4;
     }
     0
@@ -111,9 +105,10 @@ fn keep(counts: &mut [u8; 33], ids: &mut [u32; 64], n: usize, r: Record)
 }
 
 // Reads the streams behind a first record that passed, up to the sheet's end or the first refusal.
-fn read_streams(s: &[u8], head: Record, first: usize) -> Reading
+fn read_streams(s: &[u8], head: Record, first: usize, handed: &mut [u8; 33]) -> Reading
     requires { ⌜ Begun (now s) head first ⌝ }
     ensures { λ r. ⌜ r ≡ told (now (s .entry)) (reading (now (s .entry))) ⌝ }
+    ensures { λ _. ⌜ now (handed .exit) ≡ countsTold (reading (now (s .entry))) (now (handed .entry)) ⌝ }
 {
     let mut counts: [u8; 33] = [0; 33];
     let mut ids: [u32; 64] = [0; 64];
@@ -122,11 +117,12 @@ fn read_streams(s: &[u8], head: Record, first: usize) -> Reading
     while at < s.len() {
         let kind = s[at];
         let met = format::record_at(s, at);
-        let own = own_no(kind, kind == head.kind + 1, at, met, head.a, head.c);
+        let stream = met.found;
+        let ranged = format::in_range(head.a, head.c, stream);
+        let own = own_no(kind, kind == head.kind + 1, met.next != at, ranged);
         if own != 0 {
             return Reading::Refused { no: own, place: at };
         }
-        let stream = met.found;
         let late = late_no(&counts, &ids, n, stream);
         if late != 0 {
             return Reading::Refused {
@@ -144,26 +140,42 @@ fn read_streams(s: &[u8], head: Record, first: usize) -> Reading
             place: s.len(),
         };
     }
-    Reading::Accepted {
+    let accepted = Reading::Accepted {
         head,
         streams: n,
         first,
+    };
+    if head.kind == 5 {
+        return accepted;
     }
+    *handed = counts;
+    accepted
 }
 
-// What a whole sheet is: accepted, or refused with a number and a place.
-pub fn read(s: &[u8]) -> Reading
+// What a whole sheet is: accepted, or refused with a number and a place. Reading counts the streams of each master anyway, and hands
+// the counts over where the sheet is accepted: place k has those of master k.
+pub fn read_counting(s: &[u8], handed: &mut [u8; 33]) -> Reading
     ensures { λ r. ⌜ r ≡ told (now (s .entry)) (reading (now (s .entry))) ⌝ }
+    ensures { λ _. ⌜ now (handed .exit) ≡ countsTold (reading (now (s .entry))) (now (handed .entry)) ⌝ }
 {
     if s.len() == 0 {
         return Reading::Refused { no: 1, place: 0 };
     }
     let kind = s[0];
     let met = format::record_at(s, 0);
-    let own = own_no(kind, begins(kind), 0, met, 0, 0);
+    let head = met.found;
+    let ranged = format::in_range(0, 0, head);
+    let own = own_no(kind, begins(kind), met.next != 0, ranged);
     if own != 0 {
         return Reading::Refused { no: own, place: 0 };
     }
-    let head = met.found;
-    read_streams(s, head, met.next)
+    read_streams(s, head, met.next, handed)
+}
+
+// The same for callers that need no counts.
+pub fn read(s: &[u8]) -> Reading
+    ensures { λ r. ⌜ r ≡ told (now (s .entry)) (reading (now (s .entry))) ⌝ }
+{
+    let mut counts: [u8; 33] = [0; 33];
+    read_counting(s, &mut counts)
 }

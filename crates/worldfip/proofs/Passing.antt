@@ -9,6 +9,7 @@ use native.Mathlib.Decide.{decLt}
 use lib.Dec.{ltb}
 use lib.ListN.{length, getD, List·getD-eq-default}
 use borrow.Author.Tests.{lt-ltb, le-ltb, eq-eqb, ne-eqb}
+use Rattle.common.specs.Sums.{when}
 use Rattle.common.specs.Checks.{Check, Verdict, verdict}
 use Rattle.common.specs.Checks.Verdict.{Passed, Refused}
 use Rattle.format.specs.declared.Met.{Met}
@@ -198,3 +199,22 @@ module _ (s : List ℕ) (first n e : ℕ) (ready : Ready s first n) (head : e �
   -- the places by rank of the periods are those of the sheet's variables
   pub variable-of : (r : ℕ) → variableOf (held periods n e) r ≡ variableOf (trafficOf (sheetIn s n)) r
   variable-of r = ap (λ (T : Traffic). variableOf T r) held-is ∙ plain-variable (trafficOf (sheetIn s n)) r
+
+  -- and so are the identifiers by rank
+  pub name-is : (v q : List ℕ) → ((r : ℕ) → r < n → getD v r 0 + 1 ≡ variableOf (held periods n e) r)
+      → ((r : ℕ) → getD q r 0 ≡ when (ltb r n) (getD names (getD v r 0) 0)) → (r : ℕ) → getD q r 0 ≡ identifierOf (reading s) r
+  unfolding identifierAt
+  name-is v q ev eq r =
+      eq r ∙ (go (decLt r n) ∙ (sym (this-name (sheetIn s n) (ready .bus) r) ∙ ap (λ (o : Outcome). identifierOf o r) (sym (ready .reads))))
+    where
+      T : Traffic
+      T = trafficOf (sheetIn s n)
+
+      number : T .number ≡ n
+      number = ready-number s first n ready
+
+      go : Dec (r < n) → when (ltb r n) (getD names (getD v r 0) 0) ≡ when (ltb r (T .number)) (T .variable (variableOf T r) .identifier)
+      go (yes l) =
+          simp (lt-ltb r n l, lt-ltb r (T .number) (omega (arith, number)))
+          (g .names-are (getD v r 0) ∙ ap (λ (i : ℕ). T .variable i .identifier) (ev r l ∙ variable-of r))
+      go (no l) = simp (le-ltb r n (omega (arith, l)), le-ltb r (T .number) (omega (arith, l, number)))

@@ -29,6 +29,17 @@ module _ (ps : List ℕ) (n e : ℕ) (there : n ≤ length ps) (D : Declared (he
   unfolding held plain
   few = D .number-in .1
 
+  -- ---- The places by rank
+
+  module _ (v : List ℕ) (ev : (r : ℕ) → r < n → getD v r 0 + 1 ≡ variableOf (held ps n 0) r) where
+    pub variable-is : (r : ℕ) → r < n → getD v r 0 + 1 ≡ variableOf (held ps n e) r
+    unfolding variableOf rankOf ahead held plain
+    variable-is r l = ev r l
+
+    pub place-within : (r : ℕ) → r < n → getD v r 0 < n
+    unfolding held plain
+    place-within r l = omega (arith, variable-is r l, variable-within (held ps n e) r l)
+
   -- ---- Microcycle, slots and rows
 
   module _ (c : ℕ) (ec : c ≡ factorUpto (numbered ps) n) where
@@ -54,23 +65,15 @@ module _ (ps : List ℕ) (n e : ℕ) (there : n ≤ length ps) (D : Declared (he
     unfolding rows inRows held plain
     rows-are = ap (λ (x : ℕ). multipleUpto (quotients ps x) n) micro-is
 
-    -- ---- The arrays by rank
+    -- ---- The periods by rank
 
     module _ (v : List ℕ) (ev : (r : ℕ) → r < n → getD v r 0 + 1 ≡ variableOf (held ps n 0) r) where
-      pub variable-is : (r : ℕ) → r < n → getD v r 0 + 1 ≡ variableOf (held ps n e) r
-      unfolding variableOf rankOf ahead held plain
-      variable-is r l = ev r l
-
-      pub place-within : (r : ℕ) → r < n → getD v r 0 < n
-      unfolding held plain
-      place-within r l = omega (arith, variable-is r l, variable-within (held ps n e) r l)
-
       module _ (q : List ℕ) (lq : length q ≡ 65) (eq : (r : ℕ) → getD q r 0 ≡ when (ltb r n) (getD ps (getD v r 0) 0 / c)) where
         period-in : (r : ℕ) → r < n → getD ps (getD v r 0) 0 / c ≡ inRows (held ps n e) (variableOf (held ps n e) r)
         unfolding inRows held plain
         period-in r l =
             ap (λ (x : ℕ). getD ps (getD v r 0) 0 / x) micro-is
-            ∙ ap (λ (x : ℕ). x / microcycle (held ps n e)) (sym (numbered-next ps (getD v r 0)) ∙ ap (numbered ps) (variable-is r l))
+            ∙ ap (λ (x : ℕ). x / microcycle (held ps n e)) (sym (numbered-next ps (getD v r 0)) ∙ ap (numbered ps) (variable-is v ev r l))
 
         pub period-at : (r : ℕ) → getD q r 0 ≡ periodAt (held ps n e) r
         unfolding periodAt held plain
@@ -87,8 +90,8 @@ module _ (ps : List ℕ) (n e : ℕ) (there : n ≤ length ps) (D : Declared (he
               few = few;
               there = omega (arith, few);
               long =
-                λ r l. (let w = variable-within (held ps n e) r l in
-                rw (period-at r, period-is (held ps n e) D r l) (in-rows-pos (held ps n e) D (variableOf (held ps n e) r) (w .0) (w .1)));
+                  λ r l. (let w = variable-within (held ps n e) r l in
+                  rw (period-at r, period-is (held ps n e) D r l) (in-rows-pos (held ps n e) D (variableOf (held ps n e) r) (w .0) (w .1)));
               ends = eq n ∙ simp (le-ltb n n (omega arith));
             }
 

@@ -25,7 +25,8 @@ returns c =
     let a = c .before .before .before .before .before .before .before .before .before .args in
     let n = length-digits (a .w) (a .x) in
     c .before .before .put-number2 .ensures
-    ∙ paste-next (a .buf .now) (a .at) (digits (a .w) (a .x)) (digits (a .v) (a .y)) (a .at + a .w) (c .before .before .before .before .before .before .put-number .ensures) (omega arith) (omega arith)
+    ∙ paste-next (a .buf .now) (a .at) (digits (a .w) (a .x)) (digits (a .v) (a .y)) (a .at + a .w)
+    (c .before .before .before .before .before .before .put-number .ensures) (omega arith) (omega arith)
 
 pub put-two-spec : {M : Type 1} → statement M
 put-two-spec =

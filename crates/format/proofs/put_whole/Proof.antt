@@ -43,7 +43,8 @@ returns-2 c =
     let a = start .args in
     let w = start .pre .1 in
     let z = size-is (a .r .kind) (a .wa) (a .wb) (a .wc) (a .wd) w in
-    let e : needed (a .at + sizeOf (a .r .kind)) ≡ a .at + (1 + a .wa + a .wb + a .wc + a .wd) = needed-is (a .at + sizeOf (a .r .kind)) (omega arith) ∙ omega arith in
+    let e : needed (a .at + sizeOf (a .r .kind)) ≡ a .at + (1 + a .wa + a .wb + a .wc + a .wd) =
+    needed-is (a .at + sizeOf (a .r .kind)) (omega arith) ∙ omega arith in
     short-written (a .buf .now) (a .at) (a .r) (w .is-known) (start .pre .0) (omega arith) (a .at + (1 + a .wa + a .wb + a .wc + a .wd)) e
 
 store-requires : tie.Need-store-requires

@@ -70,7 +70,8 @@ returns-2 c =
     let n₄ = c .number4 in
     let w = start .pre .1 in
     met-whole (a .s .now) (a .at) (a .wa) (a .wb) (a .wc) (a .wd) w _ (a .at + 1 + a .wa + a .wb + a .wc + a .wd)
-    (decode-is (a .s .now) (a .at) (a .wa) (a .wb) (a .wc) (a .wd) w _ (n₁ .result) (n₂ .result) (n₃ .result) (n₄ .result) refl (n₁ .ensures .0) (n₂ .ensures .0) (n₃ .ensures .0) (n₄ .ensures .0))
+    (decode-is (a .s .now) (a .at) (a .wa) (a .wb) (a .wc) (a .wd) w _ (n₁ .result) (n₂ .result) (n₃ .result) (n₄ .result) refl
+    (n₁ .ensures .0) (n₂ .ensures .0) (n₃ .ensures .0) (n₄ .ensures .0))
     refl (omega arith)
 
 pub whole-at-spec : {M : Type 1} → statement M

@@ -55,6 +55,14 @@ step c =
     stepped (start .args .s .now) (start .args .first) (start .args .streams) (start .pre .0) (l .i) (l .at) (c .before .before .record-at .result)
     (c .before .before .before .loop-test .taken) (l .inv .1) (c .before .before .record-at .ensures)
 
+-- its master's count is the ring's h
+share : (c : tie.After-struct-known Inv-loop μ-loop)
+    → getD (c .before .before .before .before .before .before .args .counts .now) (c .before .before .record-at .result .found .a) 0 ≡ count (ring (c .before .before .before .before .before .before)) (ring (c .before .before .before .before .before .before) .stream (c .before .before .before .before .loop .i + 1) .master)
+share c =
+    let start = c .before .before .before .before .before .before in
+    let master = c .before .before .record-at .result .found .a in
+    ap (λ (l : List ℕ). getD l master 0) (start .pre .1 .0) ∙ (getD-tab (count (ring start)) 33 master (step c .small) ∙ ap (count (ring start)) (step c .master))
+
 -- and stands behind streams 1..i, with its figures
 next : (c : tie.After-struct-known3 Inv-loop μ-loop)
     → Next (ring (c .before .before .before .before .before .before .before .before .before)) (c .before .before .before .before .before .before .before .loop .i) (c .before .before .before .before .before .before .before .loop .borne) (c .before .before .before .before .before .before .before .loop .limiting)
@@ -62,15 +70,11 @@ next : (c : tie.After-struct-known3 Inv-loop μ-loop)
     (c .before .before .before .before .before .record-at .result .found .b)
     (c .before .before .before .before .before .record-at .result .found .c)
 next c =
-    let start = c .before .before .before .before .before .before .before .before .before in
-    let m = c .before .before .before .before .before .record-at .result in
     let s = step (c .before .before .before) in
     record {
       tight = c .before .before .before .before .before .before .before .loop .inv .2;
       on = s .on;
-      share =
-          ap (λ (l : List ℕ). getD l (m .found .a) 0) (start .pre .1 .0)
-          ∙ (getD-tab (count (ring start)) 33 (m .found .a) (s .small) ∙ ap (count (ring start)) (s .master));
+      share = share (c .before .before .before);
       cycle = s .cycle;
       deadline = s .deadline;
     }
@@ -89,11 +93,13 @@ record-at-requires c κs = search needs
 cast-master : tie.Need-cast-master Inv-loop μ-loop
 cast-master c = omega (arith, step c .small)
 
-mul-h : tie.Need-mul-h Inv-loop μ-loop
-mul-h c = omega (arith, step c .small)
-
 element-copy-out-h : tie.Need-element-copy-out-h Inv-loop μ-loop
 element-copy-out-h c = step c .small
+
+cast-h : tie.Need-cast-h Inv-loop μ-loop
+cast-h c =
+    let start = c .before .before .before .before .before .before .before in
+    omega (arith, share (c .before), within start .count-in (ring start .stream (c .before .before .before .before .before .loop .i + 1) .master))
 
 cast-c : tie.Need-cast-c Inv-loop μ-loop
 cast-c c = search needs
@@ -171,8 +177,8 @@ largest-target-spec =
     loop-holds
     record-at-requires
     cast-master
-    mul-h
     element-copy-out-h
+    cast-h
     cast-c
     cast-d
     add-i

@@ -8,42 +8,37 @@ use Rattle.ring.proofs.Rule.{messages-of-one}
 use Rattle.ring.proofs.Sizes.{messages-most}
 use Rattle.profibus.specs.Planned.{planOf, sheetIn, Ready}
 use Rattle.profibus.proofs.Answers.{plan-other-bus}
-use Rattle.profibus.proofs.Passing.{Taken, taken, not-taken, ready-declared}
+use Rattle.profibus.proofs.Passing.{Taken, taken, not-taken, ready-declared, ready-counts}
 use borrow.Author.Needs.{needs}
 use Rattle.profibus.proofs.plan.Statement.{statement}
 use Rattle.profibus.proofs.plan.Tie as tie
-use Rattle.profibus.proofs.plan.Reads as reads
-use Rattle.profibus.proofs.plan.Lts as lts
-use Rattle.profibus.proofs.counts_of.Reads as counts-of-reads
-use Rattle.profibus.proofs.largest_target.Reads as largest-target-reads
-use Rattle.sheet.proofs.read.Reads as read-reads
 
 -- what the reader took
 took : (c : tie.After-head)
-    → Taken (c .before .before .before .before .args .s .now) (c .head .given .0 .0) (c .head .given .0 .1 .0) (c .head .given .0 .1 .1 .0)
+    → Taken (c .before .before .before .before .before .args .s .now) (c .head .given .0 .0) (c .head .given .0 .1 .0) (c .head .given .0 .1 .1 .0)
 took c =
-    taken (c .before .before .before .before .args .s .now) (c .head .given .0 .0) (c .head .given .0 .1 .0) (c .head .given .0 .1 .1 .0)
-    (sym (c .before .before .read .ensures) ∙ c .head .given .1)
+    taken (c .before .before .before .before .before .args .s .now) (c .head .given .0 .0) (c .head .given .0 .1 .0) (c .head .given .0 .1 .1 .0)
+    (sym (c .before .before .read-counting .ensures .0) ∙ c .head .given .1)
 
 -- is a PROFIBUS sheet
-ready : (c : tie.Else1) → Ready (c .before .before .before .before .before .before .before .args .s .now) (c .before .before .before .head .given .0 .1 .1 .0) (c .before .before .before .head .given .0 .1 .0)
+ready : (c : tie.Else1) → Ready (c .before .before .before .before .before .before .before .before .args .s .now) (c .before .before .before .head .given .0 .1 .1 .0) (c .before .before .before .head .given .0 .1 .0)
 ready c =
     let t = took (c .before .before .before) in
     record { reads = t .reads; bus = ap (λ (r : Record). r .kind) (sym (t .begins)) ∙ c .if1 .left; starts = t .starts }
 
 -- n·M of its first record is the ring's
 longest : (c : tie.Else1)
-    → c .before .before .before .head .given .0 .0 .a * c .before .before .before .head .given .0 .0 .c ≡ messages (ringOf (sheetIn (c .before .before .before .before .before .before .before .args .s .now) (c .before .before .before .head .given .0 .1 .0)))
+    → c .before .before .before .head .given .0 .0 .a * c .before .before .before .head .given .0 .0 .c ≡ messages (ringOf (sheetIn (c .before .before .before .before .before .before .before .before .args .s .now) (c .before .before .before .head .given .0 .1 .0)))
 longest c =
     ap (λ (r : Record). r .a * r .c) (took (c .before .before .before) .begins)
-    ∙ sym (messages-of-one (sheetIn (c .before .before .before .before .before .before .before .args .s .now) (c .before .before .before .head .given .0 .1 .0)))
+    ∙ sym (messages-of-one (sheetIn (c .before .before .before .before .before .before .before .before .args .s .now) (c .before .before .before .head .given .0 .1 .0)))
 
-latency : (c : tie.Else1) → c .before .before .before .head .given .0 .0 .b ≡ ringOf (sheetIn (c .before .before .before .before .before .before .before .args .s .now) (c .before .before .before .head .given .0 .1 .0)) .latency
+latency : (c : tie.Else1) → c .before .before .before .head .given .0 .0 .b ≡ ringOf (sheetIn (c .before .before .before .before .before .before .before .before .args .s .now) (c .before .before .before .head .given .0 .1 .0)) .latency
 unfolding ringOf
 latency c = ap (λ (r : Record). r .b) (took (c .before .before .before) .begins)
 
-read-requires : tie.Need-read-requires
-read-requires c κs = search needs
+read-counting-requires : tie.Need-read-counting-requires
+read-counting-requires c κs = search needs
 
 enum-known-no : tie.Need-enum-known-no
 enum-known-no c = search needs
@@ -54,11 +49,8 @@ enum-known-head c = search needs
 returns : tie.Need-returns
 returns c =
     let t = took (c .before .before .before) in
-    let S = sheetIn (c .before .before .before .before .before .before .before .args .s .now) (c .before .before .before .head .given .0 .1 .0) in
+    let S = sheetIn (c .before .before .before .before .before .before .before .before .args .s .now) (c .before .before .before .head .given .0 .1 .0) in
     sym (ap planOf (t .reads) ∙ plan-other-bus S (λ e. c .if1 .taken (ap (λ (r : Record). r .kind) (t .begins) ∙ e)))
-
-counts-of-requires : tie.Need-counts-of-requires
-counts-of-requires c κs = ready c
 
 cast-longest : tie.Need-cast-longest
 cast-longest c = search needs
@@ -68,8 +60,8 @@ cast-longest-2 c = search needs
 
 mul-longest : tie.Need-mul-longest
 mul-longest c =
-    let e = c .before .before .before in
-    let s = e .before .before .before .before .before .before .before .args .s .now in
+    let e = c .before .before in
+    let s = e .before .before .before .before .before .before .before .before .args .s .now in
     let n = e .before .before .before .head .given .0 .1 .0 in
     let d = ready-declared s (e .before .before .before .head .given .0 .1 .1 .0) n (ready e) in
     omega (arith, longest e, messages-most (ringOf (sheetIn s n)) d)
@@ -79,28 +71,30 @@ cast-largest-target c = search needs
 
 largest-target-requires : tie.Need-largest-target-requires
 largest-target-requires c κs =
-    let e = c .before .before .before .before .before in
-    (ready e, (c .before .before .before .before .counts-of .ensures, (latency e, longest e)))
+    let e = c .before .before .before .before in
+    let start = e .before .before .before .before .before .before .before .before in
+    let h = e .before .before .before .head .given in
+    let told = e .before .before .before .before .before .read-counting .ensures .1 in
+    (ready e, (told ∙ ready-counts (start .args .s .now) (h .0 .1 .1 .0) (h .0 .1 .0) (ready e) _, (latency e, longest e)))
 
 returns-2 : tie.Need-returns-2
 unfolding planOf
 returns-2 c =
-    let s = c .before .before .before .before .before .args .s .now in
-    let e = sym (c .before .before .before .read .ensures) ∙ c .before .no .given .1 in
+    let s = c .before .before .before .before .before .before .args .s .now in
+    let e = sym (c .before .before .before .read-counting .ensures .0) ∙ c .before .no .given .1 in
     sym (ap planOf (not-taken s (c .before .no .given .0 .0) (c .before .no .given .0 .1 .0) e))
 
 returns-3 : tie.Need-returns-3
-returns-3 c = c .largest-target .ensures ∙ ap planOf (sym (took (c .before .before .before .before .before .before .before .before .before) .reads))
+returns-3 c = c .largest-target .ensures ∙ ap planOf (sym (took (c .before .before .before .before .before .before .before .before) .reads))
 
 pub plan-spec : {M : Type 1} → statement M
 plan-spec =
     tie.close
     (tie.spec
-    read-requires
+    read-counting-requires
     enum-known-no
     enum-known-head
     returns
-    counts-of-requires
     cast-longest
     cast-longest-2
     mul-longest

@@ -70,8 +70,7 @@ loop-again : tie.Need-loop-again Inv-loop μ-loop
 loop-again c =
     let l = c .before .before .before .before .loop in
     let s = c .before .before .before .before .before .before in
-    let f = few c in
-    (
+    let f = few c in (
       omega arith,
       simp length-set (l .inv .1),
       simp length-set (l .inv .2),

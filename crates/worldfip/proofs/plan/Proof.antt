@@ -54,8 +54,7 @@ table-requires c κs =
     let s = c .before .before .before .before .before .before .before .before .before .before .before .before .args .s .now in
     let g = c .before .before .before .gather .ensures in
     let n = ready-number s (h .1 .1 .0) (h .1 .0) (ready e) in
-    let d = ready-declared s (h .1 .1 .0) (h .1 .0) (ready e) in
-    (
+    let d = ready-declared s (h .1 .1 .0) (h .1 .0) (ready e) in (
       omega (arith, g .periods-long, n, d .number-in),
       held-declared s (h .1 .1 .0) (h .1 .0) (h .0 .a) (ready e) (ap (λ (r : Record). r .a) (took (c .before .before .before .before .before .before .before) .begins)) _ _ g,
     )
@@ -77,8 +76,7 @@ returns-3 c =
     let s = c .before .before .before .before .before .before .before .before .before .before .before .before .before .before .before .args in
     let g = c .before .before .before .before .before .before .gather .ensures in
     let a = ap (λ (r : Record). r .a) (took (c .before .before .before .before .before .before .before .before .before .before) .begins) in
-    let t = c .before .before .table .ensures in
-    (
+    let t = c .before .before .table .ensures in (
       t .0 ∙ plan-is (s .s .now) (h .1 .1 .0) (h .1 .0) (h .0 .a) (ready e) a _ _ g (length (s .rows .now)),
       t .1 ∙ run-is (s .s .now) (h .1 .1 .0) (h .1 .0) (h .0 .a) (ready e) a _ _ g (s .rows .now),
     )

@@ -101,7 +101,7 @@ in-rows-requires : tie.Need-in-rows-requires
 in-rows-requires c κs =
     let a = c .before .before .before .before .before .before .before .before .before .args in
     let w = whole (a .ps .now) (a .n) (a .e) (c .before .before .before .before .before .before .before .before .before .pre .0) (c .before .before .before .before .before .before .before .before .before .pre .1) (c .before .before .before .before .before .before .microcycle .result) (c .before .before .before .before .before .before .microcycle .ensures) in
-    ((w .few, w .there, w .some), (c .before .by-rank .ensures .0, place-within (a .ps .now) (a .n) (a .e) (c .before .before .before .before .before .before .before .before .before .pre .0) (c .before .before .before .before .before .before .before .before .before .pre .1) (c .before .before .before .before .before .before .microcycle .result) (c .before .before .before .before .before .before .microcycle .ensures) (c .before .by-rank .result) (c .before .by-rank .ensures .1)))
+    ((w .few, w .there, w .some), (c .before .by-rank .ensures .0, place-within (a .ps .now) (a .n) (a .e) (c .before .before .before .before .before .before .before .before .before .pre .0) (c .before .before .before .before .before .before .before .before .before .pre .1) (c .before .by-rank .result) (c .before .by-rank .ensures .1)))
 
 slice-aggregate-build : tie.Need-slice-aggregate-build
 slice-aggregate-build c = search needs
@@ -130,14 +130,14 @@ add-place : tie.Need-add-place
 add-place c =
     let a = c .before .before .before .before .before .before .before .before .before .before .before .before .before .before .before .before .args in
     let r = best-within (traffic (c .before .before .before .before .before .before .before .before .before .before .before .before .before .before .before .before)) (c .before .before .before .before .before .before .before .before .before .before .before .before .before .before .before .before .pre .1) (c .before .before .before .build .result) (late (c .before .before)) (c .before .if4 .taken) (c .first-of .result) (c .first-of .ensures .0) in
-    omega (arith, place-within (a .ps .now) (a .n) (a .e) (c .before .before .before .before .before .before .before .before .before .before .before .before .before .before .before .before .pre .0) (c .before .before .before .before .before .before .before .before .before .before .before .before .before .before .before .before .pre .1) (c .before .before .before .before .before .before .before .before .before .before .before .before .before .microcycle .result) (c .before .before .before .before .before .before .before .before .before .before .before .before .before .microcycle .ensures) (c .before .before .before .before .before .before .before .before .by-rank .result) (c .before .before .before .before .before .before .before .before .by-rank .ensures .1) (c .first-of .result) (small c), few (a .ps .now) (a .n) (a .e) (c .before .before .before .before .before .before .before .before .before .before .before .before .before .before .before .before .pre .0) (c .before .before .before .before .before .before .before .before .before .before .before .before .before .before .before .before .pre .1))
+    omega (arith, place-within (a .ps .now) (a .n) (a .e) (c .before .before .before .before .before .before .before .before .before .before .before .before .before .before .before .before .pre .0) (c .before .before .before .before .before .before .before .before .before .before .before .before .before .before .before .before .pre .1) (c .before .before .before .before .before .before .before .before .by-rank .result) (c .before .before .before .before .before .before .before .before .by-rank .ensures .1) (c .first-of .result) (small c), few (a .ps .now) (a .n) (a .e) (c .before .before .before .before .before .before .before .before .before .before .before .before .before .before .before .before .pre .0) (c .before .before .before .before .before .before .before .before .before .before .before .before .before .before .before .before .pre .1))
 
 returns-4 : tie.Need-returns-4
 returns-4 c =
     let s = c .before .before .before .before .before .before .before .before .before .before .before .before .before .before .before .before in
     let a = c .before .before .before .before .before .before .before .before .before .before .before .before .before .before .before .before .args in
     let e = exact (c .before .before .before .before .before .before .before .before .before .before) in
-    let p : _ ≡ missingOf (traffic s) = variable-is (a .ps .now) (a .n) (a .e) (c .before .before .before .before .before .before .before .before .before .before .before .before .before .before .before .before .pre .0) (c .before .before .before .before .before .before .before .before .before .before .before .before .before .before .before .before .pre .1) (c .before .before .before .before .before .before .before .before .before .before .before .before .before .microcycle .result) (c .before .before .before .before .before .before .before .before .before .before .before .before .before .microcycle .ensures) (c .before .before .before .before .before .before .before .before .by-rank .result) (c .before .before .before .before .before .before .before .before .by-rank .ensures .1) (c .first-of .result) (small c) ∙ best-is (traffic s) (s .pre .1) (c .before .before .before .build .result) (late (c .before .before)) (c .before .if4 .taken) (c .first-of .result) (c .first-of .ensures .0) in
+    let p : _ ≡ missingOf (traffic s) = variable-is (a .ps .now) (a .n) (a .e) (c .before .before .before .before .before .before .before .before .before .before .before .before .before .before .before .before .pre .0) (c .before .before .before .before .before .before .before .before .before .before .before .before .before .before .before .before .pre .1) (c .before .before .before .before .before .before .before .before .by-rank .result) (c .before .before .before .before .before .before .before .before .by-rank .ensures .1) (c .first-of .result) (small c) ∙ best-is (traffic s) (s .pre .1) (c .before .before .before .build .result) (late (c .before .before)) (c .before .if4 .taken) (c .first-of .result) (c .first-of .ensures .0) in
     rw p (tells-12 (traffic s) (a .out .now) (some (c .before .before .before .before .before .before .before .before .before .before .before .before)) (omega (arith, e, c .before .before .before .before .before .before .before .before .before .before .if2 .left)) (omega (arith, e, c .before .before .before .before .before .before .before .before .before .if3 .left)) (misses (traffic s) (s .pre .1) (c .before .before .before .build .result) (late (c .before .before)) (c .before .if4 .taken)))
 
 slice-aggregate-copy : tie.Need-slice-aggregate-copy

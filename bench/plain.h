@@ -1,0 +1,17 @@
+/* The plain C planners. The types come from the compiler itself, so that no C header is needed: the kit's compiler has none. */
+#ifndef PLAIN_H
+#define PLAIN_H
+
+typedef __SIZE_TYPE__ size_t;
+typedef __UINT8_TYPE__ uint8_t;
+typedef __UINT16_TYPE__ uint16_t;
+typedef __UINT32_TYPE__ uint32_t;
+typedef __UINT64_TYPE__ uint64_t;
+
+int plain_pnet(const uint8_t *s, size_t n, uint32_t *bound, size_t bn, uint32_t *refined,
+               size_t rn, uint32_t *rounds, size_t cn, uint64_t *place);
+int plain_profibus(const uint8_t *s, size_t n, uint32_t *ttr, uint32_t *stream, uint64_t *place);
+int plain_worldfip(const uint8_t *s, size_t n, uint64_t *rows, size_t rn, uint32_t *row_count,
+                   uint64_t *place);
+
+#endif

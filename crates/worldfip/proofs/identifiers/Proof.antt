@@ -1,0 +1,114 @@
+-- `worldfip::identifiers` meets its contract. Assumes nothing.
+use mathlib.Core.Path.{_≡_, sym, ap, _∙_}
+use native.Mathlib.Omega.{arith}
+use borrow.Author.Needs.{needs}
+use Rattle.common.proofs.Runs.{tab-places}
+use Rattle.format.specs.declared.Record.{Record}
+use Rattle.sheet.specs.Whole.{Outcome, reading}
+use Rattle.worldfip.specs.Answer.{identifierOf}
+use Rattle.worldfip.specs.Held.{sheetIn, Ready}
+use Rattle.worldfip.proofs.Turns.{zero-run}
+use Rattle.worldfip.proofs.Tied.{variable-is, place-within}
+use Rattle.worldfip.proofs.Passing.{Taken, taken, not-taken, other-name, held-declared, name-is, ready-declared, ready-number}
+use Rattle.worldfip.proofs.identifiers.Statement.{statement}
+use Rattle.worldfip.proofs.identifiers.Tie as tie
+
+-- what the reader took
+took : (c : tie.After-head)
+    → Taken (c .before .before .before .before .args .s .now) (c .head .given .0 .0) (c .head .given .0 .1 .0) (c .head .given .0 .1 .1 .0)
+took c =
+    taken (c .before .before .before .before .args .s .now) (c .head .given .0 .0) (c .head .given .0 .1 .0) (c .head .given .0 .1 .1 .0)
+    (sym (c .before .before .read .ensures) ∙ c .head .given .1)
+
+-- is a WorldFIP sheet
+ready : (c : tie.Else1) → Ready (c .before .before .before .before .before .before .before .args .s .now) (c .before .before .before .head .given .0 .1 .1 .0) (c .before .before .before .head .given .0 .1 .0)
+ready c =
+    let t = took (c .before .before .before) in
+    record { reads = t .reads; bus = ap (λ (r : Record). r .kind) (sym (t .begins)) ∙ c .if1 .left; starts = t .starts }
+
+read-requires : tie.Need-read-requires
+read-requires c κs = search needs
+
+enum-told : tie.Need-enum-told
+enum-told c = search needs
+
+enum-known-head : tie.Need-enum-known-head
+enum-known-head c = search needs
+
+returns : tie.Need-returns
+returns c =
+    let t = took (c .before .before .before) in
+    let S = sheetIn (c .before .before .before .before .before .before .before .args .s .now) (c .before .before .before .head .given .0 .1 .0) in
+    let other : (S .head .kind ≡ 5 → ⊥) = λ (e : S .head .kind ≡ 5). c .if1 .taken (ap (λ (r : Record). r .kind) (t .begins) ∙ e) in
+    zero-run (identifierOf (reading (c .before .before .before .before .before .before .before .args .s .now))) (λ r. ap (λ (o : Outcome). identifierOf o r) (t .reads) ∙ other-name S other r)
+
+gather-requires : tie.Need-gather-requires
+gather-requires c κs = ready c
+
+slice-aggregate-by-rank : tie.Need-slice-aggregate-by-rank
+slice-aggregate-by-rank c = search needs
+
+by-rank-requires : tie.Need-by-rank-requires
+by-rank-requires c κs =
+    let h = c .before .before .before .before .before .before .before .head .given .0 in
+    let s = c .before .before .before .before .before .before .before .before .before .before .before .args .s .now in
+    let n = ready-number s (h .1 .1 .0) (h .1 .0) (ready (c .before .before .before .before)) in
+    let d = ready-declared s (h .1 .1 .0) (h .1 .0) (ready (c .before .before .before .before)) in
+    (omega (arith, c .before .before .before .gather .ensures .periods-long, n, d .number-in), omega (arith, n, d .number-in))
+
+slice-aggregate-names-by-rank : tie.Need-slice-aggregate-names-by-rank
+slice-aggregate-names-by-rank c = search needs
+
+slice-aggregate-names-by-rank-2 : tie.Need-slice-aggregate-names-by-rank-2
+slice-aggregate-names-by-rank-2 c = search needs
+
+names-by-rank-requires : tie.Need-names-by-rank-requires
+names-by-rank-requires c κs =
+    let h = c .before .before .before .before .before .before .before .before .before .before .head .given .0 in
+    let s = c .before .before .before .before .before .before .before .before .before .before .before .before .before .before .args .s .now in
+    let e = c .before .before .before .before .before .before .before in
+    let g = c .before .before .before .before .before .before .gather .ensures in
+    let n = ready-number s (h .1 .1 .0) (h .1 .0) (ready e) in
+    let d = ready-declared s (h .1 .1 .0) (h .1 .0) (ready e) in
+    let k = held-declared s (h .1 .1 .0) (h .1 .0) (h .0 .a) (ready e) (ap (λ (r : Record). r .a) (took (c .before .before .before .before .before .before .before .before .before .before) .begins)) _ _ g in (
+      (omega (arith, n, d .number-in), omega (arith, g .names-long, n, d .number-in)),
+      (c .before .before .by-rank .ensures .0, place-within (c .before .before .before .before .before .before .gather .result .periods) (h .1 .0) (h .0 .a) (omega (arith, g .periods-long, n, d .number-in)) k (c .before .before .by-rank .result) (c .before .before .by-rank .ensures .1)),
+    )
+
+returns-2 : tie.Need-returns-2
+unfolding identifierOf
+returns-2 c =
+    let s = c .before .before .before .before .args .s .now in
+    let e = not-taken s _ _ (sym (c .before .before .read .ensures) ∙ c .enum-told .given .1) in
+    zero-run (identifierOf (reading s)) (λ r. ap (λ (o : Outcome). identifierOf o r) e)
+
+returns-3 : tie.Need-returns-3
+returns-3 c =
+    let h = c .before .before .before .before .before .before .before .before .before .before .before .head .given .0 in
+    let s = c .before .before .before .before .before .before .before .before .before .before .before .before .before .before .before .args .s .now in
+    let e = c .before .before .before .before .before .before .before .before in
+    let g = c .before .before .before .before .before .before .before .gather .ensures in
+    let a = ap (λ (r : Record). r .a) (took (c .before .before .before .before .before .before .before .before .before .before .before) .begins) in
+    let n = ready-number s (h .1 .1 .0) (h .1 .0) (ready e) in
+    let d = ready-declared s (h .1 .1 .0) (h .1 .0) (ready e) in
+    let k = held-declared s (h .1 .1 .0) (h .1 .0) (h .0 .a) (ready e) a _ _ g in
+    let v = variable-is (c .before .before .before .before .before .before .before .gather .result .periods) (h .1 .0) (h .0 .a) (omega (arith, g .periods-long, n, d .number-in)) k (c .before .before .before .by-rank .result) (c .before .before .before .by-rank .ensures .1) in
+    let f = name-is s (h .1 .1 .0) (h .1 .0) (h .0 .a) (ready e) a _ _ g (c .before .before .before .by-rank .result) (c .names-by-rank .result) v (c .names-by-rank .ensures .1) in
+    tab-places (identifierOf (reading s)) (c .names-by-rank .result) 64 (c .names-by-rank .ensures .0) (λ r l. f r)
+
+pub identifiers-spec : {M : Type 1} → statement M
+identifiers-spec =
+    tie.close
+    (tie.spec
+    read-requires
+    enum-told
+    enum-known-head
+    returns
+    gather-requires
+    slice-aggregate-by-rank
+    by-rank-requires
+    slice-aggregate-names-by-rank
+    slice-aggregate-names-by-rank-2
+    names-by-rank-requires
+    returns-2
+    returns-3)

@@ -1,0 +1,220 @@
+"""Write the sample sheets and their listings, or say whether they are current.
+
+    make.py            writes every NAME.sheet and NAME.txt beside this file
+    make.py --check    changes nothing; exit status 1 if a file is not current
+
+The expected reports stand here as text, so that a change of the second
+opinion can't pass unseen into the samples.
+"""
+
+import os
+import sys
+
+HERE = os.path.dirname(os.path.abspath(__file__))
+sys.path.insert(0, os.path.join(HERE, os.pardir, "tests"))
+sys.dont_write_bytecode = True
+
+import second_opinion  # noqa: E402
+
+WORDS = {
+    1: "P-NET segment",
+    2: "P-NET stream",
+    3: "PROFIBUS ring",
+    4: "PROFIBUS stream",
+    5: "WorldFIP",
+    6: "WorldFIP variable",
+}
+# each field's bytes, name and unit
+FIELDS = {
+    1: [(1, "masters N", "")],
+    2: [
+        (1, "master", ""),
+        (2, "longest cycle C", " bp"),
+        (4, "spacing T", " bp"),
+        (4, "deadline D", " bp"),
+    ],
+    3: [(1, "masters n", ""), (4, "ring latency L", " bp"), (4, "longest message M", " bp")],
+    4: [(1, "master", ""), (4, "cycle C", " bp"), (4, "deadline D", " bp")],
+    5: [(4, "one buffer exchange E", " us")],
+    6: [(2, "identifier", ""), (4, "period", " us")],
+}
+
+FOUR_MASTERS = [(1, 4)] + [(2, y, 203, 100_000, 2_000) for y in (1, 1, 2, 2, 3, 3, 4, 4)]
+LATE_THIRD = (2, 2, 203, 100_000, 1_999)
+
+# name, what it shows, records, bytes cut off at the end, expected report
+SAMPLES = [
+    (
+        "pnet-two-masters",
+        "Accepted. The refined figure of master 1 is below its bound, as master 2\n"
+        "has one request only while two of master 1 are served.",
+        [
+            (1, 2),
+            (2, 1, 203, 100_000, 100_000),
+            (2, 1, 203, 100_000, 100_000),
+            (2, 2, 203, 100_000, 100_000),
+        ],
+        0,
+        "P-NET segment\n"
+        "M01 bound 1000 bp 13021 us refined 760 bp 9896 us 2 rounds\n"
+        "M02 bound 500 bp 6511 us refined 500 bp 6511 us 2 rounds\n",
+    ),
+    (
+        "pnet-four-masters",
+        "Accepted. Every deadline stands at the bound of 2,000 bp, which source 004\n"
+        "prints as 26 ms; rounded up it is 26,042 us.",
+        FOUR_MASTERS,
+        0,
+        "P-NET segment\n"
+        + "".join(
+            "M0%d bound 2000 bp 26042 us refined 2000 bp 26042 us 2 rounds\n" % y
+            for y in (1, 2, 3, 4)
+        ),
+    ),
+    (
+        "pnet-four-masters-late",
+        "Refused with 8. A deadline of 26,041 us is 1,999 bp, one below the bound:\n"
+        "26 ms for the bound would have let it pass.",
+        FOUR_MASTERS[:3] + [LATE_THIRD] + FOUR_MASTERS[4:],
+        0,
+        "refused 8 at stream 3\n",
+    ),
+    (
+        "pnet-silent-masters",
+        "Accepted, stream 1 just at its bound. Masters 2 and 4 have no streams and no\n"
+        "line, and still cost 10 bp each in every turn of the token.",
+        [
+            (1, 4),
+            (2, 1, 203, 5_000, 620),
+            (2, 3, 303, 10_000, 2_000),
+            (2, 3, 103, 10_000, 9_000),
+        ],
+        0,
+        "P-NET segment\n"
+        "M01 bound 620 bp 8073 us refined 620 bp 8073 us 2 rounds\n"
+        "M03 bound 1240 bp 16146 us refined 1000 bp 13021 us 2 rounds\n",
+    ),
+    (
+        "profibus-ring",
+        "Accepted. Stream 1 alone fails at 2,501 bp.",
+        [(3, 3, 300, 500), (4, 1, 400, 8_400), (4, 1, 500, 10_000), (4, 2, 300, 5_000)],
+        0,
+        "PROFIBUS ring\nTTR 2500 bp limited by stream 1\n",
+    ),
+    (
+        "profibus-ring-late",
+        "Refused with 9. At a rotation time of 300 bp, the latency, stream 3 needs\n"
+        "300 + 3 * 500 + 300 = 2,100 bp and has one less.",
+        [(3, 3, 300, 500), (4, 1, 400, 8_400), (4, 1, 500, 10_000), (4, 2, 300, 2_099)],
+        0,
+        "refused 9 at stream 3\n",
+    ),
+    (
+        "worldfip-table",
+        "Accepted. Two slots in each row, all of them used.",
+        [(5, 400), (6, 17, 1_000), (6, 18, 2_000), (6, 19, 4_000), (6, 20, 4_000)],
+        0,
+        "WorldFIP table\n"
+        "microcycle 1000 us 2 slots 4 rows\n"
+        "row 0: 17 18\n"
+        "row 1: 17 19\n"
+        "row 2: 17 18\n"
+        "row 3: 17 20\n",
+    ),
+    (
+        "worldfip-empty-rows",
+        "Accepted. Equal periods rank by sheet order, so 31 stands before 30; two\n"
+        "rows have nothing to send.",
+        [(5, 300), (6, 40, 3_000), (6, 31, 2_000), (6, 30, 2_000)],
+        0,
+        "WorldFIP table\n"
+        "microcycle 1000 us 3 slots 6 rows\n"
+        "row 0: 31 30 40\n"
+        "row 1:\n"
+        "row 2: 31 30\n"
+        "row 3: 40\n"
+        "row 4: 31 30\n"
+        "row 5:\n",
+    ),
+    (
+        "worldfip-e210",
+        "Refused with 12 (the sheet of source 004). Four exchanges fill each row, and\n"
+        "the fifth variable still waits when its period ends.",
+        [(5, 210)] + [(6, i, 1_000) for i in (17, 18, 19, 20)] + [(6, 21, 3_000)],
+        0,
+        "refused 12 at variable 5\n",
+    ),
+    (
+        "damaged-cut",
+        "Refused with 1. The last record lacks seven of its twelve bytes.",
+        [(1, 2), (2, 1, 203, 100_000, 100_000), (2, 2, 203, 100_000, 100_000)],
+        7,
+        "refused 1 at byte 14\n",
+    ),
+]
+
+
+def record(kind, *numbers):
+    body = b"".join(n.to_bytes(f[0], "big") for n, f in zip(numbers, FIELDS[kind]))
+    return bytes([kind]) + body
+
+
+def listing(name, about, records, cut, report):
+    lines = [name + ".sheet", ""] + about.split("\n") + [""]
+    place = 0
+    for kind, *numbers in records:
+        length = len(record(kind, *numbers))
+        line = "byte %d: %s" % (place, WORDS[kind])
+        if kind % 2 == 0:
+            line += " %d" % ((place - len(record(*records[0]))) // length + 1)
+        if place + length > sum(len(record(*r)) for r in records) - cut:
+            line += ", cut after %d of %d bytes" % (length - cut, length)
+        else:
+            for number, (_, field, unit) in zip(numbers, FIELDS[kind]):
+                line += ", %s %s%s" % (field, format(number, ","), unit)
+        lines.append(line)
+        place += length
+    return "\n".join(lines) + "\n\nReport:\n\n" + report
+
+
+def files():
+    """Every file's name and contents."""
+    for name, about, records, cut, report in SAMPLES:
+        data = b"".join(record(*r) for r in records)
+        data = data[: len(data) - cut]
+        if second_opinion.report(data) != report.encode("ascii"):
+            sys.exit("%s: the second opinion reports otherwise:\n%s"
+                     % (name, second_opinion.report(data).decode("ascii")))
+        yield name + ".sheet", data
+        yield name + ".txt", listing(name, about, records, cut, report).encode("ascii")
+
+
+def contents(path):
+    if not os.path.exists(path):
+        return None
+    with open(path, "rb") as file:
+        return file.read()
+
+
+def main():
+    if sys.argv[1:] not in ([], ["--check"]):
+        sys.exit(__doc__.strip())
+    expected = dict(files())
+    if sys.argv[1:] == []:
+        for name, data in expected.items():
+            with open(os.path.join(HERE, name), "wb") as file:
+                file.write(data)
+        print("%d files written" % len(expected))
+        return 0
+    stale = [n for n, data in expected.items() if contents(os.path.join(HERE, n)) != data]
+    stale += [
+        n for n in sorted(os.listdir(HERE)) if n.endswith((".sheet", ".txt")) and n not in expected
+    ]
+    for name in stale:
+        print("not current: %s" % name)
+    print("%d files, %d not current" % (len(expected), len(stale)))
+    return 1 if stale else 0
+
+
+if __name__ == "__main__":
+    sys.exit(main())

@@ -1,0 +1,32 @@
+"""Run a planner on every sample sheet and compare its report with the one in the listing.
+
+    samples.py PROGRAM...
+"""
+
+import pathlib
+import subprocess
+import sys
+
+SAMPLES = pathlib.Path(__file__).resolve().parent.parent / "samples"
+
+
+def main(program):
+    if not program:
+        sys.exit(__doc__)
+    wrong = 0
+    sheets = sorted(SAMPLES.glob("*.sheet"))
+    for sheet in sheets:
+        listing = sheet.with_suffix(".txt").read_bytes()
+        expected = listing.split(b"\nReport:\n\n", 1)[1]
+        # by standard input, and by the file's name
+        for words, data in ((program, sheet.read_bytes()), (program + [str(sheet)], b"")):
+            done = subprocess.run(words, input=data, stdout=subprocess.PIPE, check=False)
+            if done.stdout != expected:
+                wrong += 1
+                print("%s\nexpected %r\ngot      %r" % (sheet.name, expected, done.stdout))
+    print("%d sample sheets, %d reports differ" % (len(sheets), wrong))
+    return 1 if wrong or not sheets else 0
+
+
+if __name__ == "__main__":
+    sys.exit(main(sys.argv[1:]))

@@ -1,0 +1,420 @@
+"""A second opinion on sheets: page 01 written again in plain Python.
+
+It shares no code with the planner, so that the two can only agree where both
+follow the page. It favours the page's own words over speed: the refined
+figure is worked out by the formula with its minus signs, and the WorldFIP
+table with lists of pending requests.
+
+As a command it reads a sheet from standard input and writes the report.
+"""
+
+import math
+import sys
+from collections import namedtuple
+
+# ---------------------------------------------------------------- answers
+
+Refusal = namedtuple("Refusal", "number place")
+
+# head: the first record's fields; streams: one tuple of fields per later record
+Sheet = namedtuple("Sheet", "kind head streams")
+
+# one number for each of the masters 1..N
+PnetPlan = namedtuple("PnetPlan", "bound refined rounds")
+ProfibusPlan = namedtuple("ProfibusPlan", "ttr stream")
+# rank: variable numbers (from 1, in sheet order), best rank first
+WorldfipPlan = namedtuple("WorldfipPlan", "microcycle slots rows rank")
+
+# place: the place just after the record
+Written = namedtuple("Written", "place record")
+
+
+# ---------------------------------------------------------------- units
+
+
+def us_up(bp):
+    """A bound in bp as us, rounded up; one bp is 625/48 us."""
+    return -(-bp * 625 // 48)
+
+
+def bp_down(us):
+    """A deadline in us as bp, rounded down."""
+    return us * 48 // 625
+
+
+# ---------------------------------------------------------------- records
+
+WIDTHS = {
+    1: (1,),
+    2: (1, 2, 4, 4),
+    3: (1, 4, 4),
+    4: (1, 4, 4),
+    5: (4,),
+    6: (2, 4),
+}
+FIRST_KINDS = (1, 3, 5)
+
+BILLION = 1_000_000_000
+LATENCY_LIMIT = 100_000
+MESSAGE_LIMIT = 100_000
+MASTERS_LIMIT = 32
+
+STREAMS_LIMIT = 800
+STREAMS_LIMIT_OF_MASTER = 80
+VARIABLES_LIMIT = 64
+
+
+def body_length(kind):
+    return sum(WIDTHS[kind])
+
+
+def fields_of(kind, body):
+    fields = []
+    at = 0
+    for width in WIDTHS[kind]:
+        fields.append(int.from_bytes(body[at : at + width], "big"))
+        at += width
+    return tuple(fields)
+
+
+def in_range(kind, fields, masters=MASTERS_LIMIT, message=MESSAGE_LIMIT):
+    """Whether the fields keep the page's ranges.
+
+    `masters` and `message` are what another record says (N or n, and M); the
+    writer, which sees one record alone, leaves them at their greatest.
+    """
+    if kind == 1:
+        (n,) = fields
+        return 1 <= n <= MASTERS_LIMIT
+    if kind == 2:
+        master, c, t, d = fields
+        return (
+            1 <= master <= masters
+            and 1 <= c <= 1548
+            and 1 <= t <= BILLION
+            and 1 <= d <= t
+        )
+    if kind == 3:
+        n, latency, longest = fields
+        return (
+            1 <= n <= MASTERS_LIMIT
+            and 1 <= latency <= LATENCY_LIMIT
+            and 1 <= longest <= MESSAGE_LIMIT
+        )
+    if kind == 4:
+        master, c, d = fields
+        return 1 <= master <= masters and 1 <= c <= message and 1 <= d <= BILLION
+    if kind == 5:
+        (e,) = fields
+        return 1 <= e <= 1_000_000
+    identifier, period = fields
+    return 0 <= identifier <= 0xFFFF and 1 <= period <= BILLION
+
+
+# ---------------------------------------------------------------- reading
+
+
+def read(data):
+    """The sheet, or the first refusal among 1 to 7 in the page's order."""
+    if len(data) == 0:
+        return Refusal(1, 0)
+    head_kind = None
+    head = None
+    streams = []
+    per_master = {}
+    identifiers = set()
+    place = 0
+    while place < len(data):
+        kind = data[place]
+        if kind not in WIDTHS:
+            return Refusal(2, place)
+        if head_kind is None:
+            if kind not in FIRST_KINDS:
+                return Refusal(3, place)
+        elif kind != head_kind + 1:
+            return Refusal(3, place)
+        end = place + 1 + body_length(kind)
+        if end > len(data):
+            return Refusal(1, place)
+        fields = fields_of(kind, data[place + 1 : end])
+
+        if head_kind is None:
+            if not in_range(kind, fields):
+                return Refusal(4, place)
+            head_kind, head = kind, fields
+        elif kind == 6:
+            if not in_range(kind, fields):
+                return Refusal(4, place)
+            if len(streams) == VARIABLES_LIMIT:
+                return Refusal(5, place)
+            if fields[0] in identifiers:
+                return Refusal(7, place)
+            identifiers.add(fields[0])
+            streams.append(fields)
+        else:
+            if kind == 2:
+                ranged = in_range(kind, fields, masters=head[0])
+            else:
+                ranged = in_range(kind, fields, masters=head[0], message=head[2])
+            if not ranged:
+                return Refusal(4, place)
+            master = fields[0]
+            count = per_master.get(master, 0)
+            if len(streams) == STREAMS_LIMIT or count == STREAMS_LIMIT_OF_MASTER:
+                return Refusal(5, place)
+            per_master[master] = count + 1
+            streams.append(fields)
+        place = end
+    if not streams:
+        return Refusal(6, len(data))
+    return Sheet(head_kind, head, streams)
+
+
+def read_for(data, head_kind):
+    sheet = read(data)
+    if isinstance(sheet, Sheet) and sheet.kind != head_kind:
+        return Refusal(3, 0)
+    return sheet
+
+
+# ---------------------------------------------------------------- writing
+
+
+def write_record(buffer_length, place, kind, numbers):
+    """The record's bytes and the place just after it, or 2, 4 or 13."""
+    if kind not in WIDTHS:
+        return Refusal(2, place)
+    if len(numbers) != len(WIDTHS[kind]):
+        raise ValueError("a record of kind %d has %d fields" % (kind, len(WIDTHS[kind])))
+    if not in_range(kind, numbers):
+        return Refusal(4, place)
+    end = place + 1 + body_length(kind)
+    if end >= 2**64:
+        return Refusal(13, 0)
+    if end > buffer_length:
+        return Refusal(13, end)
+    record = bytes([kind])
+    for number, width in zip(numbers, WIDTHS[kind]):
+        record += number.to_bytes(width, "big")
+    return Written(end, record)
+
+
+# ---------------------------------------------------------------- P-NET
+
+REACTION = 7
+TOKEN_PASS = 40
+UNUSED_VISIT = 10
+
+
+def ceiling(a, b):
+    return -(-a // b)
+
+
+def plan_pnet(data, lent=None):
+    """Bounds, refined figures and rounds; `lent` holds the runs' three lengths."""
+    sheet = read_for(data, 1)
+    if isinstance(sheet, Refusal):
+        return sheet
+    (n,) = sheet.head
+    if lent is not None and min(lent) < n:
+        return Refusal(13, n)
+
+    masters = range(1, n + 1)
+    cycles = {y: [] for y in masters}
+    spacings = {y: [] for y in masters}
+    for master, c, t, _ in sheet.streams:
+        cycles[master].append(c)
+        spacings[master].append(t)
+
+    hold = {}
+    for y in masters:
+        if cycles[y]:
+            hold[y] = REACTION + TOKEN_PASS + max(cycles[y])
+        else:
+            hold[y] = UNUSED_VISIT
+    turn = sum(hold.values())
+    bound = {k: len(cycles[k]) * turn for k in masters}
+
+    for number, (master, _, _, d) in enumerate(sheet.streams, start=1):
+        if bound[master] > d:
+            return Refusal(8, number)
+
+    refined = {}
+    rounds = {}
+    for k in masters:
+        s = len(cycles[k])
+        if s == 0:
+            refined[k] = 0
+            rounds[k] = 0
+            continue
+
+        def right_side(w):
+            value = s * turn
+            for y in masters:
+                if y != k:
+                    a = sum(ceiling(w, t) for t in spacings[y])
+                    value -= (s - min(s, a)) * (hold[y] - UNUSED_VISIT)
+            return value
+
+        m = 0
+        w = 0
+        following = right_side(w)
+        while following != w:
+            m += 1
+            w = following
+            following = right_side(w)
+        assert m <= 1 + (n - 1) * s
+        refined[k] = w
+        rounds[k] = m
+
+    return PnetPlan(
+        [bound[k] for k in masters],
+        [refined[k] for k in masters],
+        [rounds[k] for k in masters],
+    )
+
+
+# ---------------------------------------------------------------- PROFIBUS
+
+
+def plan_profibus(data):
+    """The largest TTR at which all streams pass, and what limits it."""
+    sheet = read_for(data, 3)
+    if isinstance(sheet, Refusal):
+        return sheet
+    n, latency, longest = sheet.head
+    count = {}
+    for master, _, _ in sheet.streams:
+        count[master] = count.get(master, 0) + 1
+
+    def first_failing(ttr):
+        for number, (master, c, d) in enumerate(sheet.streams, start=1):
+            if count[master] * (ttr + n * longest) + c > d:
+                return number
+        return None
+
+    failing = first_failing(latency)
+    if failing is not None:
+        return Refusal(9, failing)
+    # every stream passes at L, so each of these quotients is at least L
+    ttr = min((d - c) // count[master] - n * longest for master, c, d in sheet.streams)
+    assert first_failing(ttr) is None
+    return ProfibusPlan(ttr, first_failing(ttr + 1))
+
+
+# ---------------------------------------------------------------- WorldFIP
+
+ROWS_LIMIT = 4096
+
+
+def plan_worldfip(data, lent=None):
+    """The table's rows as 64-bit numbers; `lent` is the run's length."""
+    sheet = read_for(data, 5)
+    if isinstance(sheet, Refusal):
+        return sheet
+    (exchange,) = sheet.head
+    periods = [period for _, period in sheet.streams]
+
+    microcycle = 0
+    for period in periods:
+        microcycle = math.gcd(microcycle, period)
+    slots = microcycle // exchange
+    if slots == 0:
+        return Refusal(10, 0)
+
+    multiple = 1
+    for period in periods:
+        multiple = multiple * period // math.gcd(multiple, period)
+    row_count = multiple // microcycle
+    if row_count > ROWS_LIMIT:
+        return Refusal(11, 0)
+    if lent is not None and lent < row_count:
+        return Refusal(13, row_count)
+
+    # sorting is stable, so equal periods keep the sheet's order
+    rank = sorted(range(len(periods)), key=lambda v: periods[v])
+
+    pending = []
+    rows = []
+    # the turn after the last row serves nothing; it is there for its misses
+    for m in range(row_count + 1):
+        due = [r for r, v in enumerate(rank) if m * microcycle % periods[v] == 0]
+        for r in due:
+            if r in pending:
+                return Refusal(12, rank[r] + 1)
+        if m == row_count:
+            break
+        pending = sorted(pending + due)
+        served, pending = pending[:slots], pending[slots:]
+        rows.append(sum(1 << r for r in served))
+    return WorldfipPlan(microcycle, slots, rows, [v + 1 for v in rank])
+
+
+# ---------------------------------------------------------------- report
+
+
+def refusal_line(refusal):
+    number, place = refusal
+    line = "refused %d" % number
+    if number <= 7:
+        line += " at byte %d" % place
+    elif number in (8, 9):
+        line += " at stream %d" % place
+    elif number == 12:
+        line += " at variable %d" % place
+    return line
+
+
+def report_lines(data):
+    sheet = read(data)
+    if isinstance(sheet, Refusal):
+        return [refusal_line(sheet)]
+
+    if sheet.kind == 1:
+        plan = plan_pnet(data)
+        if isinstance(plan, Refusal):
+            return [refusal_line(plan)]
+        lines = ["P-NET segment"]
+        figures = zip(plan.bound, plan.refined, plan.rounds)
+        for master, (r, w, rounds) in enumerate(figures, start=1):
+            if r != 0:
+                lines.append(
+                    "M%02d bound %d bp %d us refined %d bp %d us %d rounds"
+                    % (master, r, us_up(r), w, us_up(w), rounds)
+                )
+        return lines
+
+    if sheet.kind == 3:
+        plan = plan_profibus(data)
+        if isinstance(plan, Refusal):
+            return [refusal_line(plan)]
+        return [
+            "PROFIBUS ring",
+            "TTR %d bp limited by stream %d" % (plan.ttr, plan.stream),
+        ]
+
+    plan = plan_worldfip(data)
+    if isinstance(plan, Refusal):
+        return [refusal_line(plan)]
+    identifiers = [sheet.streams[v - 1][0] for v in plan.rank]
+    lines = [
+        "WorldFIP table",
+        "microcycle %d us %d slots %d rows"
+        % (plan.microcycle, plan.slots, len(plan.rows)),
+    ]
+    for m, row in enumerate(plan.rows):
+        line = "row %d:" % m
+        for r, identifier in enumerate(identifiers):
+            if row >> r & 1:
+                line += " %d" % identifier
+        lines.append(line)
+    return lines
+
+
+def report(data):
+    """The program's standard output for this sheet, byte for byte."""
+    return "".join(line + "\n" for line in report_lines(data)).encode("ascii")
+
+
+if __name__ == "__main__":
+    sys.stdout.buffer.write(report(sys.stdin.buffer.read()))

@@ -1,0 +1,228 @@
+"""Self-test of the second opinion: figures that are known beforehand.
+
+They are the cases worked by hand on page 01 and, where the page can be taken
+in two ways, the inputs on which the readings differ, with the answer of the
+reading that was chosen.
+"""
+
+import os
+import sys
+
+sys.path.insert(0, os.path.dirname(os.path.abspath(__file__)))
+sys.dont_write_bytecode = True
+
+import second_opinion as opinion  # noqa: E402
+from second_opinion import Refusal  # noqa: E402
+
+
+def record(kind, *numbers):
+    body = b"".join(n.to_bytes(w, "big") for n, w in zip(numbers, opinion.WIDTHS[kind]))
+    return bytes([kind]) + body
+
+
+def sheet(*records):
+    return b"".join(record(*r) for r in records)
+
+
+def shown(answer):
+    """An answer in the words of the vectors below."""
+    if isinstance(answer, Refusal):
+        return "%d at %d" % answer
+    if isinstance(answer, opinion.Sheet):
+        return "accepted"
+    if isinstance(answer, opinion.PnetPlan):
+        return "R %s; W %s; rounds %s" % tuple(
+            " ".join(str(x) for x in run) for run in answer
+        )
+    if isinstance(answer, opinion.ProfibusPlan):
+        return "TTR %d by %d" % answer
+    if isinstance(answer, opinion.WorldfipPlan):
+        return "microcycle %d; slots %d; rows %s" % (
+            answer.microcycle,
+            answer.slots,
+            " ".join(str(x) for x in answer.rows),
+        )
+    if isinstance(answer, opinion.Written):
+        return "%s then %d" % (answer.record.hex(), answer.place)
+    if isinstance(answer, bytes):
+        return answer.decode("ascii")
+    return str(answer)
+
+
+# ---------------------------------------------------------------- page 01
+
+UP = [(0, 0), (1, 14), (48, 625), (2_000, 26_042), (48_001, 625_014)]
+DOWN = [(26_041, 1_999), (26_042, 2_000)]
+# both conversions accept every 32-bit number
+UP_WIDE = [(2**32 - 1, 55_924_053_321)]
+DOWN_WIDE = [(0, 0), (2**32 - 1, 329_853_488)]
+
+FOUR_MASTERS = [(1, 4)] + [(2, y, 203, 100_000, 2_000) for y in (1, 2, 3, 4, 1, 2, 3, 4)]
+FOUR_MASTERS_LATE = FOUR_MASTERS[:5] + [(2, 1, 203, 100_000, 1_999)] + FOUR_MASTERS[6:]
+TWO_MASTERS = [
+    (1, 2),
+    (2, 1, 203, 100_000, 100_000),
+    (2, 1, 203, 100_000, 100_000),
+    (2, 2, 203, 100_000, 100_000),
+]
+RING = [(3, 3, 300, 500), (4, 1, 400, 8_400), (4, 1, 500, 10_000), (4, 2, 300, 5_000)]
+TABLE = [(5, 400), (6, 17, 1_000), (6, 18, 2_000), (6, 19, 4_000), (6, 20, 4_000)]
+TABLE_LATE = TABLE[:3] + [(6, 19, 2_000)] + TABLE[4:]
+E210 = [(5, 210)] + [(6, i, 1_000) for i in (1, 2, 3, 4)] + [(6, 5, 3_000)]
+EIGHTY_EACH = [(1, 10)] + [
+    (2, y, 200, 1_000_000, 1_000_000) for y in range(1, 11) for _ in range(80)
+]
+
+PAGE = [
+    ("pnet", sheet(*FOUR_MASTERS),
+     "R 2000 2000 2000 2000; W 2000 2000 2000 2000; rounds 2 2 2 2"),
+    ("pnet", sheet(*FOUR_MASTERS_LATE), "8 at 5"),
+    ("report", sheet(*FOUR_MASTERS_LATE), "refused 8 at stream 5\n"),
+    ("pnet", sheet(*TWO_MASTERS), "R 1000 500; W 760 500; rounds 2 2"),
+    ("report", sheet(*TWO_MASTERS),
+     "P-NET segment\n"
+     "M01 bound 1000 bp 13021 us refined 760 bp 9896 us 2 rounds\n"
+     "M02 bound 500 bp 6511 us refined 500 bp 6511 us 2 rounds\n"),
+    ("profibus", sheet(*RING), "TTR 2500 by 1"),
+    ("report", sheet(*RING), "PROFIBUS ring\nTTR 2500 bp limited by stream 1\n"),
+    ("worldfip", sheet(*TABLE), "microcycle 1000; slots 2; rows 3 5 3 9"),
+    ("report", sheet(*TABLE),
+     "WorldFIP table\n"
+     "microcycle 1000 us 2 slots 4 rows\n"
+     "row 0: 17 18\nrow 1: 17 19\nrow 2: 17 18\nrow 3: 17 20\n"),
+    ("worldfip", sheet(*TABLE_LATE), "12 at 4"),
+    ("report", sheet(*TABLE_LATE), "refused 12 at variable 4\n"),
+    ("worldfip", sheet(*E210), "12 at 5"),
+    ("report", b"", "refused 1 at byte 0\n"),
+    ("read", b"", "1 at 0"),
+    ("read", bytes([99]), "2 at 0"),
+    ("read", bytes([1, 0]), "4 at 0"),
+    ("read", bytes([1, 33]), "4 at 0"),
+    ("read", bytes([1, 4]), "6 at 2"),
+    ("report", bytes([1, 4]), "refused 6 at byte 2\n"),
+]
+
+# call, sheet in hex (for write: place, buffer length, kind and numbers), answer
+READINGS = """
+pnet | 05 00000190 | 6 at 5
+pnet | 05 | 1 at 0
+worldfip | 01 21 | 4 at 0
+pnet | 05 00000190 06 0011 000003e8 | 3 at 0
+read | 07 | 2 at 0
+write | 5 | 20 | 2 1 70000 99 99 | 4 at 5
+write | 18446744073709551613 | 9 | 1 4 | 13 at 18446744073709551615
+write | 18446744073709551614 | 9 | 1 4 | 13 at 0
+write | 18446744073709551615 | 9 | 1 33 | 4 at 18446744073709551615
+read | - | 1 at 0
+read | 02 | 3 at 0
+read | 0104 04 | 3 at 2
+read | 01 | 1 at 0
+read | 03 00 00 | 1 at 0
+read | 0104 02 05 0000 | 1 at 2
+read | 0104 0104 | 3 at 2
+read | 05 00000001 06 0001 000003e8 06 0001 00000000 | 4 at 12
+write | 5 | 0 | 1 4 | 13 at 7
+profibus | 03 01 00000064 0000000a 04 01 0000000a 000000e5 04 01 0000000a 00000001 | 9 at 1
+profibus | 03 01 00000001 000003e8 04 01 000003e8 00000001 | 9 at 1
+profibus | 03 01 00000064 0000000a 04 01 0000000a 000003e9 04 01 0000000a 000003e8 | TTR 485 by 1
+worldfip | 05 00000002 06 0001 00000011 06 0002 000000f1 | 10 at 0
+worldfip | 05 00000001 06 0001 00000011 06 0002 000000f1 | 11 at 0
+worldfip | 05 00000001 06 0001 3b9ac9c1 06 0002 3b9ac9ff | 11 at 0
+"""
+
+# what the page or the readings say in prose, without an input of their own
+PROSE = [
+    # 13 comes after 3, 10 and 11, and before 8 and 12
+    ("13 before 8", lambda: opinion.plan_pnet(sheet(*FOUR_MASTERS_LATE), (4, 3, 4)), "13 at 4"),
+    ("room enough", lambda: opinion.plan_pnet(sheet(*FOUR_MASTERS_LATE), (4, 4, 4)), "8 at 5"),
+    ("3 before 13", lambda: opinion.plan_pnet(sheet(*TABLE), (0, 0, 0)), "3 at 0"),
+    ("13 before 12", lambda: opinion.plan_worldfip(sheet(*TABLE_LATE), 3), "13 at 4"),
+    ("11 before 13",
+     lambda: opinion.plan_worldfip(sheet((5, 1), (6, 1, 17), (6, 2, 241)), 0), "11 at 0"),
+    ("10 before 13",
+     lambda: opinion.plan_worldfip(sheet((5, 2), (6, 1, 17), (6, 2, 241)), 0), "10 at 0"),
+    ("3 for another bus", lambda: opinion.plan_profibus(sheet(*TABLE)), "3 at 0"),
+    ("3 for another bus", lambda: opinion.plan_worldfip(sheet(*RING)), "3 at 0"),
+    ("a master alone", lambda: opinion.plan_pnet(sheet((1, 1), (2, 1, 203, 1000, 1000))),
+     "R 250; W 250; rounds 1"),
+    ("a silent master costs 10",
+     lambda: opinion.plan_pnet(sheet((1, 3), (2, 2, 203, 1000, 1000))),
+     "R 0 270 0; W 0 270 0; rounds 0 1 0"),
+    ("a 65th variable met before",
+     lambda: opinion.read(
+         sheet((5, 1), *[(6, i, 9) for i in range(64)], (6, 0, 9))), "5 at 453"),
+    ("the 801st stream",
+     lambda: opinion.read(
+         sheet(*EIGHTY_EACH, (2, 1, 200, 1_000_000, 1_000_000))), "5 at 9602"),
+    ("equal periods by sheet order",
+     lambda: opinion.report(sheet((5, 500), (6, 9, 2_000), (6, 8, 2_000), (6, 7, 1_000))),
+     "WorldFIP table\nmicrocycle 1000 us 2 slots 2 rows\nrow 0: 7 9\nrow 1: 7 8\n"),
+    ("an empty row",
+     lambda: opinion.report(sheet((5, 500), (6, 9, 3_000), (6, 8, 2_000))),
+     "WorldFIP table\nmicrocycle 1000 us 2 slots 6 rows\n"
+     "row 0: 8 9\nrow 1:\nrow 2: 8\nrow 3: 9\nrow 4: 8\nrow 5:\n"),
+    ("words keep their s",
+     lambda: opinion.report(sheet((5, 1_000), (6, 1, 1_000))),
+     "WorldFIP table\nmicrocycle 1000 us 1 slots 1 rows\nrow 0: 1\n"),
+    ("slots far above 64",
+     lambda: opinion.report(sheet((5, 1), (6, 65_535, 1_000_000_000))),
+     "WorldFIP table\nmicrocycle 1000000000 us 1000000000 slots 1 rows\nrow 0: 65535\n"),
+    ("a miss at the end of the last row",
+     lambda: opinion.plan_worldfip(sheet((5, 600), (6, 2, 1_000), (6, 1, 1_000))), "12 at 2"),
+    ("unknown kind to the writer", lambda: opinion.write_record(0, 9, 7, ()), "2 at 9"),
+    ("a whole record", lambda: opinion.write_record(14, 2, 2, (32, 1_548, 9, 9)),
+     "0220060c0000000900000009 then 14"),
+    ("one byte short", lambda: opinion.write_record(13, 2, 2, (32, 1_548, 9, 9)), "13 at 14"),
+]
+
+
+def call(name, data):
+    return {
+        "read": opinion.read,
+        "pnet": opinion.plan_pnet,
+        "profibus": opinion.plan_profibus,
+        "worldfip": opinion.plan_worldfip,
+        "report": opinion.report,
+    }[name](data)
+
+
+def vectors():
+    """Every vector as (name, what is asked, the answer known beforehand)."""
+    for bp, us in UP + UP_WIDE:
+        yield "%d bp up" % bp, lambda bp=bp: opinion.us_up(bp), str(us)
+    for us, bp in DOWN + DOWN_WIDE:
+        yield "%d us down" % us, lambda us=us: opinion.bp_down(us), str(bp)
+    for name, data, expected in PAGE:
+        yield "%s %s" % (name, data.hex()), lambda n=name, d=data: call(n, d), expected
+    eighty = sheet(*EIGHTY_EACH)
+    yield "80 each: R", lambda: opinion.plan_pnet(eighty).bound, str([197_600] * 10)
+    yield "80 each: us", lambda: opinion.us_up(197_600), "2572917"
+    for line in READINGS.strip().splitlines():
+        name, *given, expected = [part.strip() for part in line.split("|")]
+        if name == "write":
+            place, length = int(given[0]), int(given[1])
+            kind, *numbers = [int(x) for x in given[2].split()]
+            yield line, lambda l=length, p=place, k=kind, x=numbers: (
+                opinion.write_record(l, p, k, x)), expected
+        else:
+            data = bytes.fromhex(given[0].replace("-", ""))
+            yield line, lambda n=name, d=data: call(n, d), expected
+    yield from PROSE
+
+
+def main():
+    passed = 0
+    failed = 0
+    for name, ask, expected in vectors():
+        answer = shown(ask())
+        if answer == expected:
+            passed += 1
+        else:
+            failed += 1
+            print("%s\n  expected %r\n  got      %r" % (name, expected, answer))
+    print("%d passed, %d failed" % (passed, failed))
+    return 1 if failed else 0
+
+
+if __name__ == "__main__":
+    sys.exit(main())
