@@ -29,6 +29,13 @@ pub enum Reported {
     NoRoom,
 }
 
+// Room for every report.
+pub fn room() -> [u8; MOST_TEXT]
+    ensures { λ r. ⌜ mostText ≡ length r ⌝ }
+{
+    [0; MOST_TEXT]
+}
+
 fn put_segment(out: &mut [u8], bound: &[u32], refined: &[u32], rounds: &[u32], n: usize) -> usize
     requires { ⌜ (n ≤ length (now bound)) × (n ≤ length (now refined)) × (n ≤ length (now rounds)) ⌝ }
     requires { ⌜ (n ≤ 32) × (mostText ≤ length (now out)) ⌝ }
