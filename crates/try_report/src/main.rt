@@ -9,7 +9,7 @@ fn say(text: &[u8]) {
 fn show(name: &[u8], s: &[u8]) {
     say(name);
     say(b"\n");
-    let mut text = report::room();
+    let mut text = report::text_buffer();
     match report::report(s, &mut text) {
         Reported::Written(n) => say(&text[..n]),
         Reported::NoRoom => say(b"no room\n"),

@@ -18,8 +18,8 @@ slice-aggregate-say c = search needs
 say-requires-2 : tie.Need-say-requires-2
 say-requires-2 c κs = search needs
 
-room-requires : tie.Need-room-requires
-room-requires c κs = search needs
+text-buffer-requires : tie.Need-text-buffer-requires
+text-buffer-requires c κs = search needs
 
 slice-aggregate-report : tie.Need-slice-aggregate-report
 slice-aggregate-report c = search needs
@@ -56,4 +56,4 @@ returns-2 c = search needs
 
 pub show-spec : {M : Type 1} → statement M
 show-spec =
-    tie.close (tie.spec say-requires slice-aggregate-say say-requires-2 room-requires slice-aggregate-report report-requires enum-known-n array-share-prefix-text slice-aggregate-say-2 say-requires-3 enum-told slice-aggregate-say-3 say-requires-4 returns returns-2)
+    tie.close (tie.spec say-requires slice-aggregate-say say-requires-2 text-buffer-requires slice-aggregate-report report-requires enum-known-n array-share-prefix-text slice-aggregate-say-2 say-requires-3 enum-told slice-aggregate-say-3 say-requires-4 returns returns-2)
