@@ -1,54 +1,42 @@
 -- The reader's state behind n streams that passed, and what the next record makes of it. Assumes nothing.
-use mathlib.Core.Path.{_≡_, refl, sym, ap, _∙_, subst}
-use mathlib.Core.Bool.{Bool, true, false, cond, not, _&&_, _||_}
-use mathlib.Core.List.{List, [], _∷_, _++_}
+use mathlib.Core.Path.{_≡_, refl, sym, ap, _∙_}
+use mathlib.Core.Bool.{Bool, true, false, not}
+use mathlib.Core.List.{List, [], _∷_}
 use mathlib.Core.Logic.{_⊎_, inl, inr, ⊎-elim}
 use Prim.Native.Nat.{ℕ, zero, suc, _+_, _≤_, _<_}
 use native.Mathlib.Numerals.{add-one}
 use native.Mathlib.Omega.{arith}
-use borrow.Author.Tests.{eqb-true, eqb-false, ne-eqb, eq-eqb, le-leb, lt-leb, leb-true, leb-false, lt-ltb, le-ltb}
-use lib.ListN.{length, getD, replicate, getD-replicate, length-replicate}
-use lib.Dec.{eqb, leb, ltb}
-use Rattle.common.specs.Checks.{Check, check, Verdict, verdict}
+use borrow.Author.Tests.{eqb-true}
+use lib.ListN.{length, getD, replicate, getD-replicate}
+use lib.Dec.{eqb, leb}
+use Rattle.common.specs.Checks.{check, Verdict, verdict}
 use Rattle.common.specs.Checks.Verdict.{Passed, Refused}
 use Rattle.format.specs.declared.Record.{Record}
 use Rattle.format.specs.declared.Met.{Met}
-use Rattle.format.specs.Kinds.{Field, fieldsOf, kinds, limit, within, ranged, known, sizeOf, decode, inRange, whole, metAt, nothing}
-use Rattle.format.proofs.Tables.{both-true}
+use Rattle.format.specs.Kinds.{known, sizeOf, decode, inRange, whole, metAt, nothing}
+use Rattle.format.proofs.Ranges.{segment-ranges, pnet-stream-ranges, ring-ranges, ring-stream-ranges}
 use Rattle.sheet.specs.Sheets.{headOf, streamsOf, sheetOf, fits, hasMaster, mostInAll, countOf, overLimit, metBefore}
-use Rattle.sheet.specs.Whole.{placeOf, recordsOf, recordChecks, endChecks, judge, ended, reading, told, Outcome}
-use Rattle.sheet.specs.Whole.Outcome.{Read, Not}
+use Rattle.sheet.specs.Whole.{placeOf, recordsOf, judge, ended, reading, told}
 use Rattle.sheet.specs.Steps.{ownNo, lateNo, countsWith, idsWith, Begun}
 use Rattle.sheet.specs.declared.Reading.the-variants as answer
 use Rattle.sheet.proofs.Walk.{head-at, length-records, length-streams, streams-none, streams-more, place-next, place-from}
-use Rattle.sheet.proofs.Cases.{Upto, Stops, PassesAt, passes-then, upto-none, upto-more, upto-place, stops-once, ended-empty, ended-no-stream, ended-sheet}
+use Rattle.sheet.proofs.Cases.{Upto, passes-then, upto-none, upto-more, upto-place, stops-once, ended-empty, ended-no-stream, ended-sheet}
 use Rattle.sheet.proofs.Cases.Stops.{by-record, at-end}
 use Rattle.sheet.proofs.Judged.{numbered, met-some, own-met, lateChecks, ownAt, judge-own}
 use Rattle.sheet.proofs.Kept.{Keeps, keeps-none, keeps-more, late-variable, late-stream, not-late-variable}
 use Rattle.sheet.proofs.Known.{fits-behind, first-fits}
 
--- ---- Ranges of a first field
-
-first-field : (top long : ℕ) (r : Record) (f : Field) (fs : List Field) → fieldsOf (r .kind) ≡ f ∷ fs → inRange top long r ≡ true
-    → (f .least ≤ r .a) × (r .a ≤ limit top long r (f .most))
-unfolding inRange ranged within
-first-field top long r f fs e h =
-    let g = rw e at h in
-    let w = both-true (leb (f .least) (r .a) && leb (r .a) (limit top long r (f .most))) _ g .0 in
-    let p = both-true (leb (f .least) (r .a)) (leb (r .a) (limit top long r (f .most))) w in
-    (leb-true _ _ (p .0), leb-true _ _ (p .1))
+-- ---- Masters
 
 -- N and n are at most 32
-pub masters-at-most : (r : Record) → r .kind ≡ 1 ⊎ r .kind ≡ 3 → inRange 0 0 r ≡ true → r .a ≤ 32
-unfolding fieldsOf kinds limit
-masters-at-most r (inl e) h = first-field 0 0 r _ _ (ap fieldsOf e) h .1
-masters-at-most r (inr e) h = first-field 0 0 r _ _ (ap fieldsOf e) h .1
+masters-at-most : (r : Record) → r .kind ≡ 1 ⊎ r .kind ≡ 3 → inRange 0 0 r ≡ true → r .a ≤ 32
+masters-at-most r (inl e) h = segment-ranges 0 0 r h e .masters .most
+masters-at-most r (inr e) h = ring-ranges 0 0 r h e .masters .most
 
--- a master is at most N, or n
-pub master-at-most : (top long : ℕ) (r : Record) → r .kind ≡ 2 ⊎ r .kind ≡ 4 → inRange top long r ≡ true → r .a ≤ top
-unfolding fieldsOf kinds limit
-master-at-most top long r (inl e) h = first-field top long r _ _ (ap fieldsOf e) h .1
-master-at-most top long r (inr e) h = first-field top long r _ _ (ap fieldsOf e) h .1
+-- a stream's master is at most N, or n
+master-at-most : (top long : ℕ) (r : Record) → r .kind ≡ 2 ⊎ r .kind ≡ 4 → inRange top long r ≡ true → r .a ≤ top
+master-at-most top long r (inl e) h = pnet-stream-ranges top long r h e .master .most
+master-at-most top long r (inr e) h = ring-stream-ranges top long r h e .master .most
 
 -- ---- The state
 
@@ -100,13 +88,13 @@ late-first r p (inl e) = rw e
 late-first r p (inr (inl e)) = rw e
 late-first r p (inr (inr e)) = rw e
 
-module _ (s : List ℕ) (some : 0 < length s) (met : Met) (q : met ≡ metAt s 0) (right : Bool) (r : right ≡ fits [] (getD s 0 0)) where
+module _ (s : List ℕ) (some : 0 < length s) (met : Met) (q : met ≡ metAt s 0) (ranged : Bool) (w : ranged ≡ inRange 0 0 (met .found)) (right : Bool) (r : right ≡ fits [] (getD s 0 0)) where
   abbrev pub ownFirst : ℕ
-  ownFirst = ownNo (known (getD s 0 0)) right (not (eqb (met .next) 0)) (inRange 0 0 (met .found))
+  ownFirst = ownNo (known (getD s 0 0)) right (not (eqb (met .next) 0)) ranged
 
   first-is : ownFirst ≡ ownAt s 0
   unfolding ownAt placeOf recordsOf headOf
-  first-is = rw (q, r, own-met s 0)
+  first-is = rw (w, q, r, own-met s 0)
 
   pub refused-first : (own : ℕ) → own ≡ ownFirst → (own ≡ 0 → ⊥) → answer.Refused own 0 ≡ told s (reading s)
   unfolding placeOf
@@ -118,8 +106,8 @@ module _ (s : List ℕ) (some : 0 < length s) (met : Met) (q : met ≡ metAt s 0
   unfolding ownAt lateChecks placeOf recordsOf streamsOf headOf numbered decode whole
   begun-first own e z =
       let p = own-passed _ _ _ _ (sym first-is ∙ (sym e ∙ z)) in
-      let w : whole s 0 ≡ true = rw (p .0, p .2) in
-      let m = q ∙ met-some s 0 w in
+      let h : whole s 0 ≡ true = rw (p .0, p .2) in
+      let m = q ∙ met-some s 0 h in
       let k = first-fits (getD s 0 0) (p .1) in
       record {
         some = some;
@@ -155,10 +143,10 @@ module _ (s : List ℕ) (head : Record) (counts ids : List ℕ) (n at : ℕ) (b 
   pub fewer-streams : n < at
   fewer-streams = omega (arith, place-from s (suc n), b .is-at)
 
-  module _ (inside : at < length s) (met : Met) (q : met ≡ metAt s at) where
+  module _ (inside : at < length s) (met : Met) (q : met ≡ metAt s at) (ranged : Bool) (w : ranged ≡ inRange (head .a) (head .c) (met .found)) where
     -- what the record at the place gives by itself, as the code has it
     abbrev pub ownHere : ℕ
-    ownHere = ownNo (known (getD s at 0)) (eqb (getD s at 0) (head .kind + 1)) (not (eqb (met .next) at)) (inRange (head .a) (head .c) (met .found))
+    ownHere = ownNo (known (getD s at 0)) (eqb (getD s at 0) (head .kind + 1)) (not (eqb (met .next) at)) ranged
 
     here : placeOf s (suc n) < length s
     here = rw (b .is-at) at inside
@@ -167,7 +155,7 @@ module _ (s : List ℕ) (head : Record) (counts ids : List ℕ) (n at : ℕ) (b 
     unfolding ownAt
     own-is =
         let f = fits-behind (recordsOf s (suc n)) (getD s (placeOf s (suc n)) 0) (rw (length-records s (suc n)) (omega arith)) in
-        rw (q, b .is-at, own-met s (placeOf s (suc n)), f, head-at s n, b .is-head)
+        rw (w, q, b .is-at, own-met s (placeOf s (suc n)), f, head-at s n, b .is-head)
 
     pub refused-own : (own : ℕ) → own ≡ ownHere → (own ≡ 0 → ⊥) → answer.Refused own at ≡ told s (reading s)
     refused-own own e h =
@@ -254,6 +242,9 @@ module _ (s : List ℕ) (head : Record) (counts ids : List ℕ) (n at : ℕ) (b 
           rw (b .is-at) (told-refused s (suc n) late (placeOf s (suc n)) (b .upto) here g)
 
       -- it passes
+      pub not-late : (late : ℕ) → late ≡ lateNo counts ids n (met .found) → late ≡ 0 → lateNo counts ids n (met .found) ≡ 0
+      not-late late late-told f = sym late-told ∙ f
+
       pub behind-more : (counts' ids' : List ℕ) (late : ℕ) → late ≡ lateNo counts ids n (met .found) → late ≡ 0 → counts' ≡ countsWith counts (met .found) → ids' ≡ idsWith ids n (met .found)
           → Behind s head counts' ids' (n + 1) (met .next)
       unfolding numbered

@@ -1,23 +1,21 @@
 -- Page 01, 'Numbered refusals': what it means that a record passes, and where a reading stops. Assumes nothing.
 use mathlib.Core.Path.{_≡_, refl, sym, ap, _∙_, subst}
 use mathlib.Core.Bool.{Bool, true, false, cond, not}
-use mathlib.Core.List.{List, [], _∷_, _++_}
-use mathlib.Core.Logic.{_⊎_, inl, inr, ⊎-elim}
+use mathlib.Core.List.{List}
 use Prim.Native.Nat.{ℕ, zero, suc, _+_, _-_, _≤_, _<_, zero-le}
 use native.Mathlib.Nat.{not-suc-le-zero}
 use native.Mathlib.Omega.{arith}
 use native.Mathlib.Decide.{ℕ-discrete}
-use borrow.Author.Tests.{ltb-true, ltb-false, lt-ltb, le-ltb, eqb-true, eqb-false, ne-eqb, eq-eqb, not-true, not-false}
-use lib.ListN.{length, getD}
-use lib.Dec.{ltb, eqb}
-use Rattle.common.specs.Checks.{Check, check, Verdict, verdict}
+use borrow.Author.Tests.{ltb-true, ltb-false, lt-ltb, le-ltb, ne-eqb, not-false}
+use lib.ListN.{length}
+use lib.Dec.{ltb}
+use Rattle.common.specs.Checks.{Verdict, verdict}
 use Rattle.common.specs.Checks.Verdict.{Passed, Refused}
-use Rattle.common.proofs.Checks.{Applies, Clear, refused-if, refused-then, passed-if, passed-then}
-use Rattle.common.proofs.Checks.Applies.{here, later}
+use Rattle.common.proofs.Checks.{Clear, passed-if, passed-then}
 use Rattle.common.proofs.Checks.Clear.{none, and}
 use Rattle.format.specs.declared.Record.{Record}
 use Rattle.format.specs.Kinds.{known, sizeOf, decode, inRange}
-use Rattle.sheet.specs.Sheets.{Sheet, headOf, streamsOf, sheetOf, fits, overLimit, metBefore}
+use Rattle.sheet.specs.Sheets.{headOf, streamsOf, sheetOf, fits, overLimit, metBefore}
 use Rattle.sheet.specs.Whole.{placeOf, recordsOf, recordChecks, endChecks, judge, ended, readFrom, reading, Outcome, orElse}
 use Rattle.sheet.specs.Whole.Outcome.{Read, Not}
 use Rattle.sheet.proofs.Walk.{place-next, place-from, length-records, length-streams}
@@ -78,8 +76,8 @@ module _ (s : List ℕ) where
   pub upto-none : Upto 0
   upto-none = record { inside = λ j h. absurd (not-suc-le-zero h); passed = λ j h. absurd (not-suc-le-zero h) }
 
-  pub upto-less : (i : ℕ) → Upto (suc i) → Upto i
-  upto-less i u = record { inside = λ j h. u .inside j (omega arith); passed = λ j h. u .passed j (omega arith) }
+  pub upto-front : (i j : ℕ) → j ≤ i → Upto i → Upto j
+  upto-front i j l u = record { inside = λ k h. u .inside k (omega arith); passed = λ k h. u .passed k (omega arith) }
 
   pub upto-more : (i : ℕ) → Upto i → placeOf s i < length s → PassesAt i → Upto (suc i)
   upto-more i u h p =
@@ -137,7 +135,7 @@ module _ (s : List ℕ) where
   reads-on (suc i) u =
       let l = u .inside i (omega arith) in
       let q : length s - i ≡ suc (length s - suc i) = omega (arith, place-from s i) in
-      reads-on i (upto-less i u) ∙ ap (λ (m : ℕ). readFrom s m i) q ∙ read-next (length s - suc i) i l (passes-if i (u .passed i (omega arith)))
+      reads-on i (upto-front (suc i) i (omega arith) u) ∙ ap (λ (m : ℕ). readFrom s m i) q ∙ read-next (length s - suc i) i l (passes-if i (u .passed i (omega arith)))
 
   read-refused : (m i n p : ℕ) → placeOf s i < length s → judge s i ≡ Refused n p → readFrom s (suc m) i ≡ Not n p
   unfolding readFrom

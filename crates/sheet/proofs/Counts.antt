@@ -1,11 +1,11 @@
 -- How many records have a number in their first field. Assumes nothing.
-use mathlib.Core.Path.{_≡_, refl, sym, ap, _∙_, subst}
-use mathlib.Core.Bool.{Bool, true, false, cond}
+use mathlib.Core.Path.{_≡_, refl}
+use mathlib.Core.Bool.{Bool, true, false}
 use mathlib.Core.List.{List, [], _∷_, _++_}
-use Prim.Native.Nat.{ℕ, zero, suc, _+_, _≤_, _<_}
+use Prim.Native.Nat.{ℕ, zero, suc, _+_, _<_}
 use native.Mathlib.Nat.{not-suc-le-zero}
 use native.Mathlib.Omega.{arith}
-use borrow.Author.Tests.{eqb-true, eqb-false, ne-eqb, eq-eqb}
+use borrow.Author.Tests.{eqb-true, ne-eqb, eq-eqb}
 use lib.ListN.{length, getD}
 use lib.Dec.{eqb}
 use Rattle.common.specs.Sums.{when}
@@ -34,3 +34,17 @@ pub count-zero : (x : ℕ) (rs : List Record) → ((i : ℕ) → i < length rs �
 unfolding countOf
 count-zero x [] h = refl
 count-zero x (r ∷ rs) h = rw (ne-eqb (r .a) x (h 0 (omega arith))) (omega (arith, count-zero x rs (λ i l. h (suc i) (omega arith))))
+
+-- what some have, stands somewhere
+pub count-some : (x : ℕ) (rs : List Record) → 0 < countOf x rs → (i : ℕ) × (i < length rs) × (getD rs i nothing .a ≡ x)
+unfolding countOf
+count-some x [] l = absurd (not-suc-le-zero l)
+count-some x (r ∷ rs) l = split (eqb (r .a) x) refl (count-some x rs)
+  where
+    split : (b : Bool) → eqb (r .a) x ≡ b → (0 < countOf x rs → (i : ℕ) × (i < length rs) × (getD rs i nothing .a ≡ x))
+        → (i : ℕ) × (i < suc (length rs)) × (getD (r ∷ rs) i nothing .a ≡ x)
+    split true q ih = (0, omega arith, eqb-true (r .a) x q)
+    split false q ih =
+        let k : 0 < 0 + countOf x rs = rw q at l in
+        let w = ih (omega arith) in
+        (suc (w .0), omega (arith, w .1), w .2)

@@ -1,20 +1,18 @@
 -- The numbers that the parts of the reader answer at a record are the verdict on that record. Assumes nothing.
-use mathlib.Core.Path.{_≡_, refl, sym, ap, _∙_, subst}
-use mathlib.Core.Bool.{Bool, true, false, cond, not, _&&_, _||_}
-use mathlib.Core.List.{List, [], _∷_, _++_}
-use Prim.Native.Nat.{ℕ, zero, suc, _+_, _≤_, _<_}
+use mathlib.Core.Path.{_≡_, refl}
+use mathlib.Core.Bool.{Bool, true, false, not}
+use mathlib.Core.List.{List, [], _∷_}
+use Prim.Native.Nat.{ℕ, zero, suc, _+_, _≤_}
 use native.Mathlib.Omega.{arith}
-use borrow.Author.Tests.{eqb-true, eqb-false, ne-eqb, eq-eqb, le-leb, lt-leb, leb-true, leb-false, lt-ltb, le-ltb}
+use borrow.Author.Tests.{ne-eqb, eq-eqb, leb-true, leb-false, lt-ltb, le-ltb}
 use lib.ListN.{length, getD}
 use lib.Dec.{eqb, leb, ltb}
 use Rattle.common.specs.Checks.{Check, check, Verdict, verdict}
-use Rattle.common.specs.Checks.Verdict.{Passed, Refused}
-use Rattle.format.specs.declared.Record.{Record}
-use Rattle.format.specs.declared.Met.{Met}
+use Rattle.common.specs.Checks.Verdict.{Refused}
 use Rattle.format.specs.Kinds.{known, sizeOf, decode, inRange, whole, metAt, nothing}
 use Rattle.sheet.specs.Sheets.{headOf, streamsOf, fits, overLimit, metBefore}
 use Rattle.sheet.specs.Whole.{placeOf, recordsOf, recordChecks, judge}
-use Rattle.sheet.specs.Steps.{ownNo, lateNo}
+use Rattle.sheet.specs.Steps.{ownNo}
 
 -- a number that is not 0 is a refusal
 unfoldable pub numbered : ℕ → ℕ → Verdict → Verdict
@@ -63,7 +61,7 @@ own-first true true true false p rest = refl
 own-first true true true true p rest = refl
 
 -- a record has its kind byte at least
-size-some : (k : ℕ) → 1 ≤ sizeOf k
+pub size-some : (k : ℕ) → 1 ≤ sizeOf k
 unfolding sizeOf
 size-some k = omega arith
 

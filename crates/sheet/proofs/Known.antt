@@ -1,14 +1,13 @@
 -- What is known of a sheet that reads without refusal: all that a planner goes by, with nothing about bytes. Assumes nothing.
 use mathlib.Core.Path.{_≡_, refl, sym, ap, _∙_, subst}
-use mathlib.Core.Bool.{Bool, true, false, cond, not, _&&_, _||_}
-use mathlib.Core.List.{List, [], _∷_, _++_}
+use mathlib.Core.Bool.{Bool, true, false, cond, _&&_, _||_}
+use mathlib.Core.List.{List, [], _∷_}
 use mathlib.Core.Logic.{_⊎_, inl, inr, ⊎-elim}
-use Prim.Native.Nat.{ℕ, zero, suc, _+_, _-_, _≤_, _<_, zero-le}
-use native.Mathlib.Nat.{not-suc-le-zero}
+use Prim.Native.Nat.{ℕ, zero, suc, _+_, _-_, _*_, _≤_, _<_}
+use native.Mathlib.Nat.{not-suc-le-zero, zero-mul, suc-mul}
 use native.Mathlib.Omega.{arith}
-use native.Mathlib.Decide.{ℕ-discrete}
-use borrow.Author.Tests.{ltb-true, ltb-false, leb-false, lt-ltb, le-leb, le-ltb, eqb-true, eqb-false, ne-eqb, eq-eqb}
-use lib.ListN.{length, getD, length-append}
+use borrow.Author.Tests.{ltb-false, leb-false, le-leb, eqb-true, eqb-false}
+use lib.ListN.{length, getD}
 use lib.Dec.{ltb, leb, eqb}
 use Rattle.common.specs.Sums.{when}
 use Rattle.common.specs.Checks.{verdict, Verdict}
@@ -19,10 +18,10 @@ use Rattle.format.specs.declared.Met.{Met}
 use Rattle.format.specs.declared.Record.{Record}
 use Rattle.format.specs.Kinds.{known, sizeOf, decode, inRange, whole, metAt, nothing}
 use Rattle.sheet.specs.Sheets.{Sheet, headOf, streamsOf, sheetOf, fits, countOf, mostInAll, hasMaster, overLimit, metBefore}
-use Rattle.sheet.specs.Whole.{placeOf, recordsOf, endChecks, judge, ended, reading, Outcome, orElse}
+use Rattle.sheet.specs.Whole.{placeOf, recordsOf, endChecks, ended, reading}
 use Rattle.sheet.specs.Whole.Outcome.{Read, Not}
-use Rattle.sheet.proofs.Walk.{place-from, streams-none, length-records, length-streams, record-at, stream-at, head-at, streams-more}
-use Rattle.sheet.proofs.Cases.{Passes, PassesAt, Upto, Stops, reading-stops, upto-less}
+use Rattle.sheet.proofs.Walk.{streams-none, length-records, length-streams, stream-at, head-at, streams-more}
+use Rattle.sheet.proofs.Cases.{PassesAt, Upto, Stops, reading-stops}
 use Rattle.sheet.proofs.Cases.Stops.{by-record, at-end}
 use Rattle.sheet.proofs.Counts.{count-more, count-none}
 
@@ -51,7 +50,7 @@ pub record Known (s : List ℕ) (S : Sheet) : Type 0 where
 
 -- ---- Where it comes from
 
-both-fail : (a b : Bool) → (a || b) ≡ false → (a ≡ false) × (b ≡ false)
+pub both-fail : (a b : Bool) → (a || b) ≡ false → (a ≡ false) × (b ≡ false)
 both-fail true b e = let z : _≡_ {A = ℕ} 0 1 = cc in absurd (omega arith)
 both-fail false b e = (refl, e)
 
@@ -72,6 +71,10 @@ first-fits k e = one (eqb k 1) refl
     one : (b : Bool) → eqb k 1 ≡ b → k ≡ 1 ⊎ k ≡ 3 ⊎ k ≡ 5
     one true q = inl (eqb-true k 1 q)
     one false q = three (eqb k 3) refl (rw q at e)
+
+none-or-some : (m : ℕ) → m ≡ 0 ⊎ 1 ≤ m
+none-or-some zero = inl refl
+none-or-some (suc m) = inr (omega arith)
 
 -- a whole record of a known kind is met
 pub met-whole : (s : List ℕ) (at : ℕ) → known (getD s at 0) ≡ true → at + sizeOf (getD s at 0) ≤ length s
@@ -193,6 +196,22 @@ module _ (s : List ℕ) (m : ℕ) (u : Upto s (suc m)) where
   unfolding mostInAll
   few-sixes k e = rw e
 
+  -- all streams have one size, so each place is known at once
+  pub place-is : (j : ℕ) → j ≤ m → placeOf s (suc j) ≡ sizeOf (decode s 0 .kind) + j * sizeOf (decode s 0 .kind + 1)
+  unfolding placeOf decode stream head
+  place-is zero l = omega (arith, zero-mul (sizeOf (decode s 0 .kind + 1)))
+  place-is (suc j) l =
+      let k : getD s (placeOf s (suc j)) 0 ≡ decode s 0 .kind + 1 = kind-at j l in
+      omega (arith, place-is j (omega arith), ap sizeOf k, suc-mul j (sizeOf (decode s 0 .kind + 1)))
+
+  pub first-kinds : decode s 0 .kind ≡ 1 ⊎ decode s 0 .kind ≡ 3 ⊎ decode s 0 .kind ≡ 5
+  unfolding head
+  first-kinds = head-kind'
+
+  pub streams-few : m ≤ mostInAll (decode s 0 .kind + 1)
+  unfolding head
+  streams-few = ⊎-elim (λ e. omega (arith, e)) few-streams (none-or-some m)
+
   known-there : 1 ≤ m → placeOf s (suc m) ≡ length s → Known s (sheetOf (recordsOf s (suc m)))
   unfolding sheetOf earlier stream head
   known-there h e =
@@ -242,14 +261,24 @@ ended-read s i S e = split (verdict (endChecks (length s) (recordsOf s i))) refl
         let z : _≡_ {A = ℕ} 0 1 = cc in
         absurd (omega arith)
 
-pub reading-read : (s : List ℕ) (S : Sheet) → reading s ≡ Read S → Known s S
-reading-read s S e = split (reading-stops s)
+-- a sheet is read to its end: m streams behind its first record, and all records pass
+pub record ReadsTo (s : List ℕ) (S : Sheet) : Type 0 where
+  pub m : ℕ
+  pub some : 1 ≤ m
+  pub upto : Upto s (suc m)
+  pub ends : placeOf s (suc m) ≡ length s
+  pub says : S ≡ sheetOf (recordsOf s (suc m))
+
+pub reading-whole : (s : List ℕ) (S : Sheet) → reading s ≡ Read S → ReadsTo s S
+reading-whole s S e = split (reading-stops s)
   where
-    split : Stops s (reading s) → Known s S
+    split : Stops s (reading s) → ReadsTo s S
     split (by-record i n p u l j q) = let z : _≡_ {A = ℕ} 0 1 = cc in absurd (omega arith)
     split (at-end i u l q) =
         let r = ended-read s i S (sym q ∙ e) in
-        let u' : Upto s (suc (r .0)) = rw (r .1) at u in
-        let l' : placeOf s (suc (r .0)) ≡ length s = rw (r .1) at l in
-        let w : S ≡ sheetOf (recordsOf s (suc (r .0))) = rw (r .1) at (r .3) in
-        subst (Known s) (sym w) (known-there s (r .0) u' (r .2) l')
+        record { m = r .0; some = r .2; upto = rw (r .1) at u; ends = rw (r .1) at l; says = rw (r .1) at (r .3) }
+
+pub reading-read : (s : List ℕ) (S : Sheet) → reading s ≡ Read S → Known s S
+reading-read s S e =
+    let r = reading-whole s S e in
+    subst (Known s) (sym (r .says)) (known-there s (r .m) (r .upto) (r .some) (r .ends))

@@ -5,4 +5,8 @@ pub mod Examples
 pub mod Judged
 pub mod Kept
 pub mod Known
+pub mod Lengths
+pub mod Refusals
+pub mod Trips
 pub mod Walk
+pub mod Writes

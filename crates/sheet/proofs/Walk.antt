@@ -1,16 +1,15 @@
 -- Page 01, 'Sheet records': the walk from record to record, by places and by records. Assumes nothing.
-use mathlib.Core.Path.{_≡_, refl, sym, ap, _∙_, subst}
+use mathlib.Core.Path.{_≡_, refl, _∙_}
 use mathlib.Core.List.{List, [], _∷_, _++_}
 use Prim.Native.Nat.{ℕ, zero, suc, _+_, _≤_, _<_}
 use native.Mathlib.Nat.{not-suc-le-zero, add-comm}
 use native.Mathlib.Numerals.{add-one}
 use native.Mathlib.Omega.{arith}
 use native.Mathlib.Decide.{ℕ-discrete}
-use lib.ListN.{length, getD, take, drop, length-append, length-drop, List·getD-append}
-use lib.Seq.{getD-at, getD-drop, drop-append-le, take-append-le, take-at}
-use Rattle.format.specs.declared.Record.{Record}
+use lib.ListN.{length, getD, take, length-append, length-drop, List·getD-append}
+use lib.Seq.{getD-at, getD-drop, drop-append-le, take-append-le, take-all}
 use Rattle.format.specs.Kinds.{sizeOf, decode, nothing}
-use Rattle.sheet.specs.Sheets.{headOf, streamsOf, sheetOf}
+use Rattle.sheet.specs.Sheets.{headOf, streamsOf}
 use Rattle.sheet.specs.Whole.{placeOf, recordsOf}
 
 -- ---- Places
@@ -45,6 +44,19 @@ module _ (s : List ℕ) where
           let l : i < n = omega (arith, e) in
           let l' : i < length (recordsOf s n) = rw (length-records n) l in
           List·getD-append (recordsOf s n) (decode s (placeOf s n) ∷ []) nothing i l' ∙ ih l
+
+  -- the records so far are the front of the later ones
+  pub records-front : (n i : ℕ) → i ≤ n → take i (recordsOf s n) ≡ recordsOf s i
+  unfolding recordsOf
+  records-front zero zero h = refl
+  records-front zero (suc i) h = absurd (not-suc-le-zero h)
+  records-front (suc n) i h = split (ℕ-discrete i (suc n)) (records-front n i)
+    where
+      split : Dec (i ≡ suc n) → (i ≤ n → take i (recordsOf s n) ≡ recordsOf s i) → take i (recordsOf s (suc n)) ≡ recordsOf s i
+      split (yes e) ih = rw e (take-all (suc n) (recordsOf s (suc n)) (omega (arith, length-records (suc n))))
+      split (no e) ih =
+          let l : i ≤ n = omega (arith, e) in
+          take-append-le i (recordsOf s n) (decode s (placeOf s n) ∷ []) (omega (arith, length-records n)) ∙ ih l
 
   -- the first record stands at 0, whatever comes behind it
   pub head-at : (n : ℕ) → headOf (recordsOf s (suc n)) ≡ decode s 0

@@ -1,13 +1,9 @@
 // Reading a whole sheet, page 01 'Sheet records' and 'Numbered refusals' 1..7.
-use format::Met;
 use format::Record;
 ghost use mathlib.Core.Path.{_≡_};
-ghost use mathlib.Core.Bool.{not};
 ghost use mathlib.Core.List.{[]};
-ghost use Prim.Native.Nat.{_≤_, _<_};
-ghost use lib.ListN.{length};
-ghost use lib.Dec.{eqb};
-ghost use Rattle.format.specs.Kinds.{known, inRange, decode};
+ghost use Prim.Native.Nat.{_≤_};
+ghost use Rattle.format.specs.Kinds.{known};
 ghost use Rattle.sheet.specs.Sheets.{fits};
 ghost use Rattle.sheet.specs.Steps;
 ghost use Rattle.sheet.specs.Steps.{ownNo, lateNo, countsWith, idsWith, Begun};
@@ -35,10 +31,9 @@ fn begins(kind: u8) -> bool
     (kind == 1) | ((kind == 3) | (kind == 5))
 }
 
-// The refusal of a record by itself, in the order 2, 3, 1, 4; 0 if there is none. What is met is the record at this place,
-// and the place itself where it is not whole.
-fn own_no(kind: u8, right: bool, at: usize, met: Met, top: u32, long: u32) -> u8
-    ensures { λ no. ⌜ no ≡ ownNo (known kind) right (not (eqb (met .next) at)) (inRange top long (met .found)) ⌝ }
+// The refusal of a record by itself, in the order 2, 3, 1, 4; 0 if there is none.
+fn own_no(kind: u8, right: bool, whole: bool, ranged: bool) -> u8
+    ensures { λ no. ⌜ no ≡ ownNo (known kind) right whole ranged ⌝ }
 {
     if !format::known(kind) {
         return 2;
@@ -46,11 +41,10 @@ fn own_no(kind: u8, right: bool, at: usize, met: Met, top: u32, long: u32) -> u8
     if !right {
         return 3;
     }
-    if met.next == at {
+    if !whole {
         return 1;
     }
-    let found = met.found;
-    if !format::in_range(top, long, found) {
+    if !ranged {
         return 4;
     }
     0
@@ -122,11 +116,12 @@ fn read_streams(s: &[u8], head: Record, first: usize) -> Reading
     while at < s.len() {
         let kind = s[at];
         let met = format::record_at(s, at);
-        let own = own_no(kind, kind == head.kind + 1, at, met, head.a, head.c);
+        let stream = met.found;
+        let ranged = format::in_range(head.a, head.c, stream);
+        let own = own_no(kind, kind == head.kind + 1, met.next != at, ranged);
         if own != 0 {
             return Reading::Refused { no: own, place: at };
         }
-        let stream = met.found;
         let late = late_no(&counts, &ids, n, stream);
         if late != 0 {
             return Reading::Refused {
@@ -160,10 +155,11 @@ pub fn read(s: &[u8]) -> Reading
     }
     let kind = s[0];
     let met = format::record_at(s, 0);
-    let own = own_no(kind, begins(kind), 0, met, 0, 0);
+    let head = met.found;
+    let ranged = format::in_range(0, 0, head);
+    let own = own_no(kind, begins(kind), met.next != 0, ranged);
     if own != 0 {
         return Reading::Refused { no: own, place: 0 };
     }
-    let head = met.found;
     read_streams(s, head, met.next)
 }

@@ -1,7 +1,6 @@
-use mathlib.Core.Path.{_∙_, sym, ap}
-use mathlib.Core.Bool.{not}
+use mathlib.Core.Path.{_∙_, sym}
 use borrow.Author.Needs.{needs}
-use borrow.Author.Tests.{not-true, not-false, eq-eqb, ne-eqb}
+use borrow.Author.Tests.{not-true, not-false}
 use Rattle.sheet.proofs.Judged.{own-unknown, own-wrong, own-cut, own-out, own-none}
 use Rattle.sheet.proofs.own_no.Statement.{statement}
 use Rattle.sheet.proofs.own_no.Tie as tie
@@ -16,18 +15,13 @@ returns-2 : tie.Need-returns-2
 returns-2 c = own-wrong _ _ _ _ (sym (c .before .before .known .ensures) ∙ not-false _ (c .before .if1 .left)) (not-true _ (c .if2 .taken))
 
 returns-3 : tie.Need-returns-3
-returns-3 c = own-cut _ _ _ _ (sym (c .before .before .before .before .known .ensures) ∙ not-false _ (c .before .before .before .if1 .left)) (not-false _ (c .before .before .if2 .left)) (ap not (eq-eqb _ _ (c .if3 .taken)))
-
-in-range-requires : tie.Need-in-range-requires
-in-range-requires c κs = search needs
+returns-3 c = own-cut _ _ _ _ (sym (c .before .before .before .known .ensures) ∙ not-false _ (c .before .before .if1 .left)) (not-false _ (c .before .if2 .left)) (not-true _ (c .if3 .taken))
 
 returns-4 : tie.Need-returns-4
-returns-4 c = own-out _ _ _ _ (sym (c .before .before .before .before .before .before .before .known .ensures) ∙ not-false _ (c .before .before .before .before .before .before .if1 .left)) (not-false _ (c .before .before .before .before .before .if2 .left)) (ap not (ne-eqb _ _ (c .before .before .before .if3 .left))) (sym (c .before .in-range .ensures) ∙ not-true _ (c .if4 .taken))
+returns-4 c = own-out _ _ _ _ (sym (c .before .before .before .before .known .ensures) ∙ not-false _ (c .before .before .before .if1 .left)) (not-false _ (c .before .before .if2 .left)) (not-false _ (c .before .if3 .left)) (not-true _ (c .if4 .taken))
 
 returns-5 : tie.Need-returns-5
-returns-5 c = own-none _ _ _ _ (sym (c .before .before .before .before .before .before .before .known .ensures) ∙ not-false _ (c .before .before .before .before .before .before .if1 .left)) (not-false _ (c .before .before .before .before .before .if2 .left)) (ap not (ne-eqb _ _ (c .before .before .before .if3 .left))) (sym (c .before .in-range .ensures) ∙ not-false _ (c .if4 .left))
+returns-5 c = own-none _ _ _ _ (sym (c .before .before .before .before .known .ensures) ∙ not-false _ (c .before .before .before .if1 .left)) (not-false _ (c .before .before .if2 .left)) (not-false _ (c .before .if3 .left)) (not-false _ (c .if4 .left))
 
 pub own-no-spec : {M : Type 1} → statement M
-own-no-spec =
-    tie.close
-    (tie.spec known-requires returns returns-2 returns-3 in-range-requires returns-4 returns-5)
+own-no-spec = tie.close (tie.spec known-requires returns returns-2 returns-3 returns-4 returns-5)

@@ -13,6 +13,9 @@ shared-slice-read-kind c = search needs
 record-at-requires : tie.Need-record-at-requires
 record-at-requires c κs = search needs
 
+in-range-requires : tie.Need-in-range-requires
+in-range-requires c κs = search needs
+
 begins-requires : tie.Need-begins-requires
 begins-requires c κs = search needs
 
@@ -20,10 +23,10 @@ own-no-requires : tie.Need-own-no-requires
 own-no-requires c κs = search needs
 
 returns-2 : tie.Need-returns-2
-returns-2 c = refused-first (c .before .before .before .before .before .before .before .args .s .now) (omega arith) (c .before .before .before .record-at .result) (c .before .before .before .record-at .ensures) (c .before .before .begins .result) (c .before .before .begins .ensures) (c .before .own-no .result) (c .before .own-no .ensures) (c .if2 .taken)
+returns-2 c = refused-first (c .before .before .before .before .before .before .before .before .before .before .args .s .now) (omega arith) (c .before .before .before .before .before .before .record-at .result) (c .before .before .before .before .before .before .record-at .ensures) (c .before .before .before .before .in-range .result) (c .before .before .before .before .in-range .ensures) (c .before .before .before .begins .result) (c .before .before .before .begins .ensures) (c .before .own-no .result) (c .before .own-no .ensures) (c .if2 .taken)
 
 read-streams-requires : tie.Need-read-streams-requires
-read-streams-requires c κs = begun-first (c .before .before .before .before .before .before .before .before .args .s .now) (omega arith) (c .before .before .before .before .record-at .result) (c .before .before .before .before .record-at .ensures) (c .before .before .before .begins .result) (c .before .before .before .begins .ensures) (c .before .before .own-no .result) (c .before .before .own-no .ensures) (c .before .if2 .left)
+read-streams-requires c κs = begun-first (c .before .before .before .before .before .before .before .before .before .before .args .s .now) (omega arith) (c .before .before .before .before .before .before .record-at .result) (c .before .before .before .before .before .before .record-at .ensures) (c .before .before .before .before .in-range .result) (c .before .before .before .before .in-range .ensures) (c .before .before .before .begins .result) (c .before .before .before .begins .ensures) (c .before .own-no .result) (c .before .own-no .ensures) (c .if2 .left)
 
 returns-3 : tie.Need-returns-3
 returns-3 c = search needs
@@ -35,6 +38,7 @@ read-spec =
     returns
     shared-slice-read-kind
     record-at-requires
+    in-range-requires
     begins-requires
     own-no-requires
     returns-2

@@ -1,9 +1,8 @@
-use Prim.Native.Nat.{ℕ, _-_}
-use mathlib.Core.Path.{_≡_, refl, sym, _∙_, ap}
+use Prim.Native.Nat.{_-_}
 use native.Mathlib.Omega.{arith}
 use borrow.Author.Needs.{needs}
 use lib.ListN.{length}
-use Rattle.sheet.proofs.Behind.{Behind, begun, kind-fits, refused-own, refused-late, master-here, behind-more, next-later, fewer-streams, ends-empty, ends-accepted}
+use Rattle.sheet.proofs.Behind.{Behind, begun, kind-fits, fewer-streams, refused-own, refused-late, not-late, master-here, behind-more, next-later, ends-empty, ends-accepted}
 use Rattle.sheet.proofs.read_streams.Statement.{statement}
 use Rattle.sheet.proofs.read_streams.Tie as tie
 
@@ -25,10 +24,14 @@ record-at-requires : tie.Need-record-at-requires Inv-loop μ-loop
 record-at-requires c κs =
     search needs
 
+in-range-requires : tie.Need-in-range-requires Inv-loop μ-loop
+in-range-requires c κs =
+    search needs
+
 add-own-no : tie.Need-add-own-no Inv-loop μ-loop
 add-own-no c =
-    let a = c .before .before .before .before .before .before .args in
-    let l = c .before .before .before .before .loop in
+    let a = c .before .before .before .before .before .before .before .before .args in
+    let l = c .before .before .before .before .before .before .loop in
     omega (arith, kind-fits (a .s .now) (a .head) (l .counts) (l .ids) (l .n) (l .at) (l .inv))
 
 own-no-requires : tie.Need-own-no-requires Inv-loop μ-loop
@@ -37,46 +40,66 @@ own-no-requires c κs =
 
 returns : tie.Need-returns Inv-loop μ-loop
 returns c =
-    let a = c .before .before .before .before .before .before .before .before .args in
-    let l = c .before .before .before .before .before .before .loop in
-    refused-own (a .s .now) (a .head) (l .counts) (l .ids) (l .n) (l .at) (l .inv) (c .before .before .before .before .before .loop-test .taken) (c .before .before .before .record-at .result) (c .before .before .before .record-at .ensures) (c .before .own-no .result) (c .before .own-no .ensures) (c .if1 .taken)
+    let a = c .before .before .before .before .before .before .before .before .before .before .before .args in
+    let l = c .before .before .before .before .before .before .before .before .before .loop in
+    let m = c .before .before .before .before .before .before .record-at in
+    let g = c .before .before .before .before .in-range in
+    let o = c .before .own-no in
+    refused-own (a .s .now) (a .head) (l .counts) (l .ids) (l .n) (l .at) (l .inv) (c .before .before .before .before .before .before .before .before .loop-test .taken) (m .result) (m .ensures) (g .result) (g .ensures) (o .result) (o .ensures) (c .if1 .taken)
 
 late-no-requires : tie.Need-late-no-requires Inv-loop μ-loop
 late-no-requires c κs =
-    let a = c .before .before .before .before .before .before .before .before .before .before .before .args in
-    let l = c .before .before .before .before .before .before .before .before .before .loop in
-    master-here (a .s .now) (a .head) (l .counts) (l .ids) (l .n) (l .at) (l .inv) (c .before .before .before .before .before .before .before .before .loop-test .taken) (c .before .before .before .before .before .before .record-at .result) (c .before .before .before .before .before .before .record-at .ensures) (c .before .before .before .before .own-no .result) (c .before .before .before .before .own-no .ensures) (c .before .before .before .if1 .left)
+    let a = c .before .before .before .before .before .before .before .before .before .before .before .before .before .args in
+    let l = c .before .before .before .before .before .before .before .before .before .before .before .loop in
+    let m = c .before .before .before .before .before .before .before .before .record-at in
+    let g = c .before .before .before .before .before .before .in-range in
+    let o = c .before .before .before .own-no in
+    master-here (a .s .now) (a .head) (l .counts) (l .ids) (l .n) (l .at) (l .inv) (c .before .before .before .before .before .before .before .before .before .before .loop-test .taken) (m .result) (m .ensures) (g .result) (g .ensures) (o .result) (o .ensures) (c .before .before .if1 .left)
 
 returns-2 : tie.Need-returns-2 Inv-loop μ-loop
 returns-2 c =
-    let a = c .before .before .before .before .before .before .before .before .before .before .before .before .before .args in
-    let l = c .before .before .before .before .before .before .before .before .before .before .before .loop in
-    refused-late (a .s .now) (a .head) (l .counts) (l .ids) (l .n) (l .at) (l .inv) (c .before .before .before .before .before .before .before .before .before .before .loop-test .taken) (c .before .before .before .before .before .before .before .before .record-at .result) (c .before .before .before .before .before .before .before .before .record-at .ensures) (c .before .before .before .before .before .before .own-no .result) (c .before .before .before .before .before .before .own-no .ensures) (c .before .before .before .before .before .if1 .left) (c .before .late-no .result) (c .before .late-no .ensures) (c .if2 .taken)
+    let a = c .before .before .before .before .before .before .before .before .before .before .before .before .before .before .before .args in
+    let l = c .before .before .before .before .before .before .before .before .before .before .before .before .before .loop in
+    let m = c .before .before .before .before .before .before .before .before .before .before .record-at in
+    let g = c .before .before .before .before .before .before .before .before .in-range in
+    let o = c .before .before .before .before .before .own-no in
+    refused-late (a .s .now) (a .head) (l .counts) (l .ids) (l .n) (l .at) (l .inv) (c .before .before .before .before .before .before .before .before .before .before .before .before .loop-test .taken) (m .result) (m .ensures) (g .result) (g .ensures) (o .result) (o .ensures) (c .before .before .before .before .if1 .left) (c .before .late-no .result) (c .before .late-no .ensures) (c .if2 .taken)
 
 keep-requires : tie.Need-keep-requires Inv-loop μ-loop
 keep-requires c κs =
-    let a = c .before .before .before .before .before .before .before .before .before .before .before .before .before .before .before .args in
-    let l = c .before .before .before .before .before .before .before .before .before .before .before .before .before .loop in
-    (sym (c .before .before .before .late-no .ensures) ∙ c .before .before .if2 .left, master-here (a .s .now) (a .head) (l .counts) (l .ids) (l .n) (l .at) (l .inv) (c .before .before .before .before .before .before .before .before .before .before .before .before .loop-test .taken) (c .before .before .before .before .before .before .before .before .before .before .record-at .result) (c .before .before .before .before .before .before .before .before .before .before .record-at .ensures) (c .before .before .before .before .before .before .before .before .own-no .result) (c .before .before .before .before .before .before .before .before .own-no .ensures) (c .before .before .before .before .before .before .before .if1 .left))
+    let a = c .before .before .before .before .before .before .before .before .before .before .before .before .before .before .before .before .before .args in
+    let l = c .before .before .before .before .before .before .before .before .before .before .before .before .before .before .before .loop in
+    let m = c .before .before .before .before .before .before .before .before .before .before .before .before .record-at in
+    let g = c .before .before .before .before .before .before .before .before .before .before .in-range in
+    let o = c .before .before .before .before .before .before .before .own-no in
+    let f = c .before .before .before .late-no in
+    (not-late (a .s .now) (a .head) (l .counts) (l .ids) (l .n) (l .at) (l .inv) (c .before .before .before .before .before .before .before .before .before .before .before .before .before .before .loop-test .taken) (m .result) (m .ensures) (g .result) (g .ensures) (o .result) (o .ensures) (c .before .before .before .before .before .before .if1 .left) (f .result) (f .ensures) (c .before .before .if2 .left), master-here (a .s .now) (a .head) (l .counts) (l .ids) (l .n) (l .at) (l .inv) (c .before .before .before .before .before .before .before .before .before .before .before .before .before .before .loop-test .taken) (m .result) (m .ensures) (g .result) (g .ensures) (o .result) (o .ensures) (c .before .before .before .before .before .before .if1 .left))
 
 add-n : tie.Need-add-n Inv-loop μ-loop
 add-n c =
-    let a = c .before .before .before .before .before .before .before .before .before .before .before .before .before .before .before .before .args in
-    let l = c .before .before .before .before .before .before .before .before .before .before .before .before .before .before .loop in
-    omega (arith, fewer-streams (a .s .now) (a .head) (l .counts) (l .ids) (l .n) (l .at) (l .inv), c .before .before .before .before .before .before .before .before .before .before .before .before .before .loop-test .taken)
+    let a = c .before .before .before .before .before .before .before .before .before .before .before .before .before .before .before .before .before .before .args in
+    let l = c .before .before .before .before .before .before .before .before .before .before .before .before .before .before .before .before .loop in
+    omega (arith, fewer-streams (a .s .now) (a .head) (l .counts) (l .ids) (l .n) (l .at) (l .inv), c .before .before .before .before .before .before .before .before .before .before .before .before .before .before .before .loop-test .taken, c .before .before .before .before .before .before .before .before .before .before .before .before .before .before .before .before .before .before .good)
 
 loop-less : tie.Need-loop-less Inv-loop μ-loop
 loop-less c =
-    let a = c .before .before .before .before .before .before .before .before .before .before .before .before .before .before .before .before .args in
-    let l = c .before .before .before .before .before .before .before .before .before .before .before .before .before .before .loop in
-    omega (arith, next-later (a .s .now) (a .head) (l .counts) (l .ids) (l .n) (l .at) (l .inv) (c .before .before .before .before .before .before .before .before .before .before .before .before .before .loop-test .taken) (c .before .before .before .before .before .before .before .before .before .before .before .record-at .result) (c .before .before .before .before .before .before .before .before .before .before .before .record-at .ensures) (c .before .before .before .before .before .before .before .before .before .own-no .result) (c .before .before .before .before .before .before .before .before .before .own-no .ensures) (c .before .before .before .before .before .before .before .before .if1 .left), c .before .before .before .before .before .before .before .before .before .before .before .before .before .loop-test .taken)
+    let a = c .before .before .before .before .before .before .before .before .before .before .before .before .before .before .before .before .before .before .args in
+    let l = c .before .before .before .before .before .before .before .before .before .before .before .before .before .before .before .before .loop in
+    let m = c .before .before .before .before .before .before .before .before .before .before .before .before .before .record-at in
+    let g = c .before .before .before .before .before .before .before .before .before .before .before .in-range in
+    let o = c .before .before .before .before .before .before .before .before .own-no in
+    omega (arith, next-later (a .s .now) (a .head) (l .counts) (l .ids) (l .n) (l .at) (l .inv) (c .before .before .before .before .before .before .before .before .before .before .before .before .before .before .before .loop-test .taken) (m .result) (m .ensures) (g .result) (g .ensures) (o .result) (o .ensures) (c .before .before .before .before .before .before .before .if1 .left), c .before .before .before .before .before .before .before .before .before .before .before .before .before .before .before .loop-test .taken)
 
 loop-again : tie.Need-loop-again Inv-loop μ-loop
 loop-again c =
-    let a = c .before .before .before .before .before .before .before .before .before .before .before .before .before .before .before .before .args in
-    let l = c .before .before .before .before .before .before .before .before .before .before .before .before .before .before .loop in
-    behind-more (a .s .now) (a .head) (l .counts) (l .ids) (l .n) (l .at) (l .inv) (c .before .before .before .before .before .before .before .before .before .before .before .before .before .loop-test .taken) (c .before .before .before .before .before .before .before .before .before .before .before .record-at .result) (c .before .before .before .before .before .before .before .before .before .before .before .record-at .ensures) (c .before .before .before .before .before .before .before .before .before .own-no .result) (c .before .before .before .before .before .before .before .before .before .own-no .ensures) (c .before .before .before .before .before .before .before .before .if1 .left)
-    (c .keep .last .0) (c .keep .last .1 .0) (c .before .before .before .before .late-no .result) (c .before .before .before .before .late-no .ensures) (c .before .before .before .if2 .left) (c .keep .ensures .0) (c .keep .ensures .1)
+    let a = c .before .before .before .before .before .before .before .before .before .before .before .before .before .before .before .before .before .before .args in
+    let l = c .before .before .before .before .before .before .before .before .before .before .before .before .before .before .before .before .loop in
+    let m = c .before .before .before .before .before .before .before .before .before .before .before .before .before .record-at in
+    let g = c .before .before .before .before .before .before .before .before .before .before .before .in-range in
+    let o = c .before .before .before .before .before .before .before .before .own-no in
+    let f = c .before .before .before .before .late-no in
+    behind-more (a .s .now) (a .head) (l .counts) (l .ids) (l .n) (l .at) (l .inv) (c .before .before .before .before .before .before .before .before .before .before .before .before .before .before .before .loop-test .taken) (m .result) (m .ensures) (g .result) (g .ensures) (o .result) (o .ensures) (c .before .before .before .before .before .before .before .if1 .left)
+    (c .keep .last .0) (c .keep .last .1 .0) (f .result) (f .ensures) (c .before .before .before .if2 .left) (c .keep .ensures .0) (c .keep .ensures .1)
 
 returns-3 : tie.Need-returns-3 Inv-loop μ-loop
 returns-3 c =
@@ -99,6 +122,7 @@ read-streams-spec =
     loop-holds
     shared-slice-read-kind
     record-at-requires
+    in-range-requires
     add-own-no
     own-no-requires
     returns
