@@ -12,7 +12,8 @@ use lib.Seq.{getD-set-same, getD-set-other}
 use lib.Dec.{eqb}
 use Rattle.common.specs.Sums.{when, upto, greatest}
 use Rattle.common.proofs.Sums.{upto-more, upto-same, upto-part, greatest-more}
-use Rattle.segment.specs.Segment.{Segment, owns, count, longest, hold}
+use Rattle.format.specs.declared.Met.{Met}
+use Rattle.segment.specs.Segment.{Stream, Segment, owns, count, longest, hold}
 use Rattle.segment.specs.Limits.{Declared}
 use Rattle.segment.proofs.Holds.{longest-none, hold-none, hold-some}
 use Rattle.pnet.specs.Arrays.{at, part, Sized, Gathered, segmentIn, Pnet}
@@ -206,22 +207,31 @@ pub record Small (i m cycle count : ℕ) : Type 0 where
 
 module _ {s : List ℕ} {n first : ℕ} (p : Pnet s n first) {i : ℕ} {masters deadlines counts holds spacings : List ℕ}
     (g : Gathered (part (segmentIn s) i) masters deadlines counts holds spacings) where
-  module _ (l : i < n) (m c t e : ℕ) (h : Here s i m c t e) where
+  module _ (l : i < n) (r : Met) (h : Here s i r) where
     below : i < segmentIn s .number
     below = omega (arith, number-is p)
 
-    pub small : Small i m c (at counts m)
+    of-master : r .found .a ≡ segmentIn s .stream (i + 1) .master
+    of-master = ap (λ (x : Stream). x .master) (h .stream)
+
+    of-cycle : r .found .b ≡ segmentIn s .stream (i + 1) .cycle
+    of-cycle = ap (λ (x : Stream). x .cycle) (h .stream)
+
+    pub small : Small i (r .found .a) (r .found .b) (at counts (r .found .a))
     small =
         record {
-          inside = number-inside (segmentIn s) (declares p) i below m (h .its-master);
-          master = master-inside (segmentIn s) (declares p) i below m (h .its-master);
-          short = omega (arith, h .its-cycle, declares p .ranges (i + 1) (omega arith) (omega (arith, below)) .cycle-to);
-          fewer-before = fewer (segmentIn s) (declares p) i below m (h .its-master) g;
+          inside = number-inside (segmentIn s) (declares p) i below (r .found .a) of-master;
+          master = master-inside (segmentIn s) (declares p) i below (r .found .a) of-master;
+          short = omega (arith, of-cycle, declares p .ranges (i + 1) (omega arith) (omega (arith, below)) .cycle-to);
+          fewer-before = fewer (segmentIn s) (declares p) i below (r .found .a) of-master g;
         }
 
-    pub gathered-next : (hold : ℕ) → hold ≡ max (at holds m) (47 + c)
-        → Gathered (part (segmentIn s) (i + 1)) (set masters i m) (set deadlines i e) (set counts m (at counts m + 1)) (set holds m hold) (set spacings (80 * m + at counts m) t)
-    gathered-next hold q = gathered-more (segmentIn s) (declares p) i below m (h .its-master) g c t e hold (h .its-cycle) (h .its-spacing) (h .its-deadline) q
+    pub gathered-next : (hold : ℕ) → hold ≡ max (at holds (r .found .a)) (47 + r .found .b)
+        → Gathered (part (segmentIn s) (i + 1)) (set masters i (r .found .a)) (set deadlines i (r .found .d)) (set counts (r .found .a) (at counts (r .found .a) + 1))
+        (set holds (r .found .a) hold) (set spacings (80 * r .found .a + at counts (r .found .a)) (r .found .c))
+    gathered-next hold e =
+        gathered-more (segmentIn s) (declares p) i below (r .found .a) of-master g (r .found .b) (r .found .c) (r .found .d) hold of-cycle
+        (ap (λ (x : Stream). x .spacing) (h .stream)) (ap (λ (x : Stream). x .deadline) (h .stream)) e
 
   pub gathered-all : i ≡ n → Gathered (segmentIn s) masters deadlines counts holds spacings
   gathered-all e = subst (λ (m : ℕ). Gathered (part (segmentIn s) m) masters deadlines counts holds spacings) (e ∙ number-is p) g

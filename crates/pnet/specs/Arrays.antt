@@ -8,7 +8,6 @@ use mathlib.Core.Bool.{Bool}
 use lib.ListN.{length, getD}
 use lib.Dec.{ltb}
 use Rattle.common.specs.Sums.{when, upto, up}
-use Rattle.format.specs.declared.Record.{Record}
 use Rattle.format.specs.Kinds.{nothing}
 use Rattle.sheet.specs.Sheets.{Sheet}
 use Rattle.sheet.specs.Whole.{Outcome, placeOf, reading}
@@ -62,13 +61,6 @@ pub record Pnet (s : List ℕ) (n first : ℕ) : Type 0 where
   pub kind : sheetIn (reading s) .head .kind ≡ 1
   pub number : n ≡ length (sheetIn (reading s) .streams)
   pub place : first ≡ placeOf s 1
-
--- a record has these figures
-pub record Fields (r : Record) (master cycle spacing deadline : ℕ) : Type 0 where
-  pub is-master : master ≡ r .a
-  pub is-cycle : cycle ≡ r .b
-  pub is-spacing : spacing ≡ r .c
-  pub is-deadline : deadline ≡ r .d
 
 -- ---- The figures, read off them
 

@@ -5,67 +5,19 @@ pub use answer::Plan;
 use sheet::Reading;
 ghost use mathlib.Core.Path.{_≡_};
 ghost use Prim.Native.Nat.{ℕ, _+_, _*_, _≤_, _<_, min, max};
-ghost use lib.ListN.{length, getD};
+ghost use lib.ListN.{length};
 ghost use Rattle.common.specs.Runs.{filled};
 ghost use Rattle.common.specs.Sums.{firstOf};
-ghost use Rattle.format.specs.Numbers.{be};
-ghost use Rattle.format.specs.Kinds.{decode};
 ghost use Rattle.segment.specs.Segment;
 ghost use Rattle.segment.specs.Refined;
 ghost use Rattle.pnet.specs.Planned.{planned, planOf, atPlace, runOf};
-ghost use Rattle.pnet.specs.Arrays.{part, Gathered, segmentIn, Pnet, Fields};
+ghost use Rattle.pnet.specs.Arrays.{part, Gathered, segmentIn, Pnet};
 ghost use Rattle.pnet.specs.Arrays.{at, askedIn, turnIn, boundIn, lateIn, savedIn, rightIn, roundsIn, refinedIn, Spaced, Served, Kept};
 
 // W of a master, and its rounds.
 struct Found {
     refined: u32,
     rounds: u32,
-}
-
-// The length of a stream's record.
-const STREAM: usize = 12;
-
-// A stream's fields.
-struct Stream {
-    master: usize,
-    cycle: u32,
-    spacing: u32,
-    deadline: u32,
-}
-
-fn wide(b: u8) -> u32
-    ensures { λ r. ⌜ (r ≡ b) × (r < 256) ⌝ }
-{
-    b as u32
-}
-
-// The number in the two bytes from a place, the highest first.
-fn half_at(s: &[u8], at: usize) -> u32
-    requires { ⌜ at + 2 ≤ length (now s) ⌝ }
-    ensures { λ r. ⌜ (r ≡ be (now (s .entry)) at 2) × (r < 65536) ⌝ }
-{
-    wide(s[at]) * 256 + wide(s[at + 1])
-}
-
-// The number in the four bytes from a place.
-fn word_at(s: &[u8], at: usize) -> u32
-    requires { ⌜ at + 4 ≤ length (now s) ⌝ }
-    ensures { λ r. ⌜ r ≡ be (now (s .entry)) at 4 ⌝ }
-{
-    half_at(s, at) * 65536 + half_at(s, at + 2)
-}
-
-// The stream whose record stands at a place. A sheet that was read needs no other test, which makes the pass fast.
-fn stream_at(s: &[u8], at: usize) -> Stream
-    requires { ⌜ (getD (now s) at 0 ≡ 2) × (at + 12 ≤ length (now s)) ⌝ }
-    ensures { λ r. ⌜ Fields (decode (now (s .entry)) at) (r .master) (r .cycle) (r .spacing) (r .deadline) ⌝ }
-{
-    Stream {
-        master: wide(s[at + 1]) as usize,
-        cycle: half_at(s, at + 2),
-        spacing: word_at(s, at + 4),
-        deadline: word_at(s, at + 8),
-    }
 }
 
 fn larger(a: u32, b: u32) -> u32
@@ -93,15 +45,16 @@ fn gather(
     let mut at = first;
     let mut i: usize = 0;
     while i < n {
-        let x = stream_at(s, at);
-        let m = x.master;
+        let met = format::record_at(s, at);
+        let r = met.found;
+        let m = r.a as usize;
         let count = counts[m];
-        masters[i] = m as u8;
-        deadlines[i] = x.deadline;
-        spacings[80 * m + count as usize] = x.spacing;
-        holds[m] = larger(holds[m], 47 + x.cycle);
+        masters[i] = r.a as u8;
+        deadlines[i] = r.d;
+        spacings[80 * m + count as usize] = r.c;
+        holds[m] = larger(holds[m], 47 + r.b);
         counts[m] = count + 1;
-        at += STREAM;
+        at = met.next;
         i += 1;
     }
 }
