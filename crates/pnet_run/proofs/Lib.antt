@@ -1,0 +1,4 @@
+pub mod Queues
+pub mod Ring
+pub mod Waiting
+pub mod Bound
