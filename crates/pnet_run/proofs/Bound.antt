@@ -53,6 +53,7 @@ use Rattle.pnet_run.specs.Run.{
   skip,
 }
 use Rattle.pnet_run.specs.Promise.{Apart, and, Lasts, past, at-it, Answered}
+use Rattle.pnet_run.proofs.Charges.{Covers}
 use Rattle.pnet_run.proofs.Queues.{put-same, put-other, Owned, owned-complete, owned-arrive}
 use Rattle.pnet_run.proofs.Ring.{next-in-ring, gap, gap-next, gap-lap, gap-most, gap-least}
 use Rattle.pnet_run.proofs.Waiting.{
@@ -67,11 +68,6 @@ use Rattle.pnet_run.proofs.Waiting.{
   in-time-snoc,
   room-for,
 }
-
--- a charge for each master covers its visits: an unused one, and a used one with the pass behind it
-pub record Covers (h : ℕ → ℕ) (S : Segment) : Type 0 where
-  pub unused : (y : ℕ) → 1 ≤ y → y ≤ S .masters → 10 ≤ h y
-  pub used : (y i : ℕ) → Declared S y i → 7 + (S .stream i .cycle + 40) ≤ h y
 
 -- arrivals that are apart: the latest from those before it, and those before it
 apart-latest : {d i : ℕ} {r : Request} {came : List Request} → Apart d i (r ∷ came) → r .of ≡ i → (a : ℕ) → List·Memᴰ (request i a) came → a + d ≤ r .since

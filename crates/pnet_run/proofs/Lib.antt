@@ -1,4 +1,9 @@
 pub mod Queues
 pub mod Ring
+pub mod Charges
 pub mod Waiting
 pub mod Bound
+pub mod Asked
+pub mod Exact
+pub mod Progress
+pub mod Demand

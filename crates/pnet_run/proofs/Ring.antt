@@ -9,7 +9,7 @@ use native.Mathlib.Omega.{arith}
 use lib.Dec.{leb}
 use borrow.Author.Tests.{eq-eqb, ne-eqb, le-leb, lt-leb}
 use Rattle.common.specs.Sums.{upto}
-use Rattle.common.proofs.Sums.{upto-longer}
+use Rattle.common.proofs.Sums.{upto-longer, upto-even}
 use Rattle.pnet_run.specs.Run.{next}
 
 -- ---- The next master
@@ -51,6 +51,9 @@ module _ (h : ℕ → ℕ) where
     unfolding gap
     gap-over {m} l = rw (lt-leb m k l)
 
+    pub gap-own : gap k ≡ 0
+    gap-own = omega (arith, gap-upto (le-refl k))
+
     module _ (1≤k : 1 ≤ k) (k≤n : k ≤ n) where
       first : upto h 1 ≡ h 1
       unfolding upto
@@ -91,3 +94,24 @@ module _ (h : ℕ → ℕ) where
           go (yes e) d = omega (arith, ap h e)
           go (no e) (yes l) = omega (arith, gap-upto l, upto-and m k (omega arith))
           go (no e) (no l) = omega (arith, gap-over {m = m} (omega arith), upto-and 0 k 1≤k, upto-longer h m n b)
+
+-- ---- Counting masters
+
+-- no two masters are equally many masters before k
+pub gap-apart : (n k : ℕ) {y m : ℕ} → 1 ≤ y → y ≤ n → 1 ≤ m → m ≤ n → gap (λ z. 1) n k y ≡ gap (λ z. 1) n k m → y ≡ m
+gap-apart n k {y} {m} a b c d e = go (decLe y k) (decLe m k)
+  where
+    is : (x : ℕ) → upto (λ z. 1) x ≡ x
+    is x = omega (arith, upto-even 1 x)
+
+    under : {x : ℕ} → x ≤ k → gap (λ z. 1) n k x ≡ k - x
+    under {x} l = omega (arith, gap-upto (λ z. 1) n k l, is k, is x)
+
+    over : {x : ℕ} → k < x → gap (λ z. 1) n k x ≡ k + n - x
+    over {x} l = omega (arith, gap-over (λ z. 1) n k l, is k, is n, is x)
+
+    go : Dec (y ≤ k) → Dec (m ≤ k) → y ≡ m
+    go (yes l) (yes r) = omega (arith, under l, under r)
+    go (yes l) (no r) = omega (arith, under l, over {x = m} (omega arith))
+    go (no l) (yes r) = omega (arith, over {x = y} (omega arith), under r)
+    go (no l) (no r) = omega (arith, over {x = y} (omega arith), over {x = m} (omega arith))

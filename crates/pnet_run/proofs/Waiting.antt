@@ -12,6 +12,7 @@ use Rattle.common.specs.Sums.{when, upto}
 use Rattle.common.proofs.Sums.{upto-but-one}
 use Rattle.segment.specs.Segment.{Segment, owns, count}
 use Rattle.pnet_run.specs.Run.{Declared, Request}
+use Rattle.pnet_run.proofs.Charges.{owns-declared}
 
 -- ---- Different streams
 
@@ -94,11 +95,6 @@ fewer f n (and {r = r} o i a g) c =
       fewer (without f (r .of)) n g (λ s j. let w = c s (List·Memᴰ·tail j) in (w .0, w .1, rw (without-other f (r .of) (s .of) (λ e. absent-then a j (sym e))) (w .2))),
     )
 
--- one of k's streams
-one : (S : Segment) (k i : ℕ) → Declared S k i → when (owns S k i) 1 ≡ 1
-unfolding owns
-one S k i d = rw (eq-eqb (S .stream i .master) k (d .own))
-
 -- a queue of k's streams that lacks stream i of k is shorter than k has streams
 pub room-for : {turn R x : ℕ} {came l : List Request} (S : Segment) (k i : ℕ) → Declared S k i → InTime turn R came x l
     → ((r : Request) → List·Memᴰ r l → Declared S k (r .of)) → ((r : Request) → List·Memᴰ r l → i ≢ r .of) → suc (length l) ≤ count S k
@@ -106,10 +102,13 @@ unfolding count
 room-for S k i d g own other =
     omega (
       arith,
-      one S k i d,
       upto-without f (S .number) i (d .from-one) (d .to-last),
-      fewer (without f i) (S .number) g (λ r j. let w = own r j in (w .from-one, w .to-last, rw (without-other f i (r .of) (λ e. other r j (sym e)), one S k (r .of) w) (omega arith))),
+      fewer (without f i) (S .number) g (λ r j. let w = own r j in (w .from-one, w .to-last, rw (without-other f i (r .of) (λ e. other r j (sym e))) (f-one (r .of) w))),
+      f-one i d,
     )
   where
     f : ℕ → ℕ
     f j = when (owns S k j) 1
+
+    f-one : (j : ℕ) → Declared S k j → 1 ≤ f j
+    f-one j w = rw (owns-declared S k j w) (omega arith)

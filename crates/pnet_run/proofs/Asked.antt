@@ -1,0 +1,109 @@
+-- A run can begin with one request of every stream, all at the instant 0, in sheet order. Assumes nothing.
+use Prim.Native.Nat.{ℕ, zero, suc, _+_, _≤_, _<_}
+use mathlib.Core.Path.{_≡_, refl, ap, sym, _∙_, subst, fun-ext}
+use mathlib.Core.Bool.{Bool, true, false, cond}
+use mathlib.Core.Logic.{_≢_, ⊎-elim}
+use mathlib.Core.List.{
+  List,
+  [],
+  _∷_,
+  _++_,
+  map,
+  map-append,
+  List·Memᴰ,
+  List·Memᴰ·head,
+  List·Memᴰ·tail,
+  List·Memᴰ·not-nil,
+  List·Memᴰ·cases-cons,
+}
+use native.Mathlib.Nat.{le-refl}
+use native.Mathlib.Decide.{ℕ-discrete}
+use native.Mathlib.Omega.{arith}
+use lib.ListN.{length, length-append}
+use lib.Dec.{eqb}
+use borrow.Author.Tests.{eq-eqb, ne-eqb}
+use Rattle.common.specs.Sums.{when, upto}
+use Rattle.segment.specs.Segment.{Segment, owns}
+use Rattle.pnet_run.specs.Run.{Declared, Request, request, Answer, Queues, put, join, Token, toward, Settled, on-way, Run, start, arrive}
+use Rattle.pnet_run.specs.Promise.{Apart, none, and, Spaced}
+use Rattle.pnet_run.proofs.Queues.{put-same, put-other}
+
+-- ---- The numbers of 1..n at which f holds, in order
+
+unfoldable pub picked : (ℕ → Bool) → ℕ → List ℕ
+picked f zero = []
+picked f (suc n) = cond (f (suc n)) (picked f n ++ (suc n ∷ [])) (picked f n)
+
+pub length-picked : (f : ℕ → Bool) (n : ℕ) → length (picked f n) ≡ upto (λ i. when (f i) 1) n
+unfolding picked upto
+length-picked f zero = refl
+length-picked f (suc n) = go (f (suc n)) (length-picked f n)
+  where
+    go : (b : Bool) → length (picked f n) ≡ upto (λ i. when (f i) 1) n
+        → length (cond b (picked f n ++ (suc n ∷ [])) (picked f n)) ≡ upto (λ i. when (f i) 1) n + when b 1
+    go true e = simp length-append (omega arith)
+    go false e = omega arith
+
+-- ---- Every stream has asked once, at 0
+
+abbrev pub asked : ℕ → Request
+asked i = request i 0
+
+-- each master's queue when streams 1..n have asked, and all that have
+abbrev pub queuesTo : Segment → ℕ → Queues
+queuesTo S n y = map asked (picked (owns S y) n)
+
+unfoldable pub askedTo : ℕ → List Request
+askedTo zero = []
+askedTo (suc n) = asked (suc n) ∷ askedTo n
+
+-- one more
+queuesTo-more : (S : Segment) (n : ℕ) → join (queuesTo S n) (S .stream (suc n) .master) (asked (suc n)) ≡ queuesTo S (suc n)
+unfolding picked owns
+queuesTo-more S n = fun-ext λ y. at y (ℕ-discrete y m)
+  where
+    m : ℕ
+    m = S .stream (suc n) .master
+
+    at : (y : ℕ) → Dec (y ≡ m) → join (queuesTo S n) m (asked (suc n)) y ≡ queuesTo S (suc n) y
+    at y (yes e) = rw (e, put-same (queuesTo S n) m (queuesTo S n m ++ (asked (suc n) ∷ [])), eq-eqb m m refl) (sym (map-append asked (picked (owns S m) n) (suc n ∷ [])))
+    at y (no z) = rw (put-other (queuesTo S n) m (queuesTo S n m ++ (asked (suc n) ∷ [])) y z, ne-eqb m y (λ e. z (sym e)))
+
+asked-more : {S : Segment} {n : ℕ} {y : Token} → Settled y → suc n ≤ S .number → Run S 0 y (queuesTo S n) (askedTo n) []
+    → Run S 0 y (queuesTo S (suc n)) (askedTo (suc n)) []
+unfolding askedTo
+asked-more {S} {n} {y} s l z =
+    subst (λ (q : Queues). Run S 0 y q (asked (suc n) ∷ askedTo n) []) (queuesTo-more S n) (arrive z s (record { from-one = omega arith; to-last = l; own = refl }))
+
+asked-upto : (S : Segment) {m d : ℕ} → 1 ≤ m → m ≤ S .masters → d ≤ 40 → (n : ℕ) → n ≤ S .number → Run S 0 (toward m d) (queuesTo S n) (askedTo n) []
+unfolding picked askedTo
+asked-upto S a b c zero l = start a b c
+asked-upto S a b c (suc n) l = asked-more on-way l (asked-upto S a b c n (omega arith))
+
+-- the token being anywhere a run can start
+pub all-asked : (S : Segment) {m d : ℕ} → 1 ≤ m → m ≤ S .masters → d ≤ 40 → Run S 0 (toward m d) (queuesTo S (S .number)) (askedTo (S .number)) []
+all-asked S a b c = asked-upto S a b c (S .number) (le-refl (S .number))
+
+-- ---- Each is there, and its spacing is kept
+
+pub asked-each : (n i : ℕ) → 1 ≤ i → i ≤ n → List·Memᴰ (asked i) (askedTo n)
+unfolding askedTo
+asked-each zero i a b = absurd (omega arith)
+asked-each (suc n) i a b = go (ℕ-discrete i (suc n)) (asked-each n i a)
+  where
+    go : Dec (i ≡ suc n) → (i ≤ n → List·Memᴰ (asked i) (askedTo n)) → List·Memᴰ (asked i) (asked (suc n) ∷ askedTo n)
+    go (yes e) ih = rw e (List·Memᴰ·head refl)
+    go (no z) ih = List·Memᴰ·tail (ih (omega (arith, z)))
+
+asked-in : (n : ℕ) (r : Request) → List·Memᴰ r (askedTo n) → r .of ≤ n
+unfolding askedTo
+asked-in zero r j = absurd (List·Memᴰ·not-nil j)
+asked-in (suc n) r j = ⊎-elim (λ (e : r ≡ asked (suc n)). rw e (le-refl (suc n))) (λ (c : List·Memᴰ r (askedTo n)). omega (arith, asked-in n r c)) (List·Memᴰ·cases-cons j)
+
+asked-apart : (d i n : ℕ) → Apart d i (askedTo n)
+unfolding askedTo
+asked-apart d i zero = none
+asked-apart d i (suc n) = and {r = asked (suc n)} (λ e a (j : List·Memᴰ (request i a) (askedTo n)). absurd (omega (arith, asked-in n (request i a) j))) (asked-apart d i n)
+
+pub asked-spaced : (S : Segment) (k : ℕ) → Spaced S k (askedTo (S .number))
+asked-spaced S k i d = asked-apart (S .stream i .spacing) i (S .number)
