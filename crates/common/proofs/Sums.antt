@@ -2,11 +2,13 @@
 use mathlib.Core.Path.{_≡_, refl, sym, ap, _∙_, subst}
 use mathlib.Core.Logic.{_≢_}
 use Prim.Native.Nat.{ℕ, zero, suc, _+_, _-_, _*_, _/_, _≤_, _<_, zero-le, max}
-use native.Mathlib.Nat.{mul-zero, mul-add, suc-mul, zero-div, div-lt-iff-lt-mul, le-div-iff-mul-le, mul-comm}
+use native.Mathlib.Nat.{mul-zero, mul-add, suc-mul, zero-div, div-zero, div-lt-iff-lt-mul, le-div-iff-mul-le, mul-comm}
 use native.Mathlib.Numerals.{add-one}
 use native.Mathlib.Omega.{arith}
 use native.Mathlib.Decide.{ℕ-discrete, le-ind}
-use Rattle.common.specs.Sums.{upto, greatest, up}
+use borrow.Author.Tests.{eq-eqb, ne-eqb}
+use lib.Dec.{eqb}
+use Rattle.common.specs.Sums.{when, upto, greatest, up}
 
 -- ---- Sums
 
@@ -138,3 +140,23 @@ upto-but-one f g (suc n) m lo hi eq = last (ℕ-discrete m (suc n)) (upto-but-on
     last : Dec (m ≡ suc n) → (m ≤ n → ((y : ℕ) → y ≢ m → f y ≡ g y) → upto f n + g m ≡ upto g n + f m) → upto f n + f (suc n) + g m ≡ upto g n + g (suc n) + f m
     last (yes q) ih = omega (arith, ap f q, ap g q, upto-same f g n (λ y a b. eq y (λ e. omega arith)))
     last (no q) ih = omega (arith, ih (omega (arith, q)) eq, eq (suc n) (λ e. q (sym e)))
+
+-- one term alone
+pub upto-only : (x k n : ℕ) → 1 ≤ k → k ≤ n → upto (λ y. when (eqb y k) x) n ≡ x
+unfolding upto
+upto-only x k zero lo hi = omega arith
+upto-only x k (suc n) lo hi = last (ℕ-discrete k (suc n)) (upto-only x k n lo)
+  where
+    none : (m : ℕ) → m < k → upto (λ y. when (eqb y k) x) m ≡ 0
+    none zero l = refl
+    none (suc m) l = simp (none m (omega arith), ne-eqb (suc m) k (λ e. omega arith))
+
+    last : Dec (k ≡ suc n) → (k ≤ n → upto (λ y. when (eqb y k) x) n ≡ x) → upto (λ y. when (eqb y k) x) n + when (eqb (suc n) k) x ≡ x
+    last (yes q) ih = simp (none n (omega arith), eq-eqb (suc n) k (sym q)) (omega arith)
+    last (no q) ih = simp (ih (omega (arith, q)), ne-eqb (suc n) k (λ e. q (sym e))) (omega arith)
+
+-- a quotient never falls, whatever divides
+pub up-rises : (x y t : ℕ) → x ≤ y → up x t ≤ up y t
+unfolding up
+up-rises x y zero h = simp div-zero (omega arith)
+up-rises x y (suc t) h = up-mono x y (suc t) (omega arith) h

@@ -24,7 +24,7 @@ use lib.Dec.{eqb}
 use borrow.Author.Tests.{eq-eqb, ne-eqb}
 use Rattle.common.specs.Sums.{when, upto}
 use Rattle.segment.specs.Segment.{Segment, owns}
-use Rattle.pnet_run.specs.Run.{Declared, Request, request, Answer, Queues, put, join, Token, toward, Settled, on-way, Run, start, arrive}
+use Rattle.pnet_run.specs.Run.{Belongs, Request, request, Answer, Queues, put, join, Token, toward, Settled, on-way, Run, start, arrive}
 use Rattle.pnet_run.specs.Promise.{Apart, none, and, Spaced}
 use Rattle.pnet_run.proofs.Queues.{put-same, put-other}
 

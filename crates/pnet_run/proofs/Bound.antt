@@ -28,7 +28,7 @@ use native.Mathlib.Omega.{arith}
 use lib.ListN.{length}
 use Rattle.segment.specs.Segment.{Segment, turnBy, boundBy, count}
 use Rattle.pnet_run.specs.Run.{
-  Declared,
+  Belongs,
   Request,
   request,
   Answer,
@@ -97,8 +97,8 @@ module _ (S : Segment) (h : ℕ → ℕ) (k : ℕ) (1≤k : 1 ≤ k) (k≤n : k 
     token : Sane y
     owned : Owned S q
     queue : Queue came (t + toll y) (q k)
-    done : (a : Answer) → List·Memᴰ a went → Declared S k (a .to .of) → a .at ≤ a .to .since + boundBy h S k
-    every : (r : Request) → List·Memᴰ r came → Declared S k (r .of) → List·Memᴰ r (q k) ⊎ ((u : ℕ) × List·Memᴰ (answer r u) went)
+    done : (a : Answer) → List·Memᴰ a went → Belongs S k (a .to .of) → a .at ≤ a .to .since + boundBy h S k
+    every : (r : Request) → List·Memᴰ r came → Belongs S k (r .of) → List·Memᴰ r (q k) ⊎ ((u : ℕ) × List·Memᴰ (answer r u) went)
 
   next-in : {m : ℕ} → m ≤ S .masters → (1 ≤ next (S .masters) m) × (next (S .masters) m ≤ S .masters)
   next-in {m} l = next-in-ring (S .masters) m (omega arith) l
@@ -161,13 +161,13 @@ module _ (S : Segment) (h : ℕ → ℕ) (k : ℕ) (1≤k : 1 ≤ k) (k≤n : k 
       every = λ s j o. ⊎-elim (λ (c : List·Memᴰ s (q k)). still s c (ℕ-discrete m k)) (λ (c : (u : ℕ) × List·Memᴰ (answer s u) went). inr (c .0, List·Memᴰ·tail (c .1))) (i .every s j o);
     }
       where
-        own : Declared S m (r .of)
+        own : Belongs S m (r .of)
         own = i .owned m r (rw p (List·Memᴰ·head refl))
 
         here : m ≡ k → q k ≡ r ∷ rest
         here e = rw (← e) p
 
-        now : Declared S k (r .of) → t ≤ r .since + boundBy h S k
+        now : Belongs S k (r .of) → t ≤ r .since + boundBy h S k
         now o = omega (arith, in-time-each {r = r} (i .queue) (rw (here (sym (own .own) ∙ o .own)) (List·Memᴰ·head refl)))
 
         still : (s : Request) → List·Memᴰ s (q k) → Dec (m ≡ k) → List·Memᴰ s (put q m rest k) ⊎ ((u : ℕ) × List·Memᴰ (answer s u) (answer r t ∷ went))
@@ -194,7 +194,7 @@ module _ (S : Segment) (h : ℕ → ℕ) (k : ℕ) (1≤k : 1 ≤ k) (k≤n : k 
     in-time-arrive {t} {i} {y} I a room =
         in-time-snoc (List·Memᴰ·head refl) a (omega (arith, toll-most y (I .token), mul-le-mul-right (turnBy h S) room)) (in-time-more (request i t) (I .queue))
 
-    inv-arrive : {t m i : ℕ} {y : Token} {q : Queues} {came : List Request} {went : List Answer} → Inv t y q came went → Declared S m i
+    inv-arrive : {t m i : ℕ} {y : Token} {q : Queues} {came : List Request} {went : List Answer} → Inv t y q came went → Belongs S m i
         → (m ≡ k → Absent i (q k) × (suc (length (q k)) ≤ count S k)) → Inv t y (join q m (request i t)) (request i t ∷ came) went
     inv-arrive {t} {m} {i} {y} {q} {came} {went} I d room = record {
       token = I .token;
@@ -220,7 +220,7 @@ module _ (S : Segment) (h : ℕ → ℕ) (k : ℕ) (1≤k : 1 ≤ k) (k≤n : k 
 
     -- ---- What waits is not late
 
-    long : (i : ℕ) → Declared S k i → 40 < h k
+    long : (i : ℕ) → Belongs S k i → 40 < h k
     long i d = omega (arith, cover .used k i d)
 
     toll-some : (y : Token) → Sane y → 40 < h k → 40 ≤ toll y
@@ -240,17 +240,17 @@ module _ (S : Segment) (h : ℕ → ℕ) (k : ℕ) (1≤k : 1 ≤ k) (k≤n : k 
 
     -- ---- Every run
 
-    module _ (least : ℕ → ℕ) (fits : (i : ℕ) → Declared S k i → boundBy h S k ≤ least i) where
+    module _ (least : ℕ → ℕ) (fits : (i : ℕ) → Belongs S k i → boundBy h S k ≤ least i) where
       abbrev KeptApart : List Request → Type 0
-      KeptApart came = (i : ℕ) → Declared S k i → Apart (least i) i came
+      KeptApart came = (i : ℕ) → Belongs S k i → Apart (least i) i came
 
       -- nothing of stream i waits when its next request arrives
-      alone : {t i : ℕ} {y : Token} {q : Queues} {came : List Request} {went : List Answer} → Inv t y q came went → Settled y → Declared S k i
+      alone : {t i : ℕ} {y : Token} {q : Queues} {came : List Request} {went : List Answer} → Inv t y q came went → Settled y → Belongs S k i
           → ((a : ℕ) → List·Memᴰ (request i a) came → a + least i ≤ t) → (r : Request) → List·Memᴰ r (q k) → i ≢ r .of
       alone {i = i} I s d before r j e =
           omega (arith, fits i d, waits I r j .1 s, before (r .since) (rw e (in-time-each {r = r} (I .queue) j .1)))
 
-      room : {t i : ℕ} {y : Token} {q : Queues} {came : List Request} {went : List Answer} → Inv t y q came went → Settled y → Declared S k i
+      room : {t i : ℕ} {y : Token} {q : Queues} {came : List Request} {went : List Answer} → Inv t y q came went → Settled y → Belongs S k i
           → ((a : ℕ) → List·Memᴰ (request i a) came → a + least i ≤ t) → Absent i (q k) × (suc (length (q k)) ≤ count S k)
       room {i = i} {q = q} I s d before =
           let f = alone I s d before in

@@ -10,38 +10,38 @@ use borrow.Author.Tests.{eq-eqb, ne-eqb, eqb-true}
 use Rattle.common.specs.Sums.{when, upto}
 use Rattle.common.proofs.Sums.{upto-term, greatest-most, greatest-least}
 use Rattle.segment.specs.Segment.{Segment, owns, count, longest, hold}
-use Rattle.pnet_run.specs.Run.{Declared}
+use Rattle.pnet_run.specs.Run.{Belongs}
 
 -- a charge for each master covers its visits: an unused one, and a used one with the pass behind it
 pub record Covers (h : ℕ → ℕ) (S : Segment) : Type 0 where
   pub unused : (y : ℕ) → 1 ≤ y → y ≤ S .masters → 10 ≤ h y
-  pub used : (y i : ℕ) → Declared S y i → 7 + (S .stream i .cycle + 40) ≤ h y
+  pub used : (y i : ℕ) → Belongs S y i → 7 + (S .stream i .cycle + 40) ≤ h y
 
 -- ---- What s, the longest C and H say of a declared stream
 
-pub owns-declared : (S : Segment) (m i : ℕ) → Declared S m i → owns S m i ≡ true
+pub owns-declared : (S : Segment) (m i : ℕ) → Belongs S m i → owns S m i ≡ true
 unfolding owns
 owns-declared S m i d = eq-eqb (S .stream i .master) m (d .own)
 
-pub count-some : (S : Segment) (m i : ℕ) → Declared S m i → 1 ≤ count S m
+pub count-some : (S : Segment) (m i : ℕ) → Belongs S m i → 1 ≤ count S m
 unfolding count
 count-some S m i d = rw (owns-declared S m i d) at (upto-term (λ j. when (owns S m j) 1) (S .number) i (d .from-one) (d .to-last))
 
 -- a master with streams has one
-pub count-then : (S : Segment) (m : ℕ) → 1 ≤ count S m → (i : ℕ) × Declared S m i
+pub count-then : (S : Segment) (m : ℕ) → 1 ≤ count S m → (i : ℕ) × Belongs S m i
 unfolding count owns upto
 count-then S m l = find (S .number) (le-refl (S .number)) l
   where
-    find : (n : ℕ) → n ≤ S .number → 1 ≤ upto (λ j. when (eqb (S .stream j .master) m) 1) n → (i : ℕ) × Declared S m i
+    find : (n : ℕ) → n ≤ S .number → 1 ≤ upto (λ j. when (eqb (S .stream j .master) m) 1) n → (i : ℕ) × Belongs S m i
     find zero b l = absurd (omega arith)
     find (suc n) b l = go (eqb (S .stream (suc n) .master) m) refl (find n (omega arith)) l
       where
-        go : (t : Bool) → eqb (S .stream (suc n) .master) m ≡ t → (1 ≤ upto (λ j. when (eqb (S .stream j .master) m) 1) n → (i : ℕ) × Declared S m i)
-            → 1 ≤ upto (λ j. when (eqb (S .stream j .master) m) 1) n + when t 1 → (i : ℕ) × Declared S m i
+        go : (t : Bool) → eqb (S .stream (suc n) .master) m ≡ t → (1 ≤ upto (λ j. when (eqb (S .stream j .master) m) 1) n → (i : ℕ) × Belongs S m i)
+            → 1 ≤ upto (λ j. when (eqb (S .stream j .master) m) 1) n + when t 1 → (i : ℕ) × Belongs S m i
         go true e ih h = (suc n, record { from-one = omega arith; to-last = b; own = eqb-true (S .stream (suc n) .master) m e })
         go false e ih h = ih (omega arith)
 
-pub longest-most : (S : Segment) (m i : ℕ) → Declared S m i → S .stream i .cycle ≤ longest S m
+pub longest-most : (S : Segment) (m i : ℕ) → Belongs S m i → S .stream i .cycle ≤ longest S m
 unfolding longest
 longest-most S m i d =
     rw (owns-declared S m i d) at (greatest-most (λ j. when (owns S m j) (S .stream j .cycle)) (S .number) i (d .from-one) (d .to-last))
@@ -70,7 +70,7 @@ hold-covers S = record {
 
 -- ---- Where a master's streams are equally long, H is what a visit takes at most
 
-pub hold-alike : (S : Segment) (m i : ℕ) → Declared S m i → ((j : ℕ) → Declared S m j → S .stream j .cycle ≡ S .stream i .cycle)
+pub hold-alike : (S : Segment) (m i : ℕ) → Belongs S m i → ((j : ℕ) → Belongs S m j → S .stream j .cycle ≡ S .stream i .cycle)
     → hold S m ≡ 47 + S .stream i .cycle
 unfolding longest owns
 hold-alike S m i d alike =

@@ -8,7 +8,7 @@ use native.Mathlib.Omega.{arith}
 use borrow.Author.Tests.{ltb-false}
 use Rattle.sheet.specs.Sheets.{Sheet}
 use Rattle.segment.specs.Segment.{Segment, segmentOf, count, hold, bound, late}
-use Rattle.pnet_run.specs.Run.{Declared, Request, Answer, answer, Queues, Token, Run}
+use Rattle.pnet_run.specs.Run.{Belongs, Request, Answer, answer, Queues, Token, Run}
 use Rattle.pnet_run.specs.Promise.{Spaced, Answered, Safe, Reached, Ranged, Accepted, Even}
 use Rattle.pnet_run.proofs.Charges.{count-then, hold-covers}
 use Rattle.pnet_run.proofs.Bound.{answered-by}
@@ -48,7 +48,7 @@ each-request-is-answered-within-the-bound sheet accepted k {now} {token} {queues
     S : Segment
     S = segmentOf sheet
 
-    by : (i : ℕ) → Declared S k i → Answered (bound S k) S k now token came went
+    by : (i : ℕ) → Belongs S k i → Answered (bound S k) S k now token came went
     by i d =
         let in-ring = accepted .ranged .master k i d in
         answered-by S (hold S) k (in-ring .0) (in-ring .1) (hold-covers S) (λ j. S .stream j .spacing)

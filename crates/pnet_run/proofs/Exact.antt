@@ -16,7 +16,7 @@ use borrow.Author.Tests.{le-leb, lt-leb, lt-ltb, le-ltb}
 use Rattle.common.specs.Sums.{when}
 use Rattle.segment.specs.Segment.{Segment, owns, count, hold, turn, turnBy, boundBy, bound}
 use Rattle.pnet_run.specs.Run.{
-  Declared,
+  Belongs,
   Request,
   request,
   Answer,
@@ -120,7 +120,7 @@ module _ (S : Segment) (k : ℕ) (1≤k : 1 ≤ k) (k≤n : k ≤ S .masters) (r
       C : ℕ
       C = S .stream (r .of) .cycle
 
-      own : Declared S m (r .of)
+      own : Belongs S m (r .of)
       own = owned (g .run) m r (rw p (List·Memᴰ·head refl))
 
       at : (y : ℕ) → 1 ≤ y → y ≤ N → 1 ≤ count S y → Dec (y ≡ m) → length (put (g .queues) m rest y) + visits j′ (after m) y ≡ count S y
@@ -139,7 +139,7 @@ module _ (S : Segment) (k : ℕ) (1≤k : 1 ≤ k) (k≤n : k ≤ S .masters) (r
       go d = omega (arith, enough d, g .left m a b some, less-none {a = far m} {b = far m} (le-refl _))
 
   -- and takes H, with the pass behind it
-  hold-served : {m : ℕ} (i : ℕ) → Declared S m i → 7 + S .stream i .cycle + 40 ≡ hold S m
+  hold-served : {m : ℕ} (i : ℕ) → Belongs S m i → 7 + S .stream i .cycle + 40 ≡ hold S m
   hold-served {m} i d = omega (arith, hold-alike S m i d (λ j e. even .alike m j i e d))
 
   at : {j m t u : ℕ} {y : Token} {went : List Answer} → t ≡ u → Stage j m t y went → Stage j m u y went
@@ -202,7 +202,7 @@ module _ (S : Segment) (k : ℕ) (1≤k : 1 ≤ k) (k≤n : k ≤ S .masters) (r
   record Turned (j t : ℕ) : Type 0 where
     went : List Answer
     slow : Request
-    own : Declared S k (slow .of)
+    own : Belongs S k (slow .of)
     since : slow .since ≡ 0
     stage : Stage j (after k) t (toward (after k) 40) (answer slow t ∷ went)
 
@@ -223,7 +223,7 @@ module _ (S : Segment) (k : ℕ) (1≤k : 1 ≤ k) (k≤n : k ≤ S .masters) (r
             stage = rw time at (served (r .stage) p (moves-round j));
           }
             where
-              own : Declared S k (s .of)
+              own : Belongs S k (s .of)
               own = owned (r .stage .run) k s (rw p (List·Memᴰ·head refl))
 
               time : r .now + (7 + S .stream (s .of) .cycle) ≡ t + turn S

@@ -6,7 +6,7 @@ use native.Mathlib.Nat.{le-refl}
 use native.Mathlib.Decide.{ℕ-discrete}
 use native.Mathlib.Omega.{arith}
 use Rattle.segment.specs.Segment.{Segment}
-use Rattle.pnet_run.specs.Run.{Declared, Request, request, Answer, Queues, put, join, Token, toward, serving, next, Run, start, complete, arrive, travel, work, serve, skip}
+use Rattle.pnet_run.specs.Run.{Belongs, Request, request, Answer, Queues, put, join, Token, toward, serving, next, Run, start, complete, arrive, travel, work, serve, skip}
 use Rattle.pnet_run.proofs.Queues.{put-same, put-other, owned}
 
 -- ---- A master that serves has a request to serve
@@ -50,7 +50,7 @@ pub record Later (S : Segment) (t : ℕ) (came : List Request) : Type 0 where
   pub went : List Answer
   pub run : Run S now token queues came went
 
-module _ (S : Segment) (long : (m i : ℕ) → Declared S m i → 1 ≤ S .stream i .cycle) where
+module _ (S : Segment) (long : (m i : ℕ) → Belongs S m i → 1 ≤ S .stream i .cycle) where
   one-bp : {t : ℕ} {y : Token} {q : Queues} {came : List Request} {went : List Answer} → Run S (t + 1) y q came went → Later S t came
   one-bp {t} {y} {q} {came} {went} z = record { now = t + 1; later = omega arith; token = y; queues = q; went = went; run = z }
 

@@ -6,7 +6,7 @@ use mathlib.Core.List.{List, [], _∷_, _++_, List·Memᴰ, List·Memᴰ·head, 
 use native.Mathlib.Decide.{ℕ-discrete}
 use borrow.Author.Tests.{eq-eqb, ne-eqb}
 use Rattle.segment.specs.Segment.{Segment}
-use Rattle.pnet_run.specs.Run.{Declared, Request, request, Answer, Queues, put, join, Token, Run, start, complete, arrive, travel, work, serve, skip}
+use Rattle.pnet_run.specs.Run.{Belongs, Request, request, Answer, Queues, put, join, Token, Run, start, complete, arrive, travel, work, serve, skip}
 
 pub put-same : (q : Queues) (m : ℕ) (l : List Request) → put q m l m ≡ l
 unfolding put
@@ -26,14 +26,14 @@ put-cases q m y l {r} i = go (ℕ-discrete y m)
 -- ---- Whose requests a queue holds
 
 abbrev pub Owned : Segment → Queues → Type 0
-Owned S q = (m : ℕ) (r : Request) → List·Memᴰ r (q m) → Declared S m (r .of)
+Owned S q = (m : ℕ) (r : Request) → List·Memᴰ r (q m) → Belongs S m (r .of)
 
 pub owned-complete : (S : Segment) {m : ℕ} {q : Queues} {r : Request} {rest : List Request} → Owned S q → q m ≡ r ∷ rest → Owned S (put q m rest)
 owned-complete S {m} {q} {r} {rest} o p y s j =
     ⊎-elim (λ (c : (y ≡ m) × List·Memᴰ s rest). rw (c .0) (o m s (rw p (List·Memᴰ·tail (c .1))))) (λ (c : List·Memᴰ s (q y)). o y s c)
     (put-cases q m y rest j)
 
-pub owned-arrive : (S : Segment) {m : ℕ} {q : Queues} (r : Request) → Owned S q → Declared S m (r .of) → Owned S (join q m r)
+pub owned-arrive : (S : Segment) {m : ℕ} {q : Queues} (r : Request) → Owned S q → Belongs S m (r .of) → Owned S (join q m r)
 owned-arrive S {m} {q} r o d y s j =
     ⊎-elim
     (λ (c : (y ≡ m) × List·Memᴰ s (q m ++ (r ∷ []))). rw (c .0)

@@ -11,7 +11,7 @@ use borrow.Author.Tests.{eq-eqb, ne-eqb}
 use Rattle.common.specs.Sums.{when, upto}
 use Rattle.common.proofs.Sums.{upto-but-one}
 use Rattle.segment.specs.Segment.{Segment, owns, count}
-use Rattle.pnet_run.specs.Run.{Declared, Request}
+use Rattle.pnet_run.specs.Run.{Belongs, Request}
 use Rattle.pnet_run.proofs.Charges.{owns-declared}
 
 -- ---- Different streams
@@ -96,8 +96,8 @@ fewer f n (and {r = r} o i a g) c =
     )
 
 -- a queue of k's streams that lacks stream i of k is shorter than k has streams
-pub room-for : {turn R x : ℕ} {came l : List Request} (S : Segment) (k i : ℕ) → Declared S k i → InTime turn R came x l
-    → ((r : Request) → List·Memᴰ r l → Declared S k (r .of)) → ((r : Request) → List·Memᴰ r l → i ≢ r .of) → suc (length l) ≤ count S k
+pub room-for : {turn R x : ℕ} {came l : List Request} (S : Segment) (k i : ℕ) → Belongs S k i → InTime turn R came x l
+    → ((r : Request) → List·Memᴰ r l → Belongs S k (r .of)) → ((r : Request) → List·Memᴰ r l → i ≢ r .of) → suc (length l) ≤ count S k
 unfolding count
 room-for S k i d g own other =
     omega (
@@ -110,5 +110,5 @@ room-for S k i d g own other =
     f : ℕ → ℕ
     f j = when (owns S k j) 1
 
-    f-one : (j : ℕ) → Declared S k j → 1 ≤ f j
+    f-one : (j : ℕ) → Belongs S k j → 1 ≤ f j
     f-one j w = rw (owns-declared S k j w) (omega arith)

@@ -5,7 +5,7 @@ use mathlib.Core.Path.{_≡_}
 use mathlib.Core.Logic.{_≢_, _⊎_}
 use mathlib.Core.List.{List, [], _∷_, List·Memᴰ}
 use Rattle.segment.specs.Segment.{Segment, count, bound}
-use Rattle.pnet_run.specs.Run.{Declared, Request, request, Answer, answer, Queues, Token, Settled, Run}
+use Rattle.pnet_run.specs.Run.{Belongs, Request, request, Answer, answer, Queues, Token, Settled, Run}
 
 -- ---- Spacing
 
@@ -17,7 +17,7 @@ pub data Apart (d i : ℕ) : List Request → Type 0 where
 
 -- each stream of master k keeps its spacing
 abbrev pub Spaced : Segment → ℕ → List Request → Type 0
-Spaced S k came = (i : ℕ) → Declared S k i → Apart (S .stream i .spacing) i came
+Spaced S k came = (i : ℕ) → Belongs S k i → Apart (S .stream i .spacing) i came
 
 -- ---- Answered within a figure
 
@@ -28,8 +28,8 @@ pub data Lasts (t : ℕ) (y : Token) (u : ℕ) : Type 0 where
 
 -- every request of master k is answered within R: 'completed by arrival plus bound, if the run lasts that long'
 pub record Answered (R : ℕ) (S : Segment) (k t : ℕ) (y : Token) (came : List Request) (went : List Answer) : Type 0 where
-  pub in-time : (a : Answer) → List·Memᴰ a went → Declared S k (a .to .of) → a .at ≤ a .to .since + R
-  pub none-left : (r : Request) → List·Memᴰ r came → Declared S k (r .of) → Lasts t y (r .since + R)
+  pub in-time : (a : Answer) → List·Memᴰ a went → Belongs S k (a .to .of) → a .at ≤ a .to .since + R
+  pub none-left : (r : Request) → List·Memᴰ r came → Belongs S k (r .of) → Lasts t y (r .since + R)
       → (u : ℕ) × List·Memᴰ (answer r u) went
 
 -- no request of master k, in any run in which k keeps its spacing, takes longer than R
@@ -48,7 +48,7 @@ pub record Reached (R : ℕ) (S : Segment) (k : ℕ) : Type 0 where
   pub spaced : (y : ℕ) → Spaced S y came
   pub slow : Request
   pub arrived : List·Memᴰ slow came
-  pub own : Declared S k (slow .of)
+  pub own : Belongs S k (slow .of)
   pub exact : List·Memᴰ (answer slow (slow .since + R)) went
 
 -- ---- Segments
@@ -56,16 +56,16 @@ pub record Reached (R : ℕ) (S : Segment) (k : ℕ) : Type 0 where
 -- what reading a sheet makes sure of, as far as a run needs it: each stream's master is one of 1..N, its C at least 1, its D at
 -- most its T
 pub record Ranged (S : Segment) : Type 0 where
-  pub master : (m i : ℕ) → Declared S m i → (1 ≤ m) × (m ≤ S .masters)
-  pub cycle : (m i : ℕ) → Declared S m i → 1 ≤ S .stream i .cycle
-  pub deadline : (m i : ℕ) → Declared S m i → S .stream i .deadline ≤ S .stream i .spacing
+  pub master : (m i : ℕ) → Belongs S m i → (1 ≤ m) × (m ≤ S .masters)
+  pub cycle : (m i : ℕ) → Belongs S m i → 1 ≤ S .stream i .cycle
+  pub deadline : (m i : ℕ) → Belongs S m i → S .stream i .deadline ≤ S .stream i .spacing
 
 -- and each stream passes: its master's R is at most its D
 pub record Accepted (S : Segment) : Type 0 where
   pub ranged : Ranged S
-  pub passes : (m i : ℕ) → Declared S m i → bound S m ≤ S .stream i .deadline
+  pub passes : (m i : ℕ) → Belongs S m i → bound S m ≤ S .stream i .deadline
 
 -- each master's own streams are equally long, and every master but k is silent or has at least as many streams as k
 pub record Even (S : Segment) (k : ℕ) : Type 0 where
-  pub alike : (m i j : ℕ) → Declared S m i → Declared S m j → S .stream i .cycle ≡ S .stream j .cycle
+  pub alike : (m i j : ℕ) → Belongs S m i → Belongs S m j → S .stream i .cycle ≡ S .stream j .cycle
   pub others : (y : ℕ) → 1 ≤ y → y ≤ S .masters → y ≢ k → (count S y ≡ 0) ⊎ (count S k ≤ count S y)

@@ -29,7 +29,7 @@ use Rattle.segment.specs.Segment.{Segment}
 -- ---- Requests and answers
 
 -- stream i is a declared one of master m
-pub record Declared (S : Segment) (m i : ℕ) : Type 0 where
+pub record Belongs (S : Segment) (m i : ℕ) : Type 0 where
   pub from-one : 1 ≤ i
   pub to-last : i ≤ S .number
   pub own : S .stream i .master ≡ m
@@ -91,7 +91,7 @@ pub data Run (S : Segment) : ℕ → Token → Queues → List Request → List 
       → Run S t (serving m 0) q came went → q m ≡ r ∷ rest
       → Run S t (toward (next (S .masters) m) 40) (put q m rest) came (answer r t ∷ went)
   arrive : {t m i : ℕ} {y : Token} {q : Queues} {came : List Request} {went : List Answer}
-      → Run S t y q came went → Settled y → Declared S m i → Run S t y (join q m (request i t)) (request i t ∷ came) went
+      → Run S t y q came went → Settled y → Belongs S m i → Run S t y (join q m (request i t)) (request i t ∷ came) went
   -- e bp pass: the token goes on, or the service does
   travel : {t m d : ℕ} {q : Queues} {came : List Request} {went : List Answer} (e : ℕ)
       → Run S t (toward m (e + d)) q came went → Run S (t + e) (toward m d) q came went

@@ -1,1 +1,5 @@
 pub mod Examples
+pub mod Sequence
+pub mod Right
+pub mod Holds
+pub mod Figures

@@ -1,0 +1,94 @@
+-- Page 01, 'P-NET bounds', the refined figure: what W and its rounds are, for every segment and each of its masters. The first part
+-- holds for any charge h(y) of at least 10 and any count a(y) that never falls as W grows; the second puts H and the page's a(y) in.
+-- Assumes nothing.
+use mathlib.Core.Path.{_≡_, refl, sym, ap, _∙_, subst}
+use mathlib.Core.Bool.{Bool, true, false, cond}
+use Prim.Native.Nat.{ℕ, zero, suc, _+_, _-_, _*_, _≤_, _<_}
+use native.Mathlib.Nat.{zero-mul}
+use native.Mathlib.Omega.{arith}
+use borrow.Author.Tests.{eq-eqb}
+use Rattle.common.specs.Sums.{when, upto, up, firstOf}
+use Rattle.common.proofs.Sums.{upto-mono, up-rises}
+use Rattle.segment.specs.Segment.{Segment, owns, count, hold, turnBy, boundBy, bound}
+use Rattle.segment.specs.Refined.{rightBy, valueOf, stands, roundsOf, mostRounds, asked, right, rounds, refined}
+use Rattle.segment.proofs.Sequence.{Settles, Least, still-at-once}
+use Rattle.segment.proofs.Right.{rightOf, right-least, right-rounds, right-rounds-at-most, right-value-at-most}
+use Rattle.segment.proofs.Holds.{hold-at-least}
+
+-- ---- For any charge and any count
+
+module _ (h : ℕ → ℕ) (a : ℕ → ℕ → ℕ) (S : Segment) (k : ℕ) where
+  module _ (big : (y : ℕ) → 1 ≤ y → y ≤ S .masters → 10 ≤ h y) (grows : (y v w : ℕ) → v ≤ w → a y v ≤ a y w) (lo : 1 ≤ k) (hi : k ≤ S .masters) where
+    -- the value reached is the least W with W = right side
+    pub least-by : Least (rightBy h a S k) (valueOf (rightBy h a S k) (roundsOf (rightBy h a S k) (mostRounds S k)))
+    unfolding rightBy turnBy rightOf mostRounds
+    least-by = right-least h a (S .masters) (count S k) k big grows lo hi
+
+    -- it is at most the bound
+    pub at-most-bound-by : valueOf (rightBy h a S k) (roundsOf (rightBy h a S k) (mostRounds S k)) ≤ boundBy h S k
+    unfolding rightBy turnBy rightOf mostRounds boundBy
+    at-most-bound-by = right-value-at-most h a (S .masters) (count S k) k big grows _
+
+    -- it is reached at the first m whose value equals the next one
+    pub rounds-first-by : Settles (rightBy h a S k) (roundsOf (rightBy h a S k) (mostRounds S k))
+    unfolding rightBy turnBy rightOf mostRounds
+    rounds-first-by = right-rounds h a (S .masters) (count S k) k big grows lo hi
+
+    pub rounds-at-most-by : roundsOf (rightBy h a S k) (mostRounds S k) ≤ 1 + (S .masters - 1) * count S k
+    unfolding rightBy turnBy rightOf mostRounds
+    rounds-at-most-by = right-rounds-at-most h a (S .masters) (count S k) k big grows lo hi
+
+  -- a master without streams: all three are 0
+  pub silent-zero-by : count S k ≡ 0
+      → (boundBy h S k ≡ 0) × (valueOf (rightBy h a S k) (roundsOf (rightBy h a S k) (mostRounds S k)) ≡ 0) × (roundsOf (rightBy h a S k) (mostRounds S k) ≡ 0)
+  unfolding rightBy boundBy turnBy mostRounds valueOf
+  silent-zero-by e =
+      let v : rightBy h a S k 0 ≡ 0 = simp e (omega (arith, zero-mul (upto h (S .masters)))) in
+      let r : roundsOf (rightBy h a S k) (1 + (S .masters - 1) * count S k) ≡ 0 = still-at-once (rightBy h a S k) v ((S .masters - 1) * count S k) in
+      (simp e (zero-mul (upto h (S .masters))), ap (valueOf (rightBy h a S k)) r, r)
+
+-- ---- The base
+
+asked-rises : (S : Segment) (y v w : ℕ) → v ≤ w → asked S y v ≤ asked S y w
+unfolding asked
+asked-rises S y v w l =
+    upto-mono (λ i. when (owns S y i) (up v (S .stream i .spacing))) (λ i. when (owns S y i) (up w (S .stream i .spacing))) (S .number)
+    (λ i lo hi. split (owns S y i) (up-rises v w (S .stream i .spacing) l))
+  where
+    split : {x z : ℕ} (b : Bool) → x ≤ z → when b x ≤ when b z
+    split true q = q
+    split false q = omega arith
+
+module _ (S : Segment) (k : ℕ) where
+  module _ (lo : 1 ≤ k) (hi : k ≤ S .masters) where
+    -- W = right side
+    pub refined-solves : refined S k ≡ right S k (refined S k)
+    unfolding refined rounds right
+    refined-solves = least-by (hold S) (asked S) S k (λ y _ _. hold-at-least S y) (asked-rises S) lo hi .solves
+
+    -- and no smaller number solves it
+    pub refined-least : (w : ℕ) → w ≡ right S k w → refined S k ≤ w
+    unfolding refined rounds right
+    refined-least = least-by (hold S) (asked S) S k (λ y _ _. hold-at-least S y) (asked-rises S) lo hi .least
+
+    pub refined-at-most-bound : refined S k ≤ bound S k
+    unfolding refined rounds right bound
+    refined-at-most-bound = at-most-bound-by (hold S) (asked S) S k (λ y _ _. hold-at-least S y) (asked-rises S) lo hi
+
+    -- the round count is the first m whose m-th value equals the next one
+    pub rounds-first : Settles (right S k) (rounds S k)
+    unfolding rounds right
+    rounds-first = rounds-first-by (hold S) (asked S) S k (λ y _ _. hold-at-least S y) (asked-rises S) lo hi
+
+    pub rounds-stand : stands (right S k) (rounds S k) ≡ true
+    unfolding stands
+    rounds-stand = eq-eqb _ _ (rounds-first .still)
+
+    pub rounds-at-most : rounds S k ≤ 1 + (S .masters - 1) * count S k
+    unfolding rounds right
+    rounds-at-most = rounds-at-most-by (hold S) (asked S) S k (λ y _ _. hold-at-least S y) (asked-rises S) lo hi
+
+  -- a master without streams: all three are 0
+  pub silent-zero : count S k ≡ 0 → (bound S k ≡ 0) × (refined S k ≡ 0) × (rounds S k ≡ 0)
+  unfolding refined rounds right bound
+  silent-zero = silent-zero-by (hold S) (asked S) S k

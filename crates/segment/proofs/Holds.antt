@@ -1,0 +1,81 @@
+-- Page 01, 'P-NET bounds': laws of s, H, V and R that the planner and the bus's runs rest on. Assumes nothing.
+use mathlib.Core.Path.{_≡_, refl, sym, ap, _∙_, subst}
+use mathlib.Core.Bool.{Bool, true, false, cond}
+use Prim.Native.Nat.{ℕ, zero, suc, _+_, _*_, _≤_, _<_}
+use native.Mathlib.Nat.{mul-le-mul}
+use native.Mathlib.Omega.{arith}
+use borrow.Author.Tests.{eq-eqb, ne-eqb}
+use lib.Dec.{eqb}
+use Rattle.common.specs.Sums.{when, upto, greatest}
+use Rattle.common.proofs.Sums.{upto-term, upto-most, greatest-most, greatest-least}
+use Rattle.segment.specs.Segment.{Segment, owns, count, longest, hold, turnBy, boundBy, turn, bound}
+use Rattle.segment.specs.Limits.{Ranged, Declared}
+
+-- ---- A stream and its master
+
+module _ (S : Segment) (i : ℕ) where
+  pub owned : owns S (S .stream i .master) i ≡ true
+  unfolding owns
+  owned = eq-eqb (S .stream i .master) (S .stream i .master) refl
+
+  module _ (lo : 1 ≤ i) (hi : i ≤ S .number) where
+    -- a master that owns a stream has one at least
+    pub count-owned : (k : ℕ) → owns S k i ≡ true → 1 ≤ count S k
+    unfolding count
+    count-owned k e = rw e at (upto-term (λ j. when (owns S k j) 1) (S .number) i lo hi)
+
+    pub cycle-at-most-longest : (k : ℕ) → owns S k i ≡ true → S .stream i .cycle ≤ longest S k
+    unfolding longest
+    cycle-at-most-longest k e = rw e at (greatest-most (λ j. when (owns S k j) (S .stream j .cycle)) (S .number) i lo hi)
+
+-- ---- H
+
+module _ (S : Segment) (y : ℕ) where
+  pub hold-none : count S y ≡ 0 → hold S y ≡ 10
+  unfolding hold
+  hold-none e = simp (eq-eqb (count S y) 0 e)
+
+  pub hold-some : 1 ≤ count S y → hold S y ≡ 47 + longest S y
+  unfolding hold
+  hold-some l = simp (ne-eqb (count S y) 0 (λ e. omega arith))
+
+  pub hold-at-least : 10 ≤ hold S y
+  unfolding hold
+  hold-at-least = split (eqb (count S y) 0)
+    where
+      split : (b : Bool) → 10 ≤ cond b 10 (47 + longest S y)
+      split true = omega arith
+      split false = omega arith
+
+-- a served request of stream i fits its master's H
+pub cycle-held : (S : Segment) (i : ℕ) → 1 ≤ i → i ≤ S .number → 47 + S .stream i .cycle ≤ hold S (S .stream i .master)
+cycle-held S i lo hi =
+    let k = S .stream i .master in
+    omega (arith, hold-some S k (count-owned S i lo hi k (owned S i)), cycle-at-most-longest S i lo hi k (owned S i))
+
+-- ---- How large the figures of a declared segment are
+
+module _ (S : Segment) (d : Declared S) where
+  pub longest-at-most : (y : ℕ) → longest S y ≤ 1548
+  unfolding longest
+  longest-at-most y = greatest-least (λ i. when (owns S y i) (S .stream i .cycle)) 1548 (S .number) (λ i lo hi. split (owns S y i) (d .ranges i lo hi .cycle-to))
+    where
+      split : {c : ℕ} (b : Bool) → c ≤ 1548 → when b c ≤ 1548
+      split true l = l
+      split false l = omega arith
+
+  pub hold-at-most : (y : ℕ) → hold S y ≤ 1595
+  unfolding hold
+  hold-at-most y = split (eqb (count S y) 0) (longest-at-most y)
+    where
+      split : (b : Bool) → longest S y ≤ 1548 → cond b 10 (47 + longest S y) ≤ 1595
+      split true l = omega arith
+      split false l = omega arith
+
+  pub turn-at-most : turn S ≤ 51040
+  unfolding turn turnBy
+  turn-at-most = omega (arith, d .masters-to, upto-most (hold S) 1595 (S .masters) (λ y lo hi. hold-at-most y))
+
+  pub bound-at-most : (k : ℕ) → bound S k ≤ 4083200
+  unfolding bound boundBy turn
+  bound-at-most k = mul-le-mul {n₁ = count S k} {m₁ = turnBy (hold S) S} {n₂ = 80} {m₂ = 51040} (d .counts k) turn-at-most
