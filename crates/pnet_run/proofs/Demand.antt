@@ -8,9 +8,10 @@ use native.Mathlib.Omega.{arith}
 use borrow.Author.Tests.{ltb-false}
 use Rattle.sheet.specs.Sheets.{Sheet}
 use Rattle.segment.specs.Segment.{Segment, segmentOf, count, hold, bound, late}
+use Rattle.segment.specs.Limits.{Declared}
 use Rattle.pnet_run.specs.Run.{Belongs, Request, Answer, answer, Queues, Token, Run}
-use Rattle.pnet_run.specs.Promise.{Spaced, Answered, Safe, Reached, Ranged, Accepted, Even}
-use Rattle.pnet_run.proofs.Charges.{count-then, hold-covers}
+use Rattle.pnet_run.specs.Promise.{Spaced, Answered, Safe, Reached, Accepted, Even}
+use Rattle.pnet_run.proofs.Charges.{belongs-count, in-ring, hold-covers, some-cycle}
 use Rattle.pnet_run.proofs.Bound.{answered-by}
 use Rattle.pnet_run.proofs.Exact.{exact}
 use Rattle.pnet_run.proofs.Progress.{Later, goes-on}
@@ -19,10 +20,10 @@ use Rattle.pnet_run.proofs.Progress.{Later, goes-on}
 
 -- A sheet is accepted if reading found its fields in range and refusal 8, 'P-NET bound above a deadline', is given for no stream.
 
-pub accepted-if-none-is-late : (S : Segment) → Ranged S → ((i : ℕ) → 1 ≤ i → i ≤ S .number → late S i ≡ false) → Accepted S
+pub accepted-if-none-is-late : (S : Segment) → Declared S → ((i : ℕ) → 1 ≤ i → i ≤ S .number → late S i ≡ false) → Accepted S
 unfolding late
-accepted-if-none-is-late S ranged passes = record {
-  ranged = ranged;
+accepted-if-none-is-late S declared passes = record {
+  declared = declared;
   passes = λ m i d. rw (d .own) at (ltb-false (S .stream i .deadline) (bound S (S .stream i .master)) (passes i (d .from-one) (d .to-last)));
 }
 
@@ -50,9 +51,9 @@ each-request-is-answered-within-the-bound sheet accepted k {now} {token} {queues
 
     by : (i : ℕ) → Belongs S k i → Answered (bound S k) S k now token came went
     by i d =
-        let in-ring = accepted .ranged .master k i d in
-        answered-by S (hold S) k (in-ring .0) (in-ring .1) (hold-covers S) (λ j. S .stream j .spacing)
-        (λ j e. omega (arith, accepted .ranged .deadline k j e, accepted .passes k j e)) run spaced
+        let own = in-ring (accepted .declared) d in
+        answered-by S (hold S) k (own .0) (own .1) (hold-covers S) (λ j. S .stream j .spacing)
+        (λ j e. omega (arith, accepted .declared .ranges j (e .from-one) (e .to-last) .deadline-to, accepted .passes k j e)) run spaced
 
 -- ---- 'For a master with streams, where each master's own streams are equally long and every other master is silent or has at least
 -- as many streams, some such run takes exactly the bound'
@@ -60,21 +61,20 @@ each-request-is-answered-within-the-bound sheet accepted k {now} {token} {queues
 -- The supposition is `Even`. In the run that is found every master keeps its spacing, not only master k: each stream asks once.
 -- The sheet need not even be accepted for this; its fields are in range.
 
-pub some-run-takes-exactly-the-bound : (sheet : Sheet) → Ranged (segmentOf sheet) → (k : ℕ) → 1 ≤ count (segmentOf sheet) k
+pub some-run-takes-exactly-the-bound : (sheet : Sheet) → Declared (segmentOf sheet) → (k : ℕ) → 1 ≤ count (segmentOf sheet) k
     → Even (segmentOf sheet) k → Reached (bound (segmentOf sheet) k) (segmentOf sheet) k
-some-run-takes-exactly-the-bound sheet ranged k some even =
-    let one = count-then (segmentOf sheet) k some in
-    let in-ring = ranged .master k (one .0) (one .1) in
-    exact (segmentOf sheet) k (in-ring .0) (in-ring .1) ranged even some
+some-run-takes-exactly-the-bound sheet declared k some even =
+    let own = in-ring declared (belongs-count (segmentOf sheet) k some .1) in
+    exact (segmentOf sheet) k (own .0) (own .1) declared even some
 
 -- ---- 'no lower figure would be true'
 
 -- A figure within which the master's requests are answered in every run is at least the bound.
 
-pub no-lower-figure-would-be-true : (sheet : Sheet) → Ranged (segmentOf sheet) → (k : ℕ) → 1 ≤ count (segmentOf sheet) k
+pub no-lower-figure-would-be-true : (sheet : Sheet) → Declared (segmentOf sheet) → (k : ℕ) → 1 ≤ count (segmentOf sheet) k
     → Even (segmentOf sheet) k → (figure : ℕ) → Safe figure (segmentOf sheet) k → bound (segmentOf sheet) k ≤ figure
-no-lower-figure-would-be-true sheet ranged k some even figure safe =
-    let x = some-run-takes-exactly-the-bound sheet ranged k some even in
+no-lower-figure-would-be-true sheet declared k some even figure safe =
+    let x = some-run-takes-exactly-the-bound sheet declared k some even in
     omega (arith, safe .ever (x .run) (x .spaced k) .in-time (answer (x .slow) _) (x .exact) (x .own))
 
 -- ---- What keeps the demand from being empty
@@ -82,7 +82,7 @@ no-lower-figure-would-be-true sheet ranged k some even figure safe =
 -- A run never gets stuck: from every stage it goes on to a later instant, with no further arrival. So the runs of the demand last as
 -- long as one likes.
 
-pub no-run-is-stuck : (sheet : Sheet) → Ranged (segmentOf sheet)
+pub no-run-is-stuck : (sheet : Sheet) → Declared (segmentOf sheet)
     → {now : ℕ} {token : Token} {queues : Queues} {came : List Request} {went : List Answer}
     → Run (segmentOf sheet) now token queues came went → Later (segmentOf sheet) now came
-no-run-is-stuck sheet ranged {token = token} run = goes-on (segmentOf sheet) (ranged .cycle) token run
+no-run-is-stuck sheet declared {token = token} run = goes-on (segmentOf sheet) (λ m i b. some-cycle declared b) token run

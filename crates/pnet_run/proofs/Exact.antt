@@ -15,6 +15,8 @@ use lib.Dec.{leb, ltb}
 use borrow.Author.Tests.{le-leb, lt-leb, lt-ltb, le-ltb}
 use Rattle.common.specs.Sums.{when}
 use Rattle.segment.specs.Segment.{Segment, owns, count, hold, turn, turnBy, boundBy, bound}
+use Rattle.segment.specs.Limits.{Declared}
+use Rattle.segment.proofs.Holds.{hold-none}
 use Rattle.pnet_run.specs.Run.{
   Belongs,
   Request,
@@ -32,10 +34,10 @@ use Rattle.pnet_run.specs.Run.{
   serve,
   skip,
 }
-use Rattle.pnet_run.specs.Promise.{Spaced, Reached, Ranged, Even}
+use Rattle.pnet_run.specs.Promise.{Spaced, Reached, Even}
 use Rattle.pnet_run.proofs.Queues.{put-same, put-other, put-cases, owned}
 use Rattle.pnet_run.proofs.Ring.{next-last, next-more, next-in-ring, gap, gap-own, gap-next, gap-lap, gap-most, gap-apart}
-use Rattle.pnet_run.proofs.Charges.{count-some, hold-none, hold-alike}
+use Rattle.pnet_run.proofs.Charges.{some-cycle, hold-alike}
 use Rattle.pnet_run.proofs.Asked.{picked, length-picked, asked, queuesTo, askedTo, all-asked, asked-each, asked-spaced}
 
 -- 1 if a < b, else 0
@@ -50,7 +52,7 @@ less-none : {a b : ℕ} → b ≤ a → less a b ≡ 0
 unfolding less
 less-none {a} {b} l = rw (le-ltb a b l)
 
-module _ (S : Segment) (k : ℕ) (1≤k : 1 ≤ k) (k≤n : k ≤ S .masters) (ranged : Ranged S) (even : Even S k) where
+module _ (S : Segment) (k : ℕ) (1≤k : 1 ≤ k) (k≤n : k ≤ S .masters) (declared : Declared S) (even : Even S k) where
   abbrev N : ℕ
   N = S .masters
 
@@ -112,7 +114,7 @@ module _ (S : Segment) (k : ℕ) (1≤k : 1 ≤ k) (k≤n : k ≤ S .masters) (r
       → Moves j m j′ → Stage j′ (after m) (t + (7 + S .stream (r .of) .cycle)) (toward (after m) 40) (answer r (t + (7 + S .stream (r .of) .cycle)) ∷ went)
   served {j} {j′} {m} {t} {went} {r} {rest} g p moves = record {
     queues = put (g .queues) m rest;
-    run = complete (serve {c = 0} (7 + C) 7 C (g .run) p (omega arith) (le-refl 7) (ranged .cycle m (r .of) own) (le-refl C) (omega arith) (omega arith)) p;
+    run = complete (serve {c = 0} (7 + C) 7 C (g .run) p (omega arith) (le-refl 7) (some-cycle declared own) (le-refl C) (omega arith) (omega arith)) p;
     left = λ y lo hi some. at y lo hi some (ℕ-discrete y m);
     fresh = λ y s i. ⊎-elim (λ (c : (y ≡ m) × List·Memᴰ s rest). g .fresh m s (rw p (List·Memᴰ·tail (c .1)))) (λ (c : List·Memᴰ s (g .queues y)). g .fresh y s c) (put-cases (g .queues) m y rest i);
   }
@@ -140,7 +142,7 @@ module _ (S : Segment) (k : ℕ) (1≤k : 1 ≤ k) (k≤n : k ≤ S .masters) (r
 
   -- and takes H, with the pass behind it
   hold-served : {m : ℕ} (i : ℕ) → Belongs S m i → 7 + S .stream i .cycle + 40 ≡ hold S m
-  hold-served {m} i d = omega (arith, hold-alike S m i d (λ j e. even .alike m j i e d))
+  hold-served {m} i d = omega (arith, hold-alike d (λ j e. even .alike m j i e d))
 
   at : {j m t u : ℕ} {y : Token} {went : List Answer} → t ≡ u → Stage j m t y went → Stage j m u y went
   at {j} {m} {t} {u} {y} {went} e g = subst (λ (x : ℕ). Stage j m x y went) e g

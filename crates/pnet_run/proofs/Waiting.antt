@@ -12,7 +12,7 @@ use Rattle.common.specs.Sums.{when, upto}
 use Rattle.common.proofs.Sums.{upto-but-one}
 use Rattle.segment.specs.Segment.{Segment, owns, count}
 use Rattle.pnet_run.specs.Run.{Belongs, Request}
-use Rattle.pnet_run.proofs.Charges.{owns-declared}
+use Rattle.pnet_run.proofs.Charges.{owns-belongs}
 
 -- ---- Different streams
 
@@ -111,4 +111,4 @@ room-for S k i d g own other =
     f j = when (owns S k j) 1
 
     f-one : (j : ℕ) → Belongs S k j → 1 ≤ f j
-    f-one j w = rw (owns-declared S k j w) (omega arith)
+    f-one j w = rw (owns-belongs w) (omega arith)

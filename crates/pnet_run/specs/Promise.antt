@@ -5,6 +5,7 @@ use mathlib.Core.Path.{_≡_}
 use mathlib.Core.Logic.{_≢_, _⊎_}
 use mathlib.Core.List.{List, [], _∷_, List·Memᴰ}
 use Rattle.segment.specs.Segment.{Segment, count, bound}
+use Rattle.segment.specs.Limits.{Declared}
 use Rattle.pnet_run.specs.Run.{Belongs, Request, request, Answer, answer, Queues, Token, Settled, Run}
 
 -- ---- Spacing
@@ -53,16 +54,9 @@ pub record Reached (R : ℕ) (S : Segment) (k : ℕ) : Type 0 where
 
 -- ---- Segments
 
--- what reading a sheet makes sure of, as far as a run needs it: each stream's master is one of 1..N, its C at least 1, its D at
--- most its T
-pub record Ranged (S : Segment) : Type 0 where
-  pub master : (m i : ℕ) → Belongs S m i → (1 ≤ m) × (m ≤ S .masters)
-  pub cycle : (m i : ℕ) → Belongs S m i → 1 ≤ S .stream i .cycle
-  pub deadline : (m i : ℕ) → Belongs S m i → S .stream i .deadline ≤ S .stream i .spacing
-
--- and each stream passes: its master's R is at most its D
+-- an accepted one: its fields are in range, and each stream passes, its master's R being at most its D
 pub record Accepted (S : Segment) : Type 0 where
-  pub ranged : Ranged S
+  pub declared : Declared S
   pub passes : (m i : ℕ) → Belongs S m i → bound S m ≤ S .stream i .deadline
 
 -- each master's own streams are equally long, and every master but k is silent or has at least as many streams as k

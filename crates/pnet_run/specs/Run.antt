@@ -28,7 +28,7 @@ use Rattle.segment.specs.Segment.{Segment}
 
 -- ---- Requests and answers
 
--- stream i is a declared one of master m
+-- stream i is a declared one, and master m's
 pub record Belongs (S : Segment) (m i : ℕ) : Type 0 where
   pub from-one : 1 ≤ i
   pub to-last : i ≤ S .number
