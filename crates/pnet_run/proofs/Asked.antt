@@ -73,12 +73,12 @@ asked-more : {S : Segment} {n : ℕ} {y : Token} → Settled y → suc n ≤ S .
     → Run S 0 y (queuesTo S (suc n)) (askedTo (suc n)) []
 unfolding askedTo
 asked-more {S} {n} {y} s l z =
-    subst (λ (q : Queues). Run S 0 y q (asked (suc n) ∷ askedTo n) []) (queuesTo-more S n) (arrive z s (record { from-one = omega arith; to-last = l; own = refl }))
+    subst (λ (q : Queues). Run S 0 y q (asked (suc n) ∷ askedTo n) []) (queuesTo-more S n) (arrive z s (record { from-one = omega arith; to-last = l; own = omega arith }))
 
 asked-upto : (S : Segment) {m d : ℕ} → 1 ≤ m → m ≤ S .masters → d ≤ 40 → (n : ℕ) → n ≤ S .number → Run S 0 (toward m d) (queuesTo S n) (askedTo n) []
 unfolding picked askedTo
-asked-upto S a b c zero l = start a b c
-asked-upto S a b c (suc n) l = asked-more on-way l (asked-upto S a b c n (omega arith))
+asked-upto S {d = d} a b c zero l = start {d = d} a b (omega arith)
+asked-upto S {d = d} a b c (suc n) l = asked-more on-way l (asked-upto S a b c n (omega arith))
 
 -- the token being anywhere a run can start
 pub all-asked : (S : Segment) {m d : ℕ} → 1 ≤ m → m ≤ S .masters → d ≤ 40 → Run S 0 (toward m d) (queuesTo S (S .number)) (askedTo (S .number)) []

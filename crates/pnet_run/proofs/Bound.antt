@@ -22,7 +22,7 @@ use mathlib.Core.List.{
   Memᴰ·append-left,
   Memᴰ·append-right,
 }
-use native.Mathlib.Nat.{le-refl, mul-le-mul-right}
+use native.Mathlib.Nat.{mul-le-mul-right}
 use native.Mathlib.Decide.{ℕ-discrete}
 use native.Mathlib.Omega.{arith}
 use lib.ListN.{length}
@@ -71,7 +71,7 @@ use Rattle.pnet_run.proofs.Waiting.{
 
 -- arrivals that are apart: the latest from those before it, and those before it
 apart-latest : {d i : ℕ} {r : Request} {came : List Request} → Apart d i (r ∷ came) → r .of ≡ i → (a : ℕ) → List·Memᴰ (request i a) came → a + d ≤ r .since
-apart-latest (and f p) = f
+apart-latest (and f p) e a j = omega (arith, f e a j)
 
 apart-before : {d i : ℕ} {r : Request} {came : List Request} → Apart d i (r ∷ came) → Apart d i came
 apart-before (and f p) = p
@@ -106,7 +106,7 @@ module _ (S : Segment) (h : ℕ → ℕ) (k : ℕ) (1≤k : 1 ≤ k) (k≤n : k 
   module _ (cover : Covers h S) where
     inv-start : {m d : ℕ} → 1 ≤ m → m ≤ S .masters → d ≤ 40 → Inv 0 (toward m d) (λ y. []) [] []
     inv-start a b c = record {
-      token = (a, b, c);
+      token = omega arith;
       owned = λ m r j. absurd (List·Memᴰ·not-nil j);
       queue = none;
       done = λ a j. absurd (List·Memᴰ·not-nil j);
@@ -128,7 +128,7 @@ module _ (S : Segment) (h : ℕ → ℕ) (k : ℕ) (1≤k : 1 ≤ k) (k≤n : k 
     inv-work e i = inv-on i (omega arith) (in-time-sooner (omega arith) (i .queue))
 
     inv-skip : {t m d : ℕ} {q : Queues} {came : List Request} {went : List Answer} (e : ℕ) → Inv t (toward m 0) q came went
-        → q m ≡ [] → e + d ≡ 10 → Inv (t + e) (toward (next (S .masters) m) d) q came went
+        → q m ≡ [] → e + d ≤ 10 → Inv (t + e) (toward (next (S .masters) m) d) q came went
     inv-skip {t} {m} {d} {q} {came} e i p s = inv-on i (n .0, n .1, omega arith) (go (ℕ-discrete m k))
       where
         n : (1 ≤ next (S .masters) m) × (next (S .masters) m ≤ S .masters)
@@ -138,10 +138,9 @@ module _ (S : Segment) (h : ℕ → ℕ) (k : ℕ) (1≤k : 1 ≤ k) (k≤n : k 
         go (yes z) = rw (← z, p) none
         go (no z) = in-time-sooner (omega (arith, gap-next h (S .masters) k 1≤k k≤n m (i .token .1) z, cover .unused m (i .token .0) (i .token .1))) (i .queue)
 
-    inv-serve : {t m c : ℕ} {q : Queues} {r : Request} {rest came : List Request} {went : List Answer} (e reaction message : ℕ)
-        → Inv t (toward m 0) q came went → q m ≡ r ∷ rest → reaction ≤ 7 → message ≤ S .stream (r .of) .cycle → e + c ≡ reaction + message
-        → Inv (t + e) (serving m c) q came went
-    inv-serve {t} {m} {c} {q} {r} e reaction message i p a b s =
+    inv-serve : {t m c : ℕ} {q : Queues} {r : Request} {rest came : List Request} {went : List Answer} (e : ℕ)
+        → Inv t (toward m 0) q came went → q m ≡ r ∷ rest → e + c ≤ 7 + S .stream (r .of) .cycle → Inv (t + e) (serving m c) q came went
+    inv-serve {t} {m} {c} {q} {r} e i p s =
         inv-on i (i .token .0, i .token .1, omega (arith, most)) (in-time-sooner (omega (arith, most)) (i .queue))
       where
         most : 7 + (S .stream (r .of) .cycle + 40) ≤ h m
@@ -149,12 +148,12 @@ module _ (S : Segment) (h : ℕ → ℕ) (k : ℕ) (1≤k : 1 ≤ k) (k≤n : k 
 
     -- ---- A completion
 
-    inv-complete : {t m : ℕ} {q : Queues} {r : Request} {rest came : List Request} {went : List Answer}
-        → Inv t (serving m 0) q came went → q m ≡ r ∷ rest
-        → Inv t (toward (next (S .masters) m) 40) (put q m rest) came (answer r t ∷ went)
+    inv-complete : {t m d : ℕ} {q : Queues} {r : Request} {rest came : List Request} {went : List Answer}
+        → Inv t (serving m 0) q came went → q m ≡ r ∷ rest → d ≤ 40
+        → Inv t (toward (next (S .masters) m) d) (put q m rest) came (answer r t ∷ went)
     unfolding turnBy
-    inv-complete {t} {m} {q} {r} {rest} {came} {went} i p = record {
-      token = (next-in (i .token .1) .0, next-in (i .token .1) .1, le-refl 40);
+    inv-complete {t} {m} {d} {q} {r} {rest} {came} {went} i p b = record {
+      token = omega (arith, next-in (i .token .1));
       owned = owned-complete S (i .owned) p;
       queue = queue′ (ℕ-discrete m k);
       done = λ a j o. ⊎-elim (λ (c : a ≡ answer r t). rw c (now (rw c at o))) (λ (c : List·Memᴰ a went). i .done a c o) (List·Memᴰ·cases-cons j);
@@ -176,7 +175,7 @@ module _ (S : Segment) (h : ℕ → ℕ) (k : ℕ) (1≤k : 1 ≤ k) (k≤n : k 
             (List·Memᴰ·cases-cons (rw (here e) at j))
         still s j (no e) = inl (rw (put-other q m rest k (λ z. e (sym z))) j)
 
-        queue′ : Dec (m ≡ k) → Queue came (t + toll (toward (next (S .masters) m) 40)) (put q m rest k)
+        queue′ : Dec (m ≡ k) → Queue came (t + toll (toward (next (S .masters) m) d)) (put q m rest k)
         queue′ (yes e) = rw (e, put-same q k rest) (in-time-sooner (omega (arith, gap-lap h (S .masters) k 1≤k k≤n)) (in-time-rest (rw (here e) at (i .queue))))
         queue′ (no e) = rw (put-other q m rest k (λ z. e (sym z))) (in-time-sooner (omega (arith, gap-next h (S .masters) k 1≤k k≤n m (i .token .1) e)) (i .queue))
 
@@ -258,12 +257,12 @@ module _ (S : Segment) (h : ℕ → ℕ) (k : ℕ) (1≤k : 1 ≤ k) (k≤n : k 
 
       inv : {t : ℕ} {y : Token} {q : Queues} {came : List Request} {went : List Answer} → Run S t y q came went → KeptApart came → Inv t y q came went
       inv (start a b c) s = inv-start a b c
-      inv (complete z p) s = inv-complete (inv z s) p
+      inv (complete z p) s = inv-complete (inv z s) p (omega arith)
       inv (arrive {i = i} z o d) s = let I = inv z (λ j e. apart-before (s j e)) in inv-arrive I d (λ e. room I o (rw e at d) (apart-latest (s i (rw e at d)) refl))
       inv (travel e z) s = inv-travel e (inv z s)
       inv (work e z) s = inv-work e (inv z s)
-      inv (serve e x c z p a b d f g o) s = inv-serve e x c (inv z s) p b f o
-      inv (skip e z p a b) s = inv-skip e (inv z s) p b
+      inv (serve e x c z p a b d f g o) s = inv-serve e (inv z s) p (omega arith)
+      inv (skip e z p a b) s = inv-skip e (inv z s) p (omega arith)
 
       not-after : {t : ℕ} {y : Token} {q : Queues} {came : List Request} {went : List Answer} → Inv t y q came went → (r : Request) → List·Memᴰ r (q k)
           → Lasts t y (r .since + boundBy h S k) → ⊥
@@ -275,6 +274,6 @@ module _ (S : Segment) (h : ℕ → ℕ) (k : ℕ) (1≤k : 1 ≤ k) (k≤n : k 
       answered-by {q = q} {went = went} z s =
           let I = inv z s in
           record {
-            in-time = I .done;
+            in-time = λ a j o. omega (arith, I .done a j o);
             none-left = λ r j o l. ⊎-elim (λ (c : List·Memᴰ r (q k)). absurd (not-after I r c l)) (λ (c : (u : ℕ) × List·Memᴰ (answer r u) went). c) (I .every r j o);
           }

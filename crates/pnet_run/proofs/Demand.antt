@@ -24,7 +24,7 @@ pub accepted-if-none-is-late : (S : Segment) → Declared S → ((i : ℕ) → 1
 unfolding late
 accepted-if-none-is-late S declared passes = record {
   declared = declared;
-  passes = λ m i d. rw (d .own) at (ltb-false (S .stream i .deadline) (bound S (S .stream i .master)) (passes i (d .from-one) (d .to-last)));
+  passes = λ m i d. omega (arith, rw (d .own) at (ltb-false (S .stream i .deadline) (bound S (S .stream i .master)) (passes i (d .from-one) (d .to-last))));
 }
 
 -- ---- 'any fault-free run of the virtual token bus from empty queues, with one message a visit and first-come queues. If a master's

@@ -114,7 +114,7 @@ module _ (S : Segment) (k : ℕ) (1≤k : 1 ≤ k) (k≤n : k ≤ S .masters) (d
       → Moves j m j′ → Stage j′ (after m) (t + (7 + S .stream (r .of) .cycle)) (toward (after m) 40) (answer r (t + (7 + S .stream (r .of) .cycle)) ∷ went)
   served {j} {j′} {m} {t} {went} {r} {rest} g p moves = record {
     queues = put (g .queues) m rest;
-    run = complete (serve {c = 0} (7 + C) 7 C (g .run) p (omega arith) (le-refl 7) (some-cycle declared own) (le-refl C) (omega arith) (omega arith)) p;
+    run = complete (serve {c = 0} (7 + C) 7 C (g .run) p (omega arith) (omega arith) (some-cycle declared own) (omega arith) (omega arith) (omega arith)) p;
     left = λ y lo hi some. at y lo hi some (ℕ-discrete y m);
     fresh = λ y s i. ⊎-elim (λ (c : (y ≡ m) × List·Memᴰ s rest). g .fresh m s (rw p (List·Memᴰ·tail (c .1)))) (λ (c : List·Memᴰ s (g .queues y)). g .fresh y s c) (put-cases (g .queues) m y rest i);
   }
@@ -142,7 +142,7 @@ module _ (S : Segment) (k : ℕ) (1≤k : 1 ≤ k) (k≤n : k ≤ S .masters) (d
 
   -- and takes H, with the pass behind it
   hold-served : {m : ℕ} (i : ℕ) → Belongs S m i → 7 + S .stream i .cycle + 40 ≡ hold S m
-  hold-served {m} i d = omega (arith, hold-alike d (λ j e. even .alike m j i e d))
+  hold-served {m} i d = omega (arith, hold-alike d (λ j e. omega (arith, even .alike m j i e d)))
 
   at : {j m t u : ℕ} {y : Token} {went : List Answer} → t ≡ u → Stage j m t y went → Stage j m u y went
   at {j} {m} {t} {u} {y} {went} e g = subst (λ (x : ℕ). Stage j m x y went) e g
@@ -242,7 +242,7 @@ module _ (S : Segment) (k : ℕ) (1≤k : 1 ≤ k) (k≤n : k ≤ S .masters) (d
   unfolding count
   first = record {
     queues = queuesTo S (S .number);
-    run = all-asked S (next-in k≤n .0) (next-in k≤n .1) (le-refl 40);
+    run = all-asked S (next-in k≤n .0) (next-in k≤n .1) (omega arith);
     left = λ y lo hi some. omega (arith, length-map (picked (owns S y) (S .number)) asked, length-picked (owns S y) (S .number), less-none (farthest y lo hi));
     fresh = λ y r i. let o = Memᴰ·of-map asked (picked (owns S y) (S .number)) i in sym (ap (λ (s : Request). s .since) (o .2));
   }

@@ -2,7 +2,6 @@
 use Prim.Native.Nat.{ℕ, zero, suc, _+_, _≤_, _<_}
 use mathlib.Core.Path.{_≡_, refl, ap, _∙_}
 use mathlib.Core.List.{List, [], _∷_, _++_, List·Memᴰ·head}
-use native.Mathlib.Nat.{le-refl}
 use native.Mathlib.Decide.{ℕ-discrete}
 use native.Mathlib.Omega.{arith}
 use Rattle.segment.specs.Segment.{Segment}
@@ -54,16 +53,19 @@ module _ (S : Segment) (long : (m i : ℕ) → Belongs S m i → 1 ≤ S .stream
   one-bp : {t : ℕ} {y : Token} {q : Queues} {came : List Request} {went : List Answer} → Run S (t + 1) y q came went → Later S t came
   one-bp {t} {y} {q} {came} {went} z = record { now = t + 1; later = omega arith; token = y; queues = q; went = went; run = z }
 
-  at-master : {t m : ℕ} {q : Queues} {came : List Request} {went : List Answer} → Run S t (toward m 0) q came went → (l : List Request) → q m ≡ l → Later S t came
-  at-master z [] p = one-bp (skip {d = 9} 1 z p (le-refl 1) refl)
-  at-master {t} {m} z (r ∷ l) p =
-      one-bp (serve {c = 2} 1 2 1 z p (le-refl 2) (omega arith) (le-refl 1) (long m (r .of) (owned z m r (rw p (List·Memᴰ·head refl)))) (le-refl 1) refl)
-
   one-more : (d : ℕ) → suc d ≡ 1 + d
   one-more d = omega arith
 
+  at-master : {t m : ℕ} {q : Queues} {came : List Request} {went : List Answer} → Run S t (toward m 0) q came went → (l : List Request) → q m ≡ l → Later S t came
+  at-master z [] p = one-bp (skip {d = 9} 1 z p (omega arith) (omega arith))
+  at-master {t} {m} z (r ∷ l) p =
+      one-bp (serve {c = 2} 1 2 1 z p (omega arith) (omega arith) (omega arith) (long m (r .of) (owned z m r (rw p (List·Memᴰ·head refl)))) (omega arith) (omega arith))
+
+  on-its-way : {t m : ℕ} (d : ℕ) {q : Queues} {came : List Request} {went : List Answer} → Run S t (toward m d) q came went → Later S t came
+  on-its-way {m = m} zero {q} z = at-master z (q m) refl
+  on-its-way (suc d) z = one-bp (travel {d = d} 1 (rw (one-more d) at z))
+
   pub goes-on : {t : ℕ} (y : Token) {q : Queues} {came : List Request} {went : List Answer} → Run S t y q came went → Later S t came
-  goes-on (toward m zero) {q} z = at-master z (q m) refl
-  goes-on (toward m (suc d)) z = one-bp (travel {d = d} 1 (rw (one-more d) at z))
-  goes-on (serving m zero) {q} z = one-bp (travel {d = 39} 1 (complete z (serves z .is)))
+  goes-on (toward m d) z = on-its-way d z
+  goes-on (serving m zero) z = on-its-way _ (complete z (serves z .is))
   goes-on (serving m (suc c)) z = one-bp (work {c = c} 1 (rw (one-more c) at z))
