@@ -1,7 +1,6 @@
 -- A run can begin with one request of every stream, all at the instant 0, in sheet order. Assumes nothing.
 use Prim.Native.Nat.{ℕ, zero, suc, _+_, _≤_, _<_}
 use mathlib.Core.Path.{_≡_, refl, ap, sym, _∙_, subst, fun-ext}
-use mathlib.Core.Bool.{Bool, true, false, cond}
 use mathlib.Core.Logic.{_≢_, ⊎-elim}
 use mathlib.Core.List.{
   List,
@@ -19,30 +18,12 @@ use mathlib.Core.List.{
 use native.Mathlib.Nat.{le-refl}
 use native.Mathlib.Decide.{ℕ-discrete}
 use native.Mathlib.Omega.{arith}
-use lib.ListN.{length, length-append}
-use lib.Dec.{eqb}
 use borrow.Author.Tests.{eq-eqb, ne-eqb}
-use Rattle.common.specs.Sums.{when, upto}
 use Rattle.segment.specs.Segment.{Segment, owns}
 use Rattle.pnet_run.specs.Run.{Belongs, Request, request, Answer, Queues, put, join, Token, toward, Settled, on-way, Run, start, arrive}
 use Rattle.pnet_run.specs.Promise.{Apart, none, and, Spaced}
 use Rattle.pnet_run.proofs.Queues.{put-same, put-other}
-
--- ---- The numbers of 1..n at which f holds, in order
-
-unfoldable pub picked : (ℕ → Bool) → ℕ → List ℕ
-picked f zero = []
-picked f (suc n) = cond (f (suc n)) (picked f n ++ (suc n ∷ [])) (picked f n)
-
-pub length-picked : (f : ℕ → Bool) (n : ℕ) → length (picked f n) ≡ upto (λ i. when (f i) 1) n
-unfolding picked upto
-length-picked f zero = refl
-length-picked f (suc n) = go (f (suc n)) (length-picked f n)
-  where
-    go : (b : Bool) → length (picked f n) ≡ upto (λ i. when (f i) 1) n
-        → length (cond b (picked f n ++ (suc n ∷ [])) (picked f n)) ≡ upto (λ i. when (f i) 1) n + when b 1
-    go true e = simp length-append (omega arith)
-    go false e = omega arith
+use Rattle.pnet_run.proofs.Picked.{picked}
 
 -- ---- Every stream has asked once, at 0
 

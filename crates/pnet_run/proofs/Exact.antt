@@ -38,7 +38,8 @@ use Rattle.pnet_run.specs.Promise.{Spaced, Reached, Even}
 use Rattle.pnet_run.proofs.Queues.{put-same, put-other, put-cases, owned}
 use Rattle.pnet_run.proofs.Ring.{next-last, next-more, next-in-ring, gap, gap-own, gap-next, gap-lap, gap-most, gap-apart}
 use Rattle.pnet_run.proofs.Charges.{some-cycle, hold-alike}
-use Rattle.pnet_run.proofs.Asked.{picked, length-picked, asked, queuesTo, askedTo, all-asked, asked-each, asked-spaced}
+use Rattle.pnet_run.proofs.Picked.{picked, length-picked}
+use Rattle.pnet_run.proofs.Asked.{asked, queuesTo, askedTo, all-asked, asked-each, asked-spaced}
 
 -- 1 if a < b, else 0
 less : ℕ → ℕ → ℕ

@@ -3,6 +3,7 @@ pub mod Ring
 pub mod Charges
 pub mod Waiting
 pub mod Bound
+pub mod Picked
 pub mod Asked
 pub mod Exact
 pub mod Progress

@@ -1,0 +1,21 @@
+-- A visit of the simulator, by cases. Assumes nothing.
+use Prim.Native.Nat.{ℕ, _+_, _≤_, _<_}
+use mathlib.Core.Path.{_≡_, refl, sym}
+use mathlib.Core.List.{List}
+use lib.ListN.{length, getD, set}
+use borrow.Author.Tests.{lt-ltb, le-ltb}
+use Rattle.pnet_run.specs.Run.{next}
+use Rattle.simulate.specs.Simulated.{Bus, oldestOf, used, unused, visited}
+
+module _ (n : ℕ) (owner cycle : List ℕ) (b : Bus) where
+  -- the oldest request is served
+  pub visited-used : (p c m : ℕ) → p ≡ oldestOf owner (b .answered) (b .master) → p < length owner → c ≡ getD cycle p 0 → m ≡ next n (b .master)
+      → _≡_ {A = Bus} (record { now = b .now + 7 + c + 40; master = m; answered = set (b .answered) p (b .now + 7 + c) }) (visited n owner cycle b)
+  unfolding visited used
+  visited-used p c m e l d f = simp (← e, lt-ltb p (length owner) l, d, f)
+
+  -- nobody is
+  pub visited-unused : (p m : ℕ) → p ≡ oldestOf owner (b .answered) (b .master) → length owner ≤ p → m ≡ next n (b .master)
+      → _≡_ {A = Bus} (record { now = b .now + 10; master = m; answered = b .answered }) (visited n owner cycle b)
+  unfolding visited unused
+  visited-unused p m e l f = simp (← e, le-ltb p (length owner) l, f)
