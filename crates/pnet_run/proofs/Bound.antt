@@ -6,8 +6,8 @@
 -- request in k's queue is through by now + toll, the next one turn later, and so on, all stays true. When a request of k arrives,
 -- its stream has none waiting, since that one would have been answered: so it finds fewer than s in the queue, and is through
 -- within s turns.
-use Prim.Native.Nat.{ℕ, zero, suc, _+_, _*_, _≤_, _<_}
-use mathlib.Core.Path.{_≡_, refl, ap, sym, _∙_}
+use Prim.Native.Nat.{ℕ, suc, _+_, _≤_, _<_}
+use mathlib.Core.Path.{_≡_, refl, sym, _∙_}
 use mathlib.Core.Logic.{_≢_, _⊎_, inl, inr, ⊎-elim}
 use mathlib.Core.List.{
   List,

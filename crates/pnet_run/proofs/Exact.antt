@@ -4,15 +4,14 @@
 -- then on each turn takes V, and brings k's queue forward by one. So k's last request is answered after s turns.
 use Prim.Native.Nat.{ℕ, zero, suc, _+_, _-_, _*_, _≤_, _<_}
 use mathlib.Core.Path.{_≡_, refl, ap, sym, _∙_, subst}
-use mathlib.Core.Bool.{Bool, true, false, cond}
-use mathlib.Core.Logic.{_≢_, _⊎_, inl, inr, ⊎-elim}
+use mathlib.Core.Logic.{_≢_, ⊎-elim}
 use mathlib.Core.List.{List, [], _∷_, List·Memᴰ, List·Memᴰ·head, List·Memᴰ·tail, Memᴰ·of-map}
 use native.Mathlib.Nat.{le-refl}
 use native.Mathlib.Decide.{ℕ-discrete, decLe}
 use native.Mathlib.Omega.{arith}
 use lib.ListN.{length, length-map}
-use lib.Dec.{leb, ltb}
-use borrow.Author.Tests.{le-leb, lt-leb, lt-ltb, le-ltb}
+use lib.Dec.{ltb}
+use borrow.Author.Tests.{lt-ltb, le-ltb}
 use Rattle.common.specs.Sums.{when}
 use Rattle.segment.specs.Segment.{Segment, owns, count, hold, turn, turnBy, boundBy, bound}
 use Rattle.segment.specs.Limits.{Declared}
@@ -29,17 +28,15 @@ use Rattle.pnet_run.specs.Run.{
   toward,
   next,
   Run,
-  complete,
   travel,
-  serve,
   skip,
 }
-use Rattle.pnet_run.specs.Promise.{Spaced, Reached, Even}
+use Rattle.pnet_run.specs.Promise.{Reached, Even}
 use Rattle.pnet_run.proofs.Queues.{put-same, put-other, put-cases, owned}
-use Rattle.pnet_run.proofs.Ring.{next-last, next-more, next-in-ring, gap, gap-own, gap-next, gap-lap, gap-most, gap-apart}
+use Rattle.pnet_run.proofs.Ring.{next-in-ring, gap, gap-own, gap-next, gap-lap, gap-most, gap-apart}
 use Rattle.pnet_run.proofs.Charges.{some-cycle, hold-alike}
 use Rattle.pnet_run.proofs.Picked.{picked, length-picked}
-use Rattle.pnet_run.proofs.Asked.{asked, queuesTo, askedTo, all-asked, asked-each, asked-spaced}
+use Rattle.pnet_run.proofs.Slowest.{slowest, asked, queuesTo, askedTo, all-asked, asked-each, asked-spaced}
 
 -- 1 if a < b, else 0
 less : ℕ → ℕ → ℕ
@@ -115,14 +112,11 @@ module _ (S : Segment) (k : ℕ) (1≤k : 1 ≤ k) (k≤n : k ≤ S .masters) (d
       → Moves j m j′ → Stage j′ (after m) (t + (7 + S .stream (r .of) .cycle)) (toward (after m) 40) (answer r (t + (7 + S .stream (r .of) .cycle)) ∷ went)
   served {j} {j′} {m} {t} {went} {r} {rest} g p moves = record {
     queues = put (g .queues) m rest;
-    run = complete (serve {c = 0} (7 + C) 7 C (g .run) p (omega arith) (omega arith) (some-cycle declared own) (omega arith) (omega arith) (omega arith)) p;
+    run = slowest (g .run) p (some-cycle declared own);
     left = λ y lo hi some. at y lo hi some (ℕ-discrete y m);
     fresh = λ y s i. ⊎-elim (λ (c : (y ≡ m) × List·Memᴰ s rest). g .fresh m s (rw p (List·Memᴰ·tail (c .1)))) (λ (c : List·Memᴰ s (g .queues y)). g .fresh y s c) (put-cases (g .queues) m y rest i);
   }
     where
-      C : ℕ
-      C = S .stream (r .of) .cycle
-
       own : Belongs S m (r .of)
       own = owned (g .run) m r (rw p (List·Memᴰ·head refl))
 

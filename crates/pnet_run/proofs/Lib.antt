@@ -4,7 +4,7 @@ pub mod Charges
 pub mod Waiting
 pub mod Bound
 pub mod Picked
-pub mod Asked
+pub mod Slowest
 pub mod Exact
 pub mod Progress
 pub mod Demand

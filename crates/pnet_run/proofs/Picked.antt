@@ -35,7 +35,7 @@ picked-none f (suc n) e = simp (e (suc n) (omega arith) (omega arith), picked-no
 
 -- the first that is picked, and the others: g is f but at i
 pub picked-first : (f g : ℕ → Bool) (n i : ℕ) → 1 ≤ i → i ≤ n → f i ≡ true → g i ≡ false → ((j : ℕ) → 1 ≤ j → j < i → f j ≡ false)
-    → ((j : ℕ) → j ≢ i → f j ≡ g j) → picked f n ≡ i ∷ picked g n
+    → ((j : ℕ) → 1 ≤ j → j ≢ i → f j ≡ g j) → picked f n ≡ i ∷ picked g n
 unfolding picked
 picked-first f g zero i lo hi t u before same = absurd (omega arith)
 picked-first f g (suc n) i lo hi t u before same = go (ℕ-discrete i (suc n)) (λ h. picked-first f g n i lo h t u before same)
@@ -47,13 +47,13 @@ picked-first f g (suc n) i lo hi t u before same = go (ℕ-discrete i (suc n)) (
           ap f (sym e) ∙ t,
           ap g (sym e) ∙ u,
           picked-none f n off,
-          picked-none g n (λ j a b. sym (same j (λ d. omega arith)) ∙ off j a b),
+          picked-none g n (λ j a b. sym (same j a (λ d. omega arith)) ∙ off j a b),
           e,
         )
 
     go : Dec (i ≡ suc n) → (i ≤ n → picked f n ≡ i ∷ picked g n) → picked f (suc n) ≡ i ∷ picked g (suc n)
     go (yes e) ih = here e
-    go (no z) ih = rest (f (suc n)) (g (suc n)) (same (suc n) (λ e. z (sym e))) (ih (omega (arith, z)))
+    go (no z) ih = rest (f (suc n)) (g (suc n)) (same (suc n) (omega arith) (λ e. z (sym e))) (ih (omega (arith, z)))
       where
         rest : (b d : Bool) → b ≡ d → picked f n ≡ i ∷ picked g n
             → cond b (picked f n ++ (suc n ∷ [])) (picked f n) ≡ i ∷ cond d (picked g n ++ (suc n ∷ [])) (picked g n)

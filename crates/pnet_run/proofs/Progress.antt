@@ -5,7 +5,7 @@ use mathlib.Core.List.{List, [], _∷_, _++_, List·Memᴰ·head}
 use native.Mathlib.Decide.{ℕ-discrete}
 use native.Mathlib.Omega.{arith}
 use Rattle.segment.specs.Segment.{Segment}
-use Rattle.pnet_run.specs.Run.{Belongs, Request, request, Answer, Queues, put, join, Token, toward, serving, next, Run, start, complete, arrive, travel, work, serve, skip}
+use Rattle.pnet_run.specs.Run.{Belongs, Request, request, Answer, Queues, join, Token, toward, serving, Run, start, complete, arrive, travel, work, serve, skip}
 use Rattle.pnet_run.proofs.Queues.{put-same, put-other, owned}
 
 -- ---- A master that serves has a request to serve

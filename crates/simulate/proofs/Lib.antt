@@ -1,2 +1,3 @@
 pub mod Waits
 pub mod Visits
+pub mod Sound

@@ -2,10 +2,11 @@
 use Prim.Native.Nat.{ℕ, _+_, _≤_, _<_}
 use mathlib.Core.Path.{_≡_, refl, sym}
 use mathlib.Core.List.{List}
+use native.Mathlib.Numerals.{add-one}
 use lib.ListN.{length, getD, set}
 use borrow.Author.Tests.{lt-ltb, le-ltb}
 use Rattle.pnet_run.specs.Run.{next}
-use Rattle.simulate.specs.Simulated.{Bus, oldestOf, used, unused, visited}
+use Rattle.simulate.specs.Simulated.{Bus, oldestOf, used, unused, visited, visitedTimes}
 
 module _ (n : ℕ) (owner cycle : List ℕ) (b : Bus) where
   -- the oldest request is served
@@ -19,3 +20,9 @@ module _ (n : ℕ) (owner cycle : List ℕ) (b : Bus) where
       → _≡_ {A = Bus} (record { now = b .now + 10; master = m; answered = b .answered }) (visited n owner cycle b)
   unfolding visited unused
   visited-unused p m e l f = simp (← e, le-ltb p (length owner) l, f)
+
+-- one more visit, as a loop counts
+pub visitedTimes-more : (n : ℕ) (owner cycle : List ℕ) (b : Bus) (v : ℕ)
+    → visitedTimes n owner cycle b (v + 1) ≡ visited n owner cycle (visitedTimes n owner cycle b v)
+unfolding visitedTimes
+visitedTimes-more n owner cycle b v = rw add-one refl

@@ -8,14 +8,14 @@ use Rattle.simulate.proofs.behind.Tie as tie
 
 returns : tie.Need-returns
 unfolding next
-returns c = simp (eq-eqb (c .before .args .m) (c .before .args .n) (c .if1 .taken))
+returns c = (simp (eq-eqb (c .before .args .m) (c .before .args .n) (c .if1 .taken)), search needs)
 
 add-result : tie.Need-add-result
 add-result c = search needs
 
 returns-2 : tie.Need-returns-2
 unfolding next
-returns-2 c = simp (ne-eqb (c .before .args .m) (c .before .args .n) (c .if1 .left), add-one)
+returns-2 c = (simp (ne-eqb (c .before .args .m) (c .before .args .n) (c .if1 .left), add-one), search needs)
 
 pub behind-spec : {M : Type 1} → statement M
 behind-spec = tie.close (tie.spec returns add-result returns-2)

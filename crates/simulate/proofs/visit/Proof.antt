@@ -62,7 +62,11 @@ same-length c = search needs
 
 -- src/lib.rt:52:1
 returns : tie.Need-returns
-returns c = visited-used _ _ _ _ _ _ _ ? ? ? ?
+returns c = (
+  visited-used _ _ _ _ _ _ _ (c .before .before .before .before .before .oldest .ensures) (c .before .before .before .before .if1 .taken) (c .before .wide .ensures .0) (c .behind .ensures .0),
+  search needs,
+  search needs,
+)
 
 -- src/lib.rt:52:1
 same-length-2 : tie.Need-same-length-2
@@ -70,7 +74,11 @@ same-length-2 c = search needs
 
 -- src/lib.rt:52:1
 returns-2 : tie.Need-returns-2
-returns-2 c = visited-unused _ _ _ _ _ _ ? ? ?
+returns-2 c = (
+  visited-unused _ _ _ _ _ _ (c .before .before .before .oldest .ensures) (c .before .before .if1 .left) (c .behind2 .ensures .0),
+  search needs,
+  search needs,
+)
 
 pub visit-spec : {M : Type 1} → statement M
 visit-spec =

@@ -1,7 +1,8 @@
--- A run can begin with one request of every stream, all at the instant 0, in sheet order. Assumes nothing.
-use Prim.Native.Nat.{ℕ, zero, suc, _+_, _≤_, _<_}
-use mathlib.Core.Path.{_≡_, refl, ap, sym, _∙_, subst, fun-ext}
-use mathlib.Core.Logic.{_≢_, ⊎-elim}
+-- The slowest runs: one request of every stream, all at the instant 0, in sheet order; and each reaction and message as long as can
+-- be. Assumes nothing.
+use Prim.Native.Nat.{ℕ, zero, suc, _+_, _≤_}
+use mathlib.Core.Path.{_≡_, refl, sym, subst, fun-ext}
+use mathlib.Core.Logic.{⊎-elim}
 use mathlib.Core.List.{
   List,
   [],
@@ -20,7 +21,7 @@ use native.Mathlib.Decide.{ℕ-discrete}
 use native.Mathlib.Omega.{arith}
 use borrow.Author.Tests.{eq-eqb, ne-eqb}
 use Rattle.segment.specs.Segment.{Segment, owns}
-use Rattle.pnet_run.specs.Run.{Belongs, Request, request, Answer, Queues, put, join, Token, toward, Settled, on-way, Run, start, arrive}
+use Rattle.pnet_run.specs.Run.{Request, request, Answer, answer, Queues, put, join, Token, toward, Settled, on-way, next, Run, start, complete, arrive, serve}
 use Rattle.pnet_run.specs.Promise.{Apart, none, and, Spaced}
 use Rattle.pnet_run.proofs.Queues.{put-same, put-other}
 use Rattle.pnet_run.proofs.Picked.{picked}
@@ -88,3 +89,12 @@ asked-apart d i (suc n) = and {r = asked (suc n)} (λ e a (j : List·Memᴰ (req
 
 pub asked-spaced : (S : Segment) (k : ℕ) → Spaced S k (askedTo (S .number))
 asked-spaced S k i d = asked-apart (S .stream i .spacing) i (S .number)
+
+-- ---- The longest service
+
+pub slowest : {S : Segment} {t m : ℕ} {q : Queues} {r : Request} {rest came : List Request} {went : List Answer}
+    → Run S t (toward m 0) q came went → q m ≡ r ∷ rest → 1 ≤ S .stream (r .of) .cycle
+    → Run S (t + (7 + S .stream (r .of) .cycle)) (toward (next (S .masters) m) 40) (put q m rest) came (answer r (t + (7 + S .stream (r .of) .cycle)) ∷ went)
+slowest {S} {r = r} z p some =
+    let C = S .stream (r .of) .cycle in
+    complete (serve {c = 0} (7 + C) 7 C z p (omega arith) (omega arith) some (omega arith) (omega arith) (omega arith)) p
