@@ -82,7 +82,12 @@ unfolding askedTo
 asked-in zero r j = absurd (List·Memᴰ·not-nil j)
 asked-in (suc n) r j = ⊎-elim (λ (e : r ≡ asked (suc n)). rw e (le-refl (suc n))) (λ (c : List·Memᴰ r (askedTo n)). omega (arith, asked-in n r c)) (List·Memᴰ·cases-cons j)
 
-asked-apart : (d i n : ℕ) → Apart d i (askedTo n)
+pub asked-at-0 : (n : ℕ) (r : Request) → List·Memᴰ r (askedTo n) → r .since ≡ 0
+unfolding askedTo
+asked-at-0 zero r j = absurd (List·Memᴰ·not-nil j)
+asked-at-0 (suc n) r j = ⊎-elim (λ (e : r ≡ asked (suc n)). rw e refl) (λ (c : List·Memᴰ r (askedTo n)). asked-at-0 n r c) (List·Memᴰ·cases-cons j)
+
+pub asked-apart : (d i n : ℕ) → Apart d i (askedTo n)
 unfolding askedTo
 asked-apart d i zero = none
 asked-apart d i (suc n) = and {r = asked (suc n)} (λ e a (j : List·Memᴰ (request i a) (askedTo n)). absurd (omega (arith, asked-in n (request i a) j))) (asked-apart d i n)

@@ -1,3 +1,4 @@
 pub mod Waits
 pub mod Visits
 pub mod Sound
+pub mod Runs

@@ -10,6 +10,7 @@ use borrow.Author.Tests.{le-leb, leb-true, eqb-false}
 use Rattle.common.specs.Sums.{firstOf}
 use Rattle.common.proofs.Firsts.{first-is}
 use Rattle.simulate.specs.Simulated.{sound}
+use Rattle.simulate.proofs.Waits.{both}
 
 -- the place of the first C that is 0
 abbrev pub empty : List ℕ → ℕ → ℕ
@@ -27,16 +28,6 @@ module _ (n : ℕ) (owner cycle : List ℕ) (k room : ℕ) where
     pub cycles : length owner ≤ length cycle
     pub places : length owner ≤ room
     pub some : (p : ℕ) → p < length owner → 1 ≤ getD cycle p 0
-
-  both : {a b : Bool} → (a && b) ≡ true → (a ≡ true) × (b ≡ true)
-  both {a} {b} e = go a refl
-    where
-      go : (t : Bool) → a ≡ t → (a ≡ true) × (b ≡ true)
-      go true q = (q, rw q at e)
-      go false q = let z : _≡_ {A = ℕ} 0 1 = absurd (never (rw q at e)) in absurd (omega arith)
-        where
-          never : false ≡ true → ⊥
-          never z = let y : _≡_ {A = ℕ} 0 1 = cc in omega arith
 
   pub sound-then : sound n owner cycle k room ≡ true → Sound
   unfolding sound

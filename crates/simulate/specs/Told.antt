@@ -9,7 +9,7 @@ use Rattle.pnet_run.specs.Promise.{Apart}
 use Rattle.simulate.specs.Simulated.{Bus}
 
 -- the segment of n masters whose stream i, counted from 1, is of this owner and has this C; a run asks nothing else of it
-unfoldable pub segmentBy : ℕ → List ℕ → List ℕ → Segment
+abbrev pub segmentBy : ℕ → List ℕ → List ℕ → Segment
 segmentBy n owner cycle =
     record {
       masters = n;
