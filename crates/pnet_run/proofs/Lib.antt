@@ -7,4 +7,5 @@ pub mod Picked
 pub mod Slowest
 pub mod Exact
 pub mod Progress
+pub mod Literal
 pub mod Demand

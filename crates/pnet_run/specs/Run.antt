@@ -7,7 +7,7 @@
 -- * 'At one instant, completions come first, then arrivals (several in any order), then the token's arrival.'
 --   A request arrives only while no completion is due (`Settled`). Several of one instant are as many steps, in any order.
 --   The token's arrival is no step of its own: `serve` and `skip` take the token up and let at least one bp pass. So nothing
---   can arrive behind the token at the same instant.
+--   can arrive behind the token at the same instant. (proofs/Literal tells an instant phase by phase; the runs are the same.)
 -- * 'If the master's queue holds a request, its oldest is served: 2 to 7 bp reaction, a message of 1 to C bp of its stream,
 --   completion, 40 bp to the next master.' See `serve` and `complete`. A queue's oldest is its first; it stays there until its
 --   completion, and an arrival goes behind the last. The token counts the bp left to the completion, reaction and message in
