@@ -2,3 +2,4 @@ pub mod Waits
 pub mod Visits
 pub mod Sound
 pub mod Runs
+pub mod Responses

@@ -1,12 +1,12 @@
 -- The bus at its slowest, visit by visit: every stream asks once, at 0, when the token has just left master k; each reaction takes
 -- 7 bp and each message all of its C. Streams are counted from 0 here, as the places of a run of numbers. Assumes nothing.
-use Prim.Native.Nat.{ℕ, zero, suc, _+_}
+use Prim.Native.Nat.{ℕ, zero, suc, _+_, _-_}
 use mathlib.Core.Bool.{Bool, cond, _&&_}
 use mathlib.Core.List.{List}
 use lib.ListN.{length, getD, set}
 use lib.Dec.{eqb, ltb, leb}
 use Rattle.common.specs.Runs.{filled}
-use Rattle.common.specs.Sums.{firstOf}
+use Rattle.common.specs.Sums.{when, greatest, firstOf}
 use Rattle.pnet_run.specs.Run.{next}
 use Rattle.simulate.specs.declared.Stage.{Stage}
 
@@ -80,3 +80,14 @@ simulated n owner cycle k visits old =
     cond (sound n owner cycle k (length old))
     (visitedTimes n owner cycle (begun n owner k old) visits)
     (record { now = 0; master = 0; answered = old })
+
+-- ---- Responses
+
+-- all ask at 0, so a response is the instant of its completion; that of stream p, where it is master k's
+unfoldable pub responseOf : List ℕ → List ℕ → ℕ → ℕ → ℕ
+responseOf owner answered k p = when (eqb (getD owner p 0) k) (getD answered p 0)
+
+-- master k's largest
+unfoldable pub largestOf : List ℕ → List ℕ → ℕ → ℕ
+unfolding greatest responseOf
+largestOf owner answered k = greatest (λ i. responseOf owner answered k (i - 1)) (length owner)

@@ -1,15 +1,15 @@
 // The bus of page 01, 'How a P-NET run goes', at its slowest: every stream asks once, at 0, when the token has just left master k;
 // each reaction takes 7 bp and each message all of its C.
 ghost use mathlib.Core.Path.{_≡_};
-ghost use mathlib.Core.Bool.{true, cond};
-ghost use Prim.Native.Nat.{ℕ, _+_, _*_, _≤_, _<_, _^_};
+ghost use mathlib.Core.Bool.{true};
+ghost use Prim.Native.Nat.{ℕ, _+_, _≤_, _<_, _^_, max};
 ghost use lib.ListN.{length};
 ghost use lib.Dec.{eqb};
 ghost use lib.ListN.{getD};
 ghost use Rattle.common.specs.Runs.{filled};
 ghost use Rattle.common.specs.Sums.{firstOf};
 ghost use Rattle.pnet_run.specs.Run.{next};
-ghost use Rattle.simulate.specs.Simulated.{oldestOf, busOf, visited, visitedTimes, sound, simulated};
+ghost use Rattle.simulate.specs.Simulated.{oldestOf, busOf, visited, visitedTimes, sound, simulated, responseOf, largestOf};
 ghost use Rattle.simulate.specs.Told.{segmentBy, Told};
 
 // Where a run stands: the token arrives at this instant, at this master.
@@ -164,4 +164,39 @@ pub fn simulate(
         master: behind(n, k),
     };
     go_on(n, owner, cycle, first, visits, answered)
+}
+
+// The response of stream p, where it is master k's, else 0.
+fn response(owner: &[u8], answered: &[u64], k: u8, p: usize) -> u64
+    requires { ⌜ p < length (now owner) ⌝ }
+    ensures { λ r. ⌜ r ≡ responseOf (now (owner .entry)) (now (answered .entry)) k p ⌝ }
+{
+    if owner[p] == k {
+        if p < answered.len() {
+            return answered[p];
+        }
+    }
+    0
+}
+
+fn larger(a: u64, b: u64) -> u64
+    ensures { λ r. ⌜ r ≡ max a b ⌝ }
+{
+    if a < b {
+        return b;
+    }
+    a
+}
+
+// Master k's largest response, of those that answered holds.
+pub fn largest(owner: &[u8], answered: &[u64], k: u8) -> u64
+    ensures { λ r. ⌜ r ≡ largestOf (now (owner .entry)) (now (answered .entry)) k ⌝ }
+{
+    let mut longest: u64 = 0;
+    let mut p: usize = 0;
+    while p < owner.len() {
+        longest = larger(longest, response(owner, answered, k, p));
+        p += 1;
+    }
+    longest
 }
