@@ -1,8 +1,8 @@
 -- Laws of the first number at which a test holds. Assumes nothing.
 use mathlib.Core.Path.{_≡_, refl, sym, ap, _∙_, subst}
 use mathlib.Core.Bool.{Bool, true, false, cond}
-use Prim.Native.Nat.{ℕ, zero, suc, _+_, _≤_, _<_}
-use native.Mathlib.Nat.{add-zero, zero-add, add-suc, suc-add, le-of-suc-le-suc, not-suc-le-zero}
+use Prim.Native.Nat.{ℕ, zero, suc, _+_, _-_, _≤_, _<_}
+use native.Mathlib.Nat.{add-zero, zero-add, add-comm, add-suc, suc-add, le-of-suc-le-suc, not-suc-le-zero}
 use native.Mathlib.Omega.{arith}
 use native.Mathlib.Decide.{ℕ-discrete}
 use Rattle.common.specs.Sums.{firstOf}
@@ -61,3 +61,22 @@ found-first f n p miss hit l =
 
 pub found-none : (f : ℕ → Bool) (n p : ℕ) → ((j : ℕ) → j < p → f j ≡ false) → p ≡ n → p ≡ firstOf f n 0
 found-none f n p miss e = e ∙ sym (first-none f 0 n (λ j lo hi. miss j (omega arith)) ∙ zero-add n)
+
+-- the first number from 1, as a loop that counts from 0 finds it
+module _ (f : ℕ → Bool) (n i : ℕ) (miss : (j : ℕ) → j < i → f (j + 1) ≡ false) where
+  missed : (j : ℕ) → 1 ≤ j → j < 1 + i → f j ≡ false
+  missed j lo hi =
+      let e : j - 1 + 1 ≡ j = omega arith in
+      subst (λ (x : ℕ). f x ≡ false) e (miss (j - 1) (omega arith))
+
+  pub first-here : i < n → f (i + 1) ≡ true → i + 1 ≡ firstOf f n 1
+  first-here l hit = add-comm i 1 ∙ sym (first-hit f i 1 n missed (rw (add-comm i 1) at hit) l)
+
+  pub first-nowhere : i ≡ n → n + 1 ≡ firstOf f n 1
+  first-nowhere e = add-comm n 1 ∙ sym (first-none f 1 n (λ j lo hi. missed j lo (omega arith)))
+
+-- tests that agree on the way have one first number
+pub first-same : (f g : ℕ → Bool) (n i : ℕ) → ((j : ℕ) → i ≤ j → j < i + n → f j ≡ g j) → firstOf f n i ≡ firstOf g n i
+unfolding firstOf
+first-same f g zero i e = refl
+first-same f g (suc n) i e = rw (e i (omega arith) (omega arith), first-same f g n (suc i) (λ j lo hi. e j (omega arith) (omega arith)))

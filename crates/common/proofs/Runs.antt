@@ -6,7 +6,7 @@ use native.Mathlib.Nat.{not-suc-le-zero}
 use native.Mathlib.Decide.{ℕ-discrete}
 use native.Mathlib.Numerals.{add-one}
 use native.Mathlib.Omega.{arith}
-use lib.ListN.{length, getD, drop, set, length-append, length-drop, List·getD-append}
+use lib.ListN.{length, getD, drop, set, length-append, length-drop, length-set, List·getD-append}
 use lib.Seq.{drop-cons, set-at, getD-append-seam}
 use Rattle.common.specs.Runs.{tab, filled}
 
@@ -48,3 +48,28 @@ module _ (f : ℕ → ℕ) where
 -- one store of a filled run, as a loop has it
 pub filled-step : (f : ℕ → ℕ) (d l : List ℕ) (n x : ℕ) → l ≡ filled f n d → x ≡ f n → n < length d → set l n x ≡ filled f (n + 1) d
 filled-step f d l n x e q h = rw (e, q) (filled-more f n d h)
+
+-- a run on its way: its first n places are filled, and it is as long as it was
+pub record Filling (f : ℕ → ℕ) (n : ℕ) (old run : List ℕ) : Type 0 where
+  pub is : run ≡ filled f n old
+  pub long : length run ≡ length old
+
+pub filling-none : (f : ℕ → ℕ) (old : List ℕ) → Filling f 0 old old
+filling-none f old = record { is = filled-none f old; long = refl }
+
+pub filling-more : {f : ℕ → ℕ} {n : ℕ} {old run : List ℕ} (x : ℕ) → Filling f n old run → n < length old → x ≡ f n → Filling f (n + 1) old (set run n x)
+filling-more {f} {n} {old} {run} x r h q =
+    record { is = filled-step f old run n x (r .is) q h; long = length-set run n x ∙ r .long }
+
+pub filling-done : {f : ℕ → ℕ} {m : ℕ} {old run : List ℕ} (n : ℕ) → Filling f m old run → m ≡ n → run ≡ filled f n old
+filling-done {f} {m} {old} {run} n r e = r .is ∙ ap (λ (x : ℕ). filled f x old) e
+
+-- figures that agree below n fill a run alike
+tab-same : (f g : ℕ → ℕ) (n : ℕ) → ((i : ℕ) → i < n → f i ≡ g i) → tab f n ≡ tab g n
+unfolding tab
+tab-same f g zero e = refl
+tab-same f g (suc n) e = rw (e n (omega arith), tab-same f g n (λ i l. e i (omega arith)))
+
+pub filled-same : (f g : ℕ → ℕ) (n : ℕ) (d : List ℕ) → ((i : ℕ) → i < n → f i ≡ g i) → filled f n d ≡ filled g n d
+unfolding filled
+filled-same f g n d e = ap (λ (l : List ℕ). l ++ drop n d) (tab-same f g n e)

@@ -2,7 +2,7 @@
 use mathlib.Core.Path.{_≡_, refl, sym, ap, _∙_, subst}
 use mathlib.Core.Logic.{_≢_}
 use Prim.Native.Nat.{ℕ, zero, suc, _+_, _-_, _*_, _/_, _≤_, _<_, zero-le, max}
-use native.Mathlib.Nat.{mul-zero, mul-add, suc-mul, zero-div, div-zero, div-lt-iff-lt-mul, le-div-iff-mul-le, mul-comm}
+use native.Mathlib.Nat.{mul-zero, mul-le-mul, mul-add, suc-mul, zero-div, div-zero, div-lt-iff-lt-mul, le-div-iff-mul-le, mul-comm}
 use native.Mathlib.Numerals.{add-one}
 use native.Mathlib.Omega.{arith}
 use native.Mathlib.Decide.{ℕ-discrete, le-ind}
@@ -160,3 +160,28 @@ pub up-rises : (x y t : ℕ) → x ≤ y → up x t ≤ up y t
 unfolding up
 up-rises x y zero h = simp div-zero (omega arith)
 up-rises x y (suc t) h = up-mono x y (suc t) (omega arith) h
+
+-- a part of a sum is at most the whole
+pub upto-part : (f : ℕ → ℕ) (m n : ℕ) → m ≤ n → upto f m ≤ upto f n
+unfolding upto
+upto-part f m zero h = let e : m ≡ 0 = omega arith in omega (arith, ap (upto f) e)
+upto-part f m (suc n) h = last (ℕ-discrete m (suc n)) (upto-part f m n)
+  where
+    last : Dec (m ≡ suc n) → (m ≤ n → upto f m ≤ upto f n) → upto f m ≤ upto f n + f (suc n)
+    last (yes q) ih = omega (arith, ap (upto f) q)
+    last (no q) ih = omega (arith, ih (omega (arith, q)))
+
+-- what is divided is at least its quotient
+pub up-less : (x t : ℕ) → 0 < t → up x t ≤ x
+up-less x t p = up-at-most x t x p (omega (arith, mul-le-mul {n₁ = x} {m₁ = 1} {n₂ = x} {m₂ = t} (omega arith) p))
+
+-- nothing yet, as a loop begins
+pub upto-none : (f : ℕ → ℕ) → 0 ≡ upto f 0
+unfolding upto
+upto-none f = refl
+
+-- the first term apart
+pub upto-first : (f : ℕ → ℕ) (n : ℕ) → upto f (suc n) ≡ f 1 + upto (λ y. f (suc y)) n
+unfolding upto
+upto-first f zero = omega arith
+upto-first f (suc n) = omega (arith, upto-first f n)

@@ -31,6 +31,20 @@ module _ (S : Segment) (i : ℕ) where
 -- ---- H
 
 module _ (S : Segment) (y : ℕ) where
+  -- a master without streams has no longest cycle
+  pub longest-none : count S y ≡ 0 → longest S y ≡ 0
+  unfolding count longest
+  longest-none e =
+      omega (
+        arith,
+        greatest-least (λ i. when (owns S y i) (S .stream i .cycle)) 0 (S .number)
+            (λ i lo hi. split (S .stream i .cycle) (owns S y i) (upto-term (λ j. when (owns S y j) 1) (S .number) i lo hi)),
+      )
+    where
+      split : (c : ℕ) (b : Bool) → when b 1 ≤ upto (λ j. when (owns S y j) 1) (S .number) → when b c ≤ 0
+      split c true l = absurd (omega (arith, e))
+      split c false l = omega arith
+
   pub hold-none : count S y ≡ 0 → hold S y ≡ 10
   unfolding hold
   hold-none e = simp (eq-eqb (count S y) 0 e)

@@ -3,3 +3,4 @@ pub mod Sequence
 pub mod Right
 pub mod Holds
 pub mod Figures
+pub mod Declares

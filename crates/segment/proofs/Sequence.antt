@@ -4,7 +4,9 @@ use mathlib.Core.Path.{_≡_, refl, sym, ap, _∙_, subst}
 use mathlib.Core.Bool.{Bool, true, false}
 use Prim.Native.Nat.{ℕ, zero, suc, _+_, _≤_, _<_, zero-le}
 use native.Mathlib.Decide.{ℕ-discrete}
+use native.Mathlib.Numerals.{add-one}
 use native.Mathlib.Omega.{arith}
+use borrow.Author.Count.{below-more}
 use borrow.Author.Tests.{eq-eqb, eqb-true, eqb-false}
 use lib.Dec.{eqb}
 use Rattle.common.specs.Sums.{firstOf}
@@ -25,6 +27,11 @@ pub record Least (f : ℕ → ℕ) (w : ℕ) : Type 0 where
 differ : true ≡ false → ⊥
 differ e = let z : _≡_ {A = ℕ} 0 1 = cc in omega arith
 
+-- a search on its way: w is value m, and no value before it equals the next one
+pub record Moving (f : ℕ → ℕ) (m w : ℕ) : Type 0 where
+  pub value : w ≡ valueOf f m
+  pub moved : (j : ℕ) → j < m → valueOf f j ≡ valueOf f (suc j) → ⊥
+
 module _ (f : ℕ → ℕ) where
   -- a test is read as the fact that it tests
   still-if : (m : ℕ) → stands f m ≡ true → valueOf f m ≡ valueOf f (suc m)
@@ -39,6 +46,34 @@ module _ (f : ℕ → ℕ) where
   pub still-at-once : f 0 ≡ 0 → (most : ℕ) → roundsOf f (1 + most) ≡ 0
   unfolding roundsOf stands valueOf
   still-at-once e most = first-hit (stands f) 0 0 (1 + most) (λ j lo hi. absurd (omega arith)) (eq-eqb 0 (f 0) (sym e)) (omega arith)
+
+  pub moving-none : Moving f 0 0
+  unfolding valueOf
+  moving-none = record { value = refl; moved = λ j l. absurd (omega arith) }
+
+  module _ (m w x : ℕ) (on : Moving f m w) (next : x ≡ f w) where
+    after : x ≡ valueOf f (suc m)
+    unfolding valueOf
+    after = next ∙ ap f (on .value)
+
+    pub moving-more : (x ≡ w → ⊥) → Moving f (m + 1) x
+    moving-more go =
+        record {
+          value = after ∙ ap (valueOf f) (sym (add-one m));
+          moved = below-more (λ j. valueOf f j ≡ valueOf f (suc j) → ⊥) m (on .moved) (λ e. go (after ∙ (sym e ∙ sym (on .value))));
+        }
+
+    pub moving-ends : x ≡ w → Settles f m
+    moving-ends e = record { still = sym (on .value) ∙ (sym e ∙ after); first = on .moved }
+
+  -- a first m whose value equals the next one is the round count
+  pub settles-is-rounds : (m most : ℕ) → Settles f m → m ≤ most → m ≡ roundsOf f most
+  unfolding roundsOf
+  settles-is-rounds m most s l =
+      let r = first-is (stands f) most 0 in
+      let a : (m < firstOf (stands f) most 0 → ⊥) = λ h. moves-if m (r .fails m zero-le h) (s .still) in
+      let b : (firstOf (stands f) most 0 < m → ⊥) = λ h. s .first (firstOf (stands f) most 0) h (still-if (firstOf (stands f) most 0) (r .holds (omega arith))) in
+      omega (arith, a, b)
 
 module _ (f : ℕ → ℕ) (mono : (x y : ℕ) → x ≤ y → f x ≤ f y) where
   pub value-rises : (m : ℕ) → valueOf f m ≤ valueOf f (suc m)

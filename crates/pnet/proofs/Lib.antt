@@ -1,0 +1,5 @@
+pub mod Arrays
+pub mod Gathering
+pub mod Bytes
+pub mod Tied
+pub mod Cases

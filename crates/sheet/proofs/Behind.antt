@@ -1,0 +1,285 @@
+-- The reader's state behind n streams that passed, and what the next record makes of it. Assumes nothing.
+use mathlib.Core.Path.{_≡_, refl, sym, ap, _∙_, subst}
+use mathlib.Core.Bool.{Bool, true, false, cond, not, _&&_, _||_}
+use mathlib.Core.List.{List, [], _∷_, _++_}
+use mathlib.Core.Logic.{_⊎_, inl, inr, ⊎-elim}
+use Prim.Native.Nat.{ℕ, zero, suc, _+_, _≤_, _<_}
+use native.Mathlib.Numerals.{add-one}
+use native.Mathlib.Omega.{arith}
+use borrow.Author.Tests.{eqb-true, eqb-false, ne-eqb, eq-eqb, le-leb, lt-leb, leb-true, leb-false, lt-ltb, le-ltb}
+use lib.ListN.{length, getD, replicate, getD-replicate, length-replicate}
+use lib.Dec.{eqb, leb, ltb}
+use Rattle.common.specs.Checks.{Check, check, Verdict, verdict}
+use Rattle.common.specs.Checks.Verdict.{Passed, Refused}
+use Rattle.format.specs.declared.Record.{Record}
+use Rattle.format.specs.declared.Met.{Met}
+use Rattle.format.specs.Kinds.{Field, fieldsOf, kinds, limit, within, ranged, known, sizeOf, decode, inRange, whole, metAt, nothing}
+use Rattle.format.proofs.Tables.{both-true}
+use Rattle.sheet.specs.Sheets.{headOf, streamsOf, sheetOf, fits, hasMaster, mostInAll, countOf, overLimit, metBefore}
+use Rattle.sheet.specs.Whole.{placeOf, recordsOf, recordChecks, endChecks, judge, ended, reading, told, Outcome}
+use Rattle.sheet.specs.Whole.Outcome.{Read, Not}
+use Rattle.sheet.specs.Steps.{ownNo, lateNo, countsWith, idsWith, Begun}
+use Rattle.sheet.specs.declared.Reading.the-variants as answer
+use Rattle.sheet.proofs.Walk.{head-at, length-records, length-streams, streams-none, streams-more, place-next, place-from}
+use Rattle.sheet.proofs.Cases.{Upto, Stops, PassesAt, passes-then, upto-none, upto-more, upto-place, stops-once, ended-empty, ended-no-stream, ended-sheet}
+use Rattle.sheet.proofs.Cases.Stops.{by-record, at-end}
+use Rattle.sheet.proofs.Judged.{numbered, met-some, own-met, lateChecks, ownAt, judge-own}
+use Rattle.sheet.proofs.Kept.{Keeps, keeps-none, keeps-more, late-variable, late-stream, not-late-variable}
+use Rattle.sheet.proofs.Known.{fits-behind, first-fits}
+
+-- ---- Ranges of a first field
+
+first-field : (top long : ℕ) (r : Record) (f : Field) (fs : List Field) → fieldsOf (r .kind) ≡ f ∷ fs → inRange top long r ≡ true
+    → (f .least ≤ r .a) × (r .a ≤ limit top long r (f .most))
+unfolding inRange ranged within
+first-field top long r f fs e h =
+    let g = rw e at h in
+    let w = both-true (leb (f .least) (r .a) && leb (r .a) (limit top long r (f .most))) _ g .0 in
+    let p = both-true (leb (f .least) (r .a)) (leb (r .a) (limit top long r (f .most))) w in
+    (leb-true _ _ (p .0), leb-true _ _ (p .1))
+
+-- N and n are at most 32
+pub masters-at-most : (r : Record) → r .kind ≡ 1 ⊎ r .kind ≡ 3 → inRange 0 0 r ≡ true → r .a ≤ 32
+unfolding fieldsOf kinds limit
+masters-at-most r (inl e) h = first-field 0 0 r _ _ (ap fieldsOf e) h .1
+masters-at-most r (inr e) h = first-field 0 0 r _ _ (ap fieldsOf e) h .1
+
+-- a master is at most N, or n
+pub master-at-most : (top long : ℕ) (r : Record) → r .kind ≡ 2 ⊎ r .kind ≡ 4 → inRange top long r ≡ true → r .a ≤ top
+unfolding fieldsOf kinds limit
+master-at-most top long r (inl e) h = first-field top long r _ _ (ap fieldsOf e) h .1
+master-at-most top long r (inr e) h = first-field top long r _ _ (ap fieldsOf e) h .1
+
+-- ---- The state
+
+-- the records up to the place `at` passed, the first of them is `head`, n streams stand behind it, and the arrays keep them
+pub record Behind (s : List ℕ) (head : Record) (counts ids : List ℕ) (n at : ℕ) : Type 0 where
+  pub upto : Upto s (suc n)
+  pub is-at : at ≡ placeOf s (suc n)
+  pub is-head : head ≡ decode s 0
+  pub keeps : Keeps (head .kind + 1) (streamsOf (recordsOf s (suc n))) counts ids
+
+-- a first record that passed
+pub begun : (s : List ℕ) (head : Record) (first : ℕ) → Begun s head first → Behind s head (replicate 33 0) (replicate 64 0) 0 first
+unfolding placeOf
+begun s head first b =
+    record {
+      upto = upto-more s 0 (upto-none s) (b .some) (passes-then s 0 (b .passed));
+      is-at = b .is-first;
+      is-head = b .is-head;
+      keeps = rw (streams-none s) (keeps-none (head .kind + 1) (replicate 33 0) (replicate 64 0) refl refl (λ x l. getD-replicate 33 x 0 0 (omega arith)));
+    }
+
+own-passed : (a b c d : Bool) → ownNo a b c d ≡ 0 → (a ≡ true) × (b ≡ true) × (c ≡ true) × (d ≡ true)
+unfolding ownNo
+own-passed false b c d e = absurd (omega arith)
+own-passed true false c d e = absurd (omega arith)
+own-passed true true false d e = absurd (omega arith)
+own-passed true true true false e = absurd (omega arith)
+own-passed true true true true e = (refl, refl, refl, refl)
+
+-- a number that is not 0 is what is told
+numbered-not : (n p : ℕ) (v : Verdict) → (n ≡ 0 → ⊥) → numbered n p v ≡ Refused n p
+unfolding numbered
+numbered-not zero p v h = absurd (h refl)
+numbered-not (suc n) p v h = refl
+
+told-refused : (s : List ℕ) (i x p : ℕ) → Upto s i → placeOf s i < length s → judge s i ≡ Refused x p → answer.Refused x p ≡ told s (reading s)
+told-refused s i x p u l e = ap (told s) (sym (stops-once s (by-record i x p u l e refl)))
+
+-- ---- The first record
+
+pub told-empty : (s : List ℕ) → length s ≡ 0 → answer.Refused 1 0 ≡ told s (reading s)
+unfolding placeOf
+told-empty s e = ap (told s) (sym (stops-once s (at-end 0 (upto-none s) (sym e) refl) ∙ ended-empty s))
+
+-- it is no stream, so no limit is met
+late-first : (r : Record) (p : ℕ) → r .kind ≡ 1 ⊎ r .kind ≡ 3 ⊎ r .kind ≡ 5 → verdict (check 5 (overLimit [] r) p ∷ check 7 (metBefore [] r) p ∷ []) ≡ Passed
+unfolding verdict overLimit metBefore mostInAll hasMaster countOf
+late-first r p (inl e) = rw e
+late-first r p (inr (inl e)) = rw e
+late-first r p (inr (inr e)) = rw e
+
+module _ (s : List ℕ) (some : 0 < length s) (met : Met) (q : met ≡ metAt s 0) (right : Bool) (r : right ≡ fits [] (getD s 0 0)) where
+  abbrev pub ownFirst : ℕ
+  ownFirst = ownNo (known (getD s 0 0)) right (not (eqb (met .next) 0)) (inRange 0 0 (met .found))
+
+  first-is : ownFirst ≡ ownAt s 0
+  unfolding ownAt placeOf recordsOf headOf
+  first-is = rw (q, r, own-met s 0)
+
+  pub refused-first : (own : ℕ) → own ≡ ownFirst → (own ≡ 0 → ⊥) → answer.Refused own 0 ≡ told s (reading s)
+  unfolding placeOf
+  refused-first own e h =
+      let g : judge s 0 ≡ Refused own 0 = judge-own s 0 ∙ (rw (← first-is, ← e) (numbered-not own 0 (verdict (lateChecks s 0)) h)) in
+      told-refused s 0 own 0 (upto-none s) some g
+
+  pub begun-first : (own : ℕ) → own ≡ ownFirst → own ≡ 0 → Begun s (met .found) (met .next)
+  unfolding ownAt lateChecks placeOf recordsOf streamsOf headOf numbered decode whole
+  begun-first own e z =
+      let p = own-passed _ _ _ _ (sym first-is ∙ (sym e ∙ z)) in
+      let w : whole s 0 ≡ true = rw (p .0, p .2) in
+      let m = q ∙ met-some s 0 w in
+      let k = first-fits (getD s 0 0) (p .1) in
+      record {
+        some = some;
+        passed = judge-own s 0 ∙ ap (λ (x : ℕ). numbered x 0 (verdict (lateChecks s 0))) (sym first-is ∙ (sym e ∙ z)) ∙ late-first (decode s 0) 0 k;
+        is-head = ap (λ (x : Met). x .found) m;
+        is-first = ap (λ (x : Met). x .next) m;
+      }
+
+-- ---- A stream
+
+has-master : (k : ℕ) → k ≡ 2 ⊎ k ≡ 4 → hasMaster k ≡ true
+unfolding hasMaster
+has-master k (inl e) = rw e
+has-master k (inr e) = rw e
+
+not-six : (k : ℕ) → k ≡ 2 ⊎ k ≡ 4 → k ≡ 6 → ⊥
+not-six k (inl e) f = omega arith
+not-six k (inr e) f = omega arith
+
+module _ (s : List ℕ) (head : Record) (counts ids : List ℕ) (n at : ℕ) (b : Behind s head counts ids n at) where
+  pub head-kinds : head .kind ≡ 1 ⊎ head .kind ≡ 3 ⊎ head .kind ≡ 5
+  unfolding placeOf recordsOf
+  head-kinds = rw (b .is-head) (first-fits (decode s 0 .kind) (b .upto .passed 0 (omega arith) .is-right))
+
+  head-ranged : inRange 0 0 head ≡ true
+  unfolding placeOf recordsOf headOf
+  head-ranged = rw (b .is-head) (b .upto .passed 0 (omega arith) .is-ranged)
+
+  pub kind-fits : head .kind ≤ 5
+  kind-fits = ⊎-elim (λ e. omega arith) (⊎-elim (λ e. omega arith) (λ e. omega arith)) head-kinds
+
+  -- fewer streams than bytes
+  pub fewer-streams : n < at
+  fewer-streams = omega (arith, place-from s (suc n), b .is-at)
+
+  module _ (inside : at < length s) (met : Met) (q : met ≡ metAt s at) where
+    -- what the record at the place gives by itself, as the code has it
+    abbrev pub ownHere : ℕ
+    ownHere = ownNo (known (getD s at 0)) (eqb (getD s at 0) (head .kind + 1)) (not (eqb (met .next) at)) (inRange (head .a) (head .c) (met .found))
+
+    here : placeOf s (suc n) < length s
+    here = rw (b .is-at) at inside
+
+    own-is : ownHere ≡ ownAt s (suc n)
+    unfolding ownAt
+    own-is =
+        let f = fits-behind (recordsOf s (suc n)) (getD s (placeOf s (suc n)) 0) (rw (length-records s (suc n)) (omega arith)) in
+        rw (q, b .is-at, own-met s (placeOf s (suc n)), f, head-at s n, b .is-head)
+
+    pub refused-own : (own : ℕ) → own ≡ ownHere → (own ≡ 0 → ⊥) → answer.Refused own at ≡ told s (reading s)
+    refused-own own e h =
+        let g : judge s (suc n) ≡ Refused own (placeOf s (suc n)) = judge-own s (suc n) ∙ (rw (← own-is, ← e) (numbered-not own (placeOf s (suc n)) (verdict (lateChecks s (suc n))) h)) in
+        rw (b .is-at) (told-refused s (suc n) own (placeOf s (suc n)) (b .upto) here g)
+
+    module _ (own : ℕ) (own-told : own ≡ ownHere) (z : own ≡ 0) where
+      own-all : (known (getD s (placeOf s (suc n)) 0) ≡ true)
+          × (fits (recordsOf s (suc n)) (getD s (placeOf s (suc n)) 0) ≡ true)
+          × (leb (placeOf s (suc n) + sizeOf (getD s (placeOf s (suc n)) 0)) (length s) ≡ true)
+          × (inRange (headOf (recordsOf s (suc n)) .a) (headOf (recordsOf s (suc n)) .c) (decode s (placeOf s (suc n))) ≡ true)
+      unfolding ownAt
+      own-all = own-passed _ _ _ _ (sym own-is ∙ (sym own-told ∙ z))
+
+      whole-here : whole s at ≡ true
+      unfolding whole
+      whole-here = rw (b .is-at, own-all .0, own-all .2)
+
+      -- the stream, and the place just after it
+      stream-is : met .found ≡ decode s (placeOf s (suc n))
+      stream-is = ap (λ (m : Met). m .found) (q ∙ met-some s at whole-here) ∙ ap (decode s) (b .is-at)
+
+      next-is : met .next ≡ placeOf s (suc (suc n))
+      unfolding placeOf
+      next-is = ap (λ (m : Met). m .next) (q ∙ met-some s at whole-here) ∙ (rw (b .is-at) refl)
+
+      pub next-later : at < met .next
+      next-later = omega (arith, next-is, b .is-at, place-next s (suc n))
+
+      kind-is : met .found .kind ≡ head .kind + 1
+      unfolding decode
+      kind-is =
+          let k = getD s (placeOf s (suc n)) 0 in
+          let f = fits-behind (recordsOf s (suc n)) k (rw (length-records s (suc n)) (omega arith)) in
+          let g : eqb k (headOf (recordsOf s (suc n)) .kind + 1) ≡ true = sym f ∙ own-all .1 in
+          let h : eqb k (head .kind + 1) ≡ true = rw (b .is-head) (rw (head-at s n) at g) in
+          ap (λ (r : Record). r .kind) stream-is ∙ eqb-true k (head .kind + 1) h
+
+      ranged-here : inRange (head .a) (head .c) (met .found) ≡ true
+      ranged-here = rw (stream-is, b .is-head) (rw (head-at s n) at (own-all .3))
+
+      stream-kinds : met .found .kind ≡ 6 ⊎ (met .found .kind ≡ 2 ⊎ met .found .kind ≡ 4)
+      stream-kinds = ⊎-elim (λ e. inr (inl (omega (arith, kind-is)))) (⊎-elim (λ e. inr (inr (omega (arith, kind-is)))) (λ e. inl (omega (arith, kind-is)))) head-kinds
+
+      -- a stream's master is one of the 32 that are counted
+      master-counted : met .found .kind ≡ 2 ⊎ met .found .kind ≡ 4 → met .found .a ≤ 32
+      master-counted k =
+          let l = master-at-most (head .a) (head .c) (met .found) k ranged-here in
+          let h : head .kind ≡ 1 ⊎ head .kind ≡ 3 = ⊎-elim (λ e. inl (omega (arith, kind-is))) (λ e. inr (omega (arith, kind-is))) k in
+          omega (arith, masters-at-most head h head-ranged)
+
+      pub master-here : (met .found .kind ≡ 6 → ⊥) → met .found .a ≤ 32
+      master-here h = ⊎-elim (λ e. absurd (h e)) master-counted stream-kinds
+
+      keeps-here : Keeps (met .found .kind) (streamsOf (recordsOf s (suc n))) counts ids
+      keeps-here = rw kind-is (b .keeps)
+
+      -- 5 and 7, by what is kept
+      late-is : verdict (lateChecks s (suc n)) ≡ numbered (lateNo counts ids n (met .found)) (placeOf s (suc n)) Passed
+      unfolding lateChecks
+      late-is = rw (← stream-is) (rw (length-streams s n) at (⊎-elim variable stream stream-kinds))
+        where
+          before : List Record
+          before = streamsOf (recordsOf s (suc n))
+
+          Told : Type 0
+          Told =
+              verdict (check 5 (overLimit before (met .found)) (placeOf s (suc n)) ∷ check 7 (metBefore before (met .found)) (placeOf s (suc n)) ∷ [])
+              ≡ numbered (lateNo counts ids (length before) (met .found)) (placeOf s (suc n)) Passed
+
+          variable : met .found .kind ≡ 6 → Told
+          variable e = late-variable before counts ids (met .found) keeps-here e (placeOf s (suc n))
+
+          stream : met .found .kind ≡ 2 ⊎ met .found .kind ≡ 4 → Told
+          stream e = late-stream before counts ids (met .found) keeps-here (has-master (met .found .kind) e) (not-six (met .found .kind) e) (master-counted e) (placeOf s (suc n))
+
+      judged-late : judge s (suc n) ≡ numbered (lateNo counts ids n (met .found)) (placeOf s (suc n)) Passed
+      unfolding numbered
+      judged-late = judge-own s (suc n) ∙ ap (λ (x : ℕ). numbered x (placeOf s (suc n)) (verdict (lateChecks s (suc n)))) (sym own-is ∙ (sym own-told ∙ z)) ∙ late-is
+
+      pub refused-late : (late : ℕ) → late ≡ lateNo counts ids n (met .found) → (late ≡ 0 → ⊥) → answer.Refused late at ≡ told s (reading s)
+      refused-late late e h =
+          let g : judge s (suc n) ≡ Refused late (placeOf s (suc n)) = judged-late ∙ (rw (← e) (numbered-not late (placeOf s (suc n)) Passed h)) in
+          rw (b .is-at) (told-refused s (suc n) late (placeOf s (suc n)) (b .upto) here g)
+
+      -- it passes
+      pub behind-more : (counts' ids' : List ℕ) (late : ℕ) → late ≡ lateNo counts ids n (met .found) → late ≡ 0 → counts' ≡ countsWith counts (met .found) → ids' ≡ idsWith ids n (met .found)
+          → Behind s head counts' ids' (n + 1) (met .next)
+      unfolding numbered
+      behind-more counts' ids' late late-told f ec ei =
+          let r = met .found in
+          let e = sym late-told ∙ f in
+          let g : judge s (suc n) ≡ Passed = judged-late ∙ ap (λ (x : ℕ). numbered x (placeOf s (suc n)) Passed) e in
+          let k = keeps-more (streamsOf (recordsOf s (suc n))) counts ids r keeps-here master-here (λ e'. rw (length-streams s n) (not-late-variable counts ids n r e' e)) in
+          record {
+            upto = rw (add-one n) (upto-more s (suc n) (b .upto) here (passes-then s (suc n) g));
+            is-at = rw (add-one n) next-is;
+            is-head = b .is-head;
+            keeps = rw (ec, ei, add-one n, streams-more s n, ← kind-is, ← stream-is) (rw (length-streams s n) at k);
+          }
+
+  -- the sheet ends
+  module _ (out : length s ≤ at) where
+    reading-ends : reading s ≡ ended s (suc n)
+    reading-ends = stops-once s (at-end (suc n) (b .upto) (omega (arith, upto-place s (suc n) (b .upto), b .is-at)) refl)
+
+    pub ends-empty : n ≡ 0 → answer.Refused 6 (length s) ≡ told s (reading s)
+    ends-empty e = ap (told s) (sym (reading-ends ∙ ap (λ (m : ℕ). ended s (suc m)) e ∙ ended-no-stream s))
+
+    pub ends-accepted : (first : ℕ) → first ≡ placeOf s 1 → (n ≡ 0 → ⊥) → answer.Accepted head n first ≡ told s (reading s)
+    unfolding sheetOf
+    ends-accepted first f h =
+        let e : told s (reading s) ≡ answer.Accepted (headOf (recordsOf s (suc n))) (length (streamsOf (recordsOf s (suc n)))) (placeOf s 1) =
+        ap (told s) (reading-ends ∙ ended-sheet s n h) in
+        rw (f, b .is-head, ← head-at s n) (sym (rw (length-streams s n) at e))

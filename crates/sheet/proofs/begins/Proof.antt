@@ -1,0 +1,11 @@
+use mathlib.Core.Path.{refl}
+use Rattle.sheet.specs.Sheets.{fits}
+use Rattle.sheet.proofs.begins.Statement.{statement}
+use Rattle.sheet.proofs.begins.Tie as tie
+
+returns : tie.Need-returns
+unfolding fits
+returns c = refl
+
+pub begins-spec : {M : Type 1} → statement M
+begins-spec = tie.close (tie.spec returns)

@@ -1,0 +1,58 @@
+use mathlib.Core.Path.{_≡_, refl}
+use Prim.Native.Nat.{_<_}
+use native.Mathlib.Omega.{arith}
+use borrow.Author.Needs.{needs}
+use borrow.Author.Tests.{eq-eqb, ne-eqb}
+use Rattle.sheet.specs.Steps.{countsWith, idsWith}
+use Rattle.sheet.proofs.Kept.{not-late-variable, not-late-stream}
+use Rattle.sheet.proofs.keep.Statement.{statement}
+use Rattle.sheet.proofs.keep.Tie as tie
+
+mul-ids : tie.Need-mul-ids
+mul-ids c =
+    let a = c .before .before .args in
+    omega (arith, not-late-variable (a .counts .now) (a .ids .now) (a .n) (a .r) (c .if1 .taken) (c .before .before .pre .0))
+
+element-write-ids : tie.Need-element-write-ids
+element-write-ids c =
+    let a = c .before .before .args in
+    not-late-variable (a .counts .now) (a .ids .now) (a .n) (a .r) (c .if1 .taken) (c .before .before .pre .0)
+
+cast-master : tie.Need-cast-master
+cast-master c = search needs
+
+element-copy-out-counts : tie.Need-element-copy-out-counts
+element-copy-out-counts c = omega (arith, c .before .before .before .pre .1 (c .before .if1 .left))
+
+add-counts : tie.Need-add-counts
+add-counts c =
+    let a = c .before .before .before .before .args in
+    omega (arith, not-late-stream (a .counts .now) (a .ids .now) (a .n) (a .r) (c .before .before .if1 .left) (c .before .before .before .before .pre .0))
+
+element-write-counts : tie.Need-element-write-counts
+element-write-counts c = omega (arith, c .before .before .before .before .pre .1 (c .before .before .if1 .left))
+
+returns : tie.Need-returns
+unfolding countsWith idsWith
+returns c =
+    let e = eq-eqb (c .before .before .args .r .kind) 6 (c .if1 .taken) in
+    (rw e, rw e)
+
+returns-2 : tie.Need-returns-2
+unfolding countsWith idsWith
+returns-2 c =
+    let e = ne-eqb (c .before .before .before .before .args .r .kind) 6 (c .before .before .if1 .left) in
+    (rw e, rw e)
+
+pub keep-spec : {M : Type 1} → statement M
+keep-spec =
+    tie.close
+    (tie.spec
+    mul-ids
+    element-write-ids
+    cast-master
+    element-copy-out-counts
+    add-counts
+    element-write-counts
+    returns
+    returns-2)
