@@ -4,3 +4,4 @@ pub mod Bytes
 pub mod Tied
 pub mod Cases
 pub mod Refusals
+pub mod Examples
