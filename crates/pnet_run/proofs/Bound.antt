@@ -256,7 +256,7 @@ module _ (S : Segment) (h : ℕ → ℕ) (k : ℕ) (1≤k : 1 ≤ k) (k≤n : k 
           (absent-if i (q k) f, room-for S k i d (I .queue) (λ r j. I .owned k r j) f)
 
       inv : {t : ℕ} {y : Token} {q : Queues} {came : List Request} {went : List Answer} → Run S t y q came went → KeptApart came → Inv t y q came went
-      inv (start a b c) s = inv-start a b c
+      inv (start {m = m} {d = d} a b c) s = inv-start {m = m} {d = d} a b (omega arith)
       inv (complete z p) s = inv-complete (inv z s) p (omega arith)
       inv (arrive {i = i} z o d) s = let I = inv z (λ j e. apart-before (s j e)) in inv-arrive I d (λ e. room I o (rw e at d) (apart-latest (s i (rw e at d)) refl))
       inv (travel e z) s = inv-travel e (inv z s)

@@ -104,8 +104,8 @@ module _ (S : Segment) where
   stands (all-complete z s) = (stands z, s)
   stands (arrives z b) = let r = stands z in (arrive (r .0) (r .1) b, r .1)
   stands (all-arrived z) = stands z
-  stands (takes reaction message z p a b c d) = λ e x l s. serve {c = x} e reaction message (stands z .0) p a b c d l s
-  stands (passes z p) = λ e x l s. skip {d = x} e (stands z .0) p l s
+  stands (takes reaction message z p a b c d) = λ e x l s. serve {c = x} e reaction message (stands z .0) p (omega arith) b (omega arith) d l s
+  stands (passes z p) = λ e x l s. skip {d = x} e (stands z .0) p (omega arith) s
   stands (away {y = y} z a) = onward y (stands z .0)
   stands (nearer {d = d} z) = rw add-one at (stands z 1 d (omega arith) (omega arith))
   stands (further {c = c} z) = rw add-one at (stands z 1 c (omega arith) (omega arith))
@@ -177,5 +177,5 @@ module _ (S : Segment) where
   run-is-literal (travel {t = t} {m = m} {d = d} e z) = travels m e d t (run-is-literal z)
   run-is-literal (work {t = t} {m = m} {c = c} e z) = works m e c t (run-is-literal z)
   run-is-literal (serve {t = t} {m = m} {c = x} e reaction message z p a b c d l s) =
-      serves m e x (reaction + message) t l s (takes reaction message (all-arrived (run-is-literal z)) p a b c d)
-  run-is-literal (skip {t = t} {m = m} {d = d} e z p l s) = skips (next (S .masters) m) e d 10 t l s (passes (all-arrived (run-is-literal z)) p)
+      serves m e x (reaction + message) t l s (takes reaction message (all-arrived (run-is-literal z)) p (omega arith) b (omega arith) d)
+  run-is-literal (skip {t = t} {m = m} {d = d} e z p l s) = skips (next (S .masters) m) e d 10 t (omega arith) s (passes (all-arrived (run-is-literal z)) p)

@@ -102,4 +102,4 @@ pub slowest : {S : Segment} {t m : ℕ} {q : Queues} {r : Request} {rest came : 
     → Run S (t + (7 + S .stream (r .of) .cycle)) (toward (next (S .masters) m) 40) (put q m rest) came (answer r (t + (7 + S .stream (r .of) .cycle)) ∷ went)
 slowest {S} {r = r} z p some =
     let C = S .stream (r .of) .cycle in
-    complete (serve {c = 0} (7 + C) 7 C z p (omega arith) (omega arith) some (omega arith) (omega arith) (omega arith)) p
+    complete (serve {c = 0} (7 + C) 7 C z p (omega arith) (omega arith) (omega arith) (omega arith) (omega arith) (omega arith)) p

@@ -1,6 +1,6 @@
 -- The largest response, one stream more. Assumes nothing.
 use Prim.Native.Nat.{ℕ, _+_, _-_, max}
-use mathlib.Core.Path.{_≡_, ap, _∙_}
+use mathlib.Core.Path.{_≡_}
 use mathlib.Core.List.{List}
 use native.Mathlib.Omega.{arith}
 use Rattle.common.specs.Sums.{greatest}

@@ -1,7 +1,7 @@
 -- Whatever the simulator records is what a run of the bus does. Assumes nothing.
 use Prim.Native.Nat.{ℕ, zero, suc, _+_, _-_, _≤_, _<_}
 use mathlib.Core.Path.{_≡_, refl, ap, sym, _∙_, subst, fun-ext}
-use mathlib.Core.Bool.{Bool, true, false, _&&_, and-true}
+use mathlib.Core.Bool.{true, false, _&&_, and-true}
 use mathlib.Core.Logic.{_≢_, ⊎-elim}
 use mathlib.Core.List.{List, [], _∷_, map, List·Memᴰ, List·Memᴰ·head, List·Memᴰ·tail, List·Memᴰ·not-nil, List·Memᴰ·cases-cons}
 use native.Mathlib.Decide.{ℕ-discrete, decLe}
@@ -15,16 +15,16 @@ use Rattle.common.specs.Runs.{filled}
 use Rattle.common.proofs.Firsts.{First, first-is}
 use Rattle.common.proofs.Runs.{filled-at, length-filled}
 use Rattle.segment.specs.Segment.{Segment, owns}
-use Rattle.pnet_run.specs.Run.{Request, request, Answer, answer, Queues, put, Token, toward, next, Run, travel, skip}
+use Rattle.pnet_run.specs.Run.{Answer, answer, Queues, put, toward, next, Run, travel, skip}
 use Rattle.pnet_run.proofs.Queues.{put-same, put-other}
 use Rattle.pnet_run.proofs.Ring.{next-in-ring}
 use Rattle.pnet_run.proofs.Picked.{picked, picked-same, picked-none, picked-first}
-use Rattle.pnet_run.proofs.Slowest.{asked, queuesTo, askedTo, all-asked, asked-each, asked-at-0, asked-apart, slowest}
+use Rattle.pnet_run.proofs.Slowest.{asked, askedTo, all-asked, asked-each, asked-at-0, asked-apart, slowest}
 use Rattle.simulate.specs.Simulated.{Bus, waits, oldestOf, visited, visitedTimes, begun, simulated, sound}
 use Rattle.simulate.specs.Told.{segmentBy, Told}
 use Rattle.simulate.proofs.Waits.{waits-elsewhere, waits-no-more, waits-then, waits-other}
 use Rattle.simulate.proofs.Visits.{visited-used, visited-unused}
-use Rattle.simulate.proofs.Sound.{Sound, sound-then}
+use Rattle.simulate.proofs.Sound.{sound-then}
 
 -- the place of stream suc p
 place : (p : ℕ) → suc p - 1 ≡ p

@@ -4,7 +4,7 @@ use mathlib.Core.Path.{_≡_}
 use mathlib.Core.List.{List, List·Memᴰ}
 use lib.ListN.{length, getD}
 use Rattle.segment.specs.Segment.{Segment}
-use Rattle.pnet_run.specs.Run.{Request, request, Answer, answer, Queues, Token, toward, Run}
+use Rattle.pnet_run.specs.Run.{Request, request, Answer, answer, Queues, toward, Run}
 use Rattle.pnet_run.specs.Promise.{Apart}
 use Rattle.simulate.specs.Simulated.{Bus}
 

@@ -1,6 +1,6 @@
 -- `simulate::go_on` meets its contract. The loop's invariant: where the bus stands after v visits; each takes at most 65,582 bp, so that
 -- the instant fits 64 bits. Assumes nothing.
-use Prim.Native.Nat.{ℕ, _+_, _-_, _*_, _≤_}
+use Prim.Native.Nat.{_+_, _-_, _*_, _≤_}
 use mathlib.Core.Path.{_≡_, refl, sym, ap, _∙_}
 use native.Mathlib.Omega.{arith}
 use lib.ListN.{length}
@@ -9,9 +9,6 @@ use Rattle.simulate.specs.Simulated.{busOf, visited, visitedTimes}
 use Rattle.simulate.proofs.Visits.{visitedTimes-more}
 use Rattle.simulate.proofs.go_on.Statement.{statement}
 use Rattle.simulate.proofs.go_on.Tie as tie
-use Rattle.simulate.proofs.go_on.Reads as reads
-use Rattle.simulate.proofs.go_on.Lts as lts
-use Rattle.simulate.proofs.visit.Reads as visit-reads
 
 abbrev Inv-loop : tie.InvT-loop
 Inv-loop n owner cycle visits answered₀ stage₀ v₀ answered stage v =

@@ -7,19 +7,13 @@ use lib.ListN.{length}
 use denote.Ref.{now}
 use borrow.Author.Needs.{needs}
 use borrow.Author.Tests.{not-true, not-false}
-use Rattle.simulate.specs.Simulated.{Bus, busOf, visitedTimes, simulated, sound}
+use Rattle.simulate.specs.Simulated.{Bus, busOf, visitedTimes, sound}
 use Rattle.simulate.specs.Told.{segmentBy, Told}
-use Rattle.simulate.proofs.Sound.{Sound, sound-then}
+use Rattle.simulate.proofs.Sound.{sound-then}
 use Rattle.simulate.proofs.Visits.{begun-is, simulated-is, simulated-none}
 use Rattle.simulate.proofs.Runs.{simulated-told}
 use Rattle.simulate.proofs.simulate.Statement.{statement}
 use Rattle.simulate.proofs.simulate.Tie as tie
-use Rattle.simulate.proofs.simulate.Reads as reads
-use Rattle.simulate.proofs.simulate.Lts as lts
-use Rattle.simulate.proofs.behind.Reads as behind-reads
-use Rattle.simulate.proofs.clear.Reads as clear-reads
-use Rattle.simulate.proofs.go_on.Reads as go-on-reads
-use Rattle.simulate.proofs.is_sound.Reads as is-sound-reads
 
 is-sound-requires : tie.Need-is-sound-requires
 is-sound-requires c κs = search needs
