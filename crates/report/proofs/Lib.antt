@@ -1,0 +1,5 @@
+pub mod Lengths
+pub mod Numbers
+pub mod Page
+pub mod Segments
+pub mod Writing

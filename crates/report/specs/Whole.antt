@@ -1,0 +1,39 @@
+-- Page 01, 'Sheets worked by hand': the whole report of a sheet, from its bytes alone. Assumes nothing.
+use Prim.Native.Nat.{ℕ, _+_}
+use mathlib.Core.List.{List, []}
+use mathlib.Core.Bool.{cond}
+use lib.Dec.{eqb}
+use Rattle.units.specs.Units.{bp}
+use Rattle.sheet.specs.Whole.{Outcome}
+use Rattle.sheet.specs.Whole.Outcome.{Read, Not}
+use Rattle.segment.specs.Segment.{Segment, segmentOf, count, bound}
+use Rattle.segment.specs.Refined.{refined, rounds}
+use Rattle.profibus.specs.declared.answer.Plan.{Plan}
+use Rattle.profibus.specs.declared.answer.Plan.the-variants as ring
+use Rattle.report.specs.Text.{word, _·_, texts}
+use Rattle.report.specs.Lines.{masterLine, ringText, refusalText}
+
+-- no report is longer
+abbrev pub mostText : ℕ
+mostText = 1613927
+
+-- ---- P-NET
+
+-- the line of master k; a master without streams has none
+unfoldable pub masterOf : Segment → ℕ → List ℕ
+masterOf S k = cond (eqb (count S k) 0) [] (masterLine k (bp (bound S k)) (bp (refined S k)) (rounds S k))
+
+-- masters 1..N
+unfoldable pub mastersOf : Segment → List ℕ
+mastersOf S = texts (λ i. masterOf S (i + 1)) (S .masters)
+
+-- what planning a P-NET sheet gave: the segment, or the refusal
+unfoldable pub segmentReport : Outcome → List ℕ
+segmentReport (Read H) = word "P-NET segment\n" · mastersOf (segmentOf H)
+segmentReport (Not n p) = refusalText n p
+
+-- ---- PROFIBUS
+
+unfoldable pub ringReport : Plan → List ℕ
+ringReport (ring.Target rotation stream) = ringText rotation stream
+ringReport (ring.Refused n p) = refusalText n p

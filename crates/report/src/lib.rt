@@ -1,0 +1,55 @@
+// The report of a plan as text, page 01 'Sheets worked by hand'.
+mod lines;
+mod text;
+
+use lines::put_masters;
+use lines::put_refusal;
+use lines::put_ring;
+use text::put_word;
+ghost use Prim.Native.Nat.{_≤_};
+ghost use lib.ListN.{length};
+ghost use Rattle.sheet.specs.Whole.{reading};
+ghost use Rattle.profibus.specs.Planned.{planOf as ringPlan};
+ghost use Rattle.pnet.specs.Planned.{planned};
+ghost use Rattle.report.specs.Text.{Wrote, item};
+ghost use Rattle.report.specs.Lines.{segmentText};
+ghost use Rattle.report.specs.Whole.{mostText, segmentReport, ringReport};
+
+// No report is longer.
+pub const MOST_TEXT: usize = 1_613_927;
+
+fn put_segment(out: &mut [u8], bound: &[u32], refined: &[u32], rounds: &[u32], n: usize) -> usize
+    requires { ⌜ (n ≤ length (now bound)) × (n ≤ length (now refined)) × (n ≤ length (now rounds)) ⌝ }
+    requires { ⌜ (n ≤ 32) × (mostText ≤ length (now out)) ⌝ }
+    ensures { λ r. ⌜ Wrote (now (out .entry)) 0 (segmentText (item (now (bound .entry))) (item (now (refined .entry))) (item (now (rounds .entry))) n) (now (out .exit)) r ⌝ }
+{
+    let lines = put_word(out, 0, b"P-NET segment\n");
+    put_masters(out, lines, bound, refined, rounds, n)
+}
+
+// 32 places hold every segment, so 13 never shows.
+fn segment_report(s: &[u8], out: &mut [u8]) -> usize
+    requires { ⌜ mostText ≤ length (now out) ⌝ }
+    ensures { λ r. ⌜ Wrote (now (out .entry)) 0 (segmentReport (planned (now (s .entry)) 32 32 32)) (now (out .exit)) r ⌝ }
+{
+    let mut bound = [0u32; 32];
+    let mut refined = [0u32; 32];
+    let mut rounds = [0u32; 32];
+    match pnet::plan(s, &mut bound, &mut refined, &mut rounds) {
+        pnet::Plan::Accepted {
+            masters,
+            streams: _,
+        } => put_segment(out, &bound, &refined, &rounds, masters),
+        pnet::Plan::Refused { no, place } => put_refusal(out, 0, no, place as u64),
+    }
+}
+
+fn ring_report(s: &[u8], out: &mut [u8]) -> usize
+    requires { ⌜ mostText ≤ length (now out) ⌝ }
+    ensures { λ r. ⌜ Wrote (now (out .entry)) 0 (ringReport (ringPlan (reading (now (s .entry))))) (now (out .exit)) r ⌝ }
+{
+    match profibus::plan(s) {
+        profibus::Plan::Target { rotation, stream } => put_ring(out, 0, rotation, stream as u64),
+        profibus::Plan::Refused { no, place } => put_refusal(out, 0, no, place as u64),
+    }
+}
