@@ -19,16 +19,26 @@ fn kinds() {
     line(b"");
     line(b"kind  body  fields, each with its bytes and its range");
     line(b"   1     1  P-NET segment: masters N (1) 1..32");
-    line(b"   2    11  P-NET stream: master (1) 1..N, longest cycle C (2) 1..1548 bp, spacing T (4) 1..1000000000 bp, deadline D (4) 1..T bp");
-    line(b"   3     9  PROFIBUS ring: masters n (1) 1..32, ring latency L (4) 1..100000 bp, longest message M (4) 1..100000 bp");
-    line(b"   4     9  PROFIBUS high-priority stream: master (1) 1..n, cycle C (4) 1..M bp, deadline D (4) 1..1000000000 bp");
+    line(
+        b"   2    11  P-NET stream: master (1) 1..N, longest cycle C (2) 1..1548 bp, spacing T (4) 1..1000000000 bp, deadline D (4) 1..T bp",
+    );
+    line(
+        b"   3     9  PROFIBUS ring: masters n (1) 1..32, ring latency L (4) 1..100000 bp, longest message M (4) 1..100000 bp",
+    );
+    line(
+        b"   4     9  PROFIBUS high-priority stream: master (1) 1..n, cycle C (4) 1..M bp, deadline D (4) 1..1000000000 bp",
+    );
     line(b"   5     4  WorldFIP: one buffer exchange E (4) 1..1000000 us");
     line(b"   6     6  WorldFIP variable: identifier (2) any, period (4) 1..1000000000 us");
 }
 
 fn rules() {
-    line(b"The first record is 1, 3 or 5; all later ones are 2, 4 or 6 to match. P-NET and PROFIBUS: at most 800 streams, at most 80 for one master.");
-    line(b"WorldFIP: at most 64 variables, no identifier twice. us are microseconds. bp are bit periods: of P-NET, 48 in 625 us; of that ring for PROFIBUS.");
+    line(
+        b"The first record is 1, 3 or 5; all later ones are 2, 4 or 6 to match. P-NET and PROFIBUS: at most 800 streams, at most 80 for one master.",
+    );
+    line(
+        b"WorldFIP: at most 64 variables, no identifier twice. us are microseconds. bp are bit periods: of P-NET, 48 in 625 us; of that ring for PROFIBUS.",
+    );
 }
 
 fn refusals() {
