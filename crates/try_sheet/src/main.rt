@@ -15,21 +15,21 @@ fn say_number(n: u64) {
     io::print_decimal(STDOUT_FILENO, n);
 }
 
+fn say_with(text: &[u8], n: u64) {
+    say(text);
+    say_number(n);
+}
+
 fn say_accepted(kind: u8, streams: usize, first: usize) {
-    say(b": accepted, kind ");
-    say_number(kind as u64);
-    say(b", ");
-    say_number(streams as u64);
-    say(b" streams from ");
-    say_number(first as u64);
+    say_with(b": accepted, kind ", kind as u64);
+    say_with(b", ", streams as u64);
+    say_with(b" streams from ", first as u64);
     say(b"\n");
 }
 
 fn say_refused(no: u8, place: usize) {
-    say(b": refused ");
-    say_number(no as u64);
-    say(b" at ");
-    say_number(place as u64);
+    say_with(b": refused ", no as u64);
+    say_with(b" at ", place as u64);
     say(b"\n");
 }
 
@@ -151,14 +151,10 @@ fn put_all(buf: &mut [u8], from: usize, each: Record, least: u32, most: u32, n: 
 
 fn say_crowd(head: Record, each: Record, least: u32, most: u32, n: usize) {
     say_number(n as u64);
-    say(b" records of kind ");
-    say_number(each.kind as u64);
-    say(b", first field ");
-    say_number(least as u64);
-    say(b" to ");
-    say_number(most as u64);
-    say(b", behind kind ");
-    say_number(head.kind as u64);
+    say_with(b" records of kind ", each.kind as u64);
+    say_with(b", first field ", least as u64);
+    say_with(b" to ", most as u64);
+    say_with(b", behind kind ", head.kind as u64);
 }
 
 fn try_crowd(head: Record, each: Record, least: u32, most: u32, n: usize) {
@@ -169,15 +165,21 @@ fn try_crowd(head: Record, each: Record, least: u32, most: u32, n: usize) {
     say_front(&buf, end);
 }
 
-// At most 800 streams, at most 80 for one master: behind N = 32, 10 and 31, which has no master 32.
+// At most 80 streams for one master.
+fn pnet_master_limits() {
+    let each = record_of(2, 1, 203, 1000, 1000);
+    let head = record_of(1, 32, 0, 0, 0);
+    try_crowd(head, each, 1, 1, 80);
+    try_crowd(head, each, 1, 1, 81);
+    try_crowd(head, each, 32, 32, 81);
+}
+
+// At most 800 streams: behind N = 32, 10 and 31, which has no master 32.
 fn pnet_limits() {
     let each = record_of(2, 1, 203, 1000, 1000);
     let head = record_of(1, 32, 0, 0, 0);
     let ten = record_of(1, 10, 0, 0, 0);
     let short = record_of(1, 31, 0, 0, 0);
-    try_crowd(head, each, 1, 1, 80);
-    try_crowd(head, each, 1, 1, 81);
-    try_crowd(head, each, 32, 32, 81);
     try_crowd(head, each, 1, 32, 800);
     try_crowd(head, each, 1, 32, 801);
     try_crowd(ten, each, 1, 10, 800);
@@ -210,6 +212,7 @@ fn main() {
     let mut buf = io::large_buffer();
     let n = io::read_full(STDIN_FILENO, &mut buf);
     try_lines(&buf[..n]);
+    pnet_master_limits();
     pnet_limits();
     profibus_limits();
     worldfip_limits();
