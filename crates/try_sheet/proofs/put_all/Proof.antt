@@ -15,8 +15,8 @@ abbrev μ-loop : tie.MeasureT-loop
 loop-holds : tie.Need-loop-holds Inv-loop μ-loop
 loop-holds c = search needs
 
-with-first-field-requires : tie.Need-with-first-field-requires Inv-loop μ-loop
-with-first-field-requires c κs = search needs
+record-of-requires : tie.Need-record-of-requires Inv-loop μ-loop
+record-of-requires c κs = search needs
 
 put-record-requires : tie.Need-put-record-requires Inv-loop μ-loop
 put-record-requires c κs = search needs
@@ -58,7 +58,7 @@ put-all-spec =
     Inv-loop
     μ-loop
     loop-holds
-    with-first-field-requires
+    record-of-requires
     put-record-requires
     enum-known-p
     enum-told
