@@ -2,4 +2,5 @@ pub mod Lengths
 pub mod Numbers
 pub mod Page
 pub mod Segments
+pub mod Tables
 pub mod Writing

@@ -52,7 +52,7 @@ module _ (S : Segment) (k : ℕ) (lo : 1 ≤ k) (hi : k ≤ S .masters) where
 -- ---- From the runs to the segment
 
 -- a place of a filled run
-filled-at : (f : ℕ → ℕ) (n : ℕ) (old : List ℕ) (i : ℕ) → i < n → item (filled f n old) i ≡ f i
+pub filled-at : (f : ℕ → ℕ) (n : ℕ) (old : List ℕ) (i : ℕ) → i < n → item (filled f n old) i ≡ f i
 unfolding filled
 filled-at f n old i h = List·getD-append (tab f n) (drop n old) 0 i (omega (arith, length-tab f n)) ∙ getD-tab f n i h
 

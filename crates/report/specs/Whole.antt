@@ -3,15 +3,19 @@ use Prim.Native.Nat.{ℕ, _+_}
 use mathlib.Core.List.{List, []}
 use mathlib.Core.Bool.{cond}
 use lib.Dec.{eqb}
-use Rattle.units.specs.Units.{bp}
+use Rattle.common.specs.Checks.{Verdict, verdict}
+use Rattle.common.specs.Checks.Verdict.{Passed, Refused}
+use Rattle.units.specs.Units.{bp, us}
 use Rattle.sheet.specs.Whole.{Outcome}
 use Rattle.sheet.specs.Whole.Outcome.{Read, Not}
 use Rattle.segment.specs.Segment.{Segment, segmentOf, count, bound}
 use Rattle.segment.specs.Refined.{refined, rounds}
 use Rattle.profibus.specs.declared.answer.Plan.{Plan}
 use Rattle.profibus.specs.declared.answer.Plan.the-variants as ring
+use Rattle.table.specs.Traffic.{Traffic, microcycle, slots, rows, rowOf, identifierAt}
+use Rattle.worldfip.specs.Answer.{trafficOf, planChecks}
 use Rattle.report.specs.Text.{word, _·_, texts}
-use Rattle.report.specs.Lines.{masterLine, ringText, refusalText}
+use Rattle.report.specs.Lines.{masterLine, ringText, tableText, refusalText}
 
 -- no report is longer
 abbrev pub mostText : ℕ
@@ -37,3 +41,17 @@ segmentReport (Not n p) = refusalText n p
 unfoldable pub ringReport : Plan → List ℕ
 ringReport (ring.Target rotation stream) = ringText rotation stream
 ringReport (ring.Refused n p) = refusalText n p
+
+-- ---- WorldFIP
+
+unfoldable pub tableOf : Traffic → List ℕ
+tableOf T = tableText (us (microcycle T)) (slots T) (rows T) (rowOf T) (identifierAt T)
+
+abbrev pub tableBy : Verdict → Traffic → List ℕ
+tableBy Passed T = tableOf T
+tableBy (Refused n p) T = refusalText n p
+
+-- a run of 4,096 places holds every table
+unfoldable pub tableReport : Outcome → List ℕ
+tableReport (Read S) = tableBy (verdict (planChecks S 4096)) (trafficOf S)
+tableReport (Not n p) = refusalText n p

@@ -2,18 +2,22 @@
 mod lines;
 mod text;
 
+use lines::put_head;
 use lines::put_masters;
 use lines::put_refusal;
 use lines::put_ring;
+use lines::put_rows;
 use text::put_word;
+use units::Micros;
 ghost use Prim.Native.Nat.{_≤_};
 ghost use lib.ListN.{length};
 ghost use Rattle.sheet.specs.Whole.{reading};
 ghost use Rattle.profibus.specs.Planned.{planOf as ringPlan};
+ghost use Rattle.units.specs.Units.{us};
 ghost use Rattle.pnet.specs.Planned.{planned};
 ghost use Rattle.report.specs.Text.{Wrote, item};
-ghost use Rattle.report.specs.Lines.{segmentText};
-ghost use Rattle.report.specs.Whole.{mostText, segmentReport, ringReport};
+ghost use Rattle.report.specs.Lines.{segmentText, tableText};
+ghost use Rattle.report.specs.Whole.{mostText, segmentReport, ringReport, tableReport};
 
 // No report is longer.
 pub const MOST_TEXT: usize = 1_613_927;
@@ -51,5 +55,45 @@ fn ring_report(s: &[u8], out: &mut [u8]) -> usize
     match profibus::plan(s) {
         profibus::Plan::Target { rotation, stream } => put_ring(out, 0, rotation, stream as u64),
         profibus::Plan::Refused { no, place } => put_refusal(out, 0, no, place as u64),
+    }
+}
+
+fn put_table(
+    out: &mut [u8],
+    microcycle: u32,
+    slots: u32,
+    count: u32,
+    rows: &[u64],
+    names: &[u16],
+) -> usize
+    requires { ⌜ (count ≤ length (now rows)) × (count ≤ 4096) × (64 ≤ length (now names)) × (mostText ≤ length (now out)) ⌝ }
+    ensures { λ r. ⌜ Wrote (now (out .entry)) 0 (tableText (us microcycle) slots count (item (now (rows .entry))) (item (now (names .entry)))) (now (out .exit)) r ⌝ }
+{
+    let next = put_head(
+        out,
+        0,
+        Micros(microcycle as u64),
+        slots as u64,
+        count as u64,
+    );
+    put_rows(out, next, rows, count as usize, names)
+}
+
+// 4,096 places hold every table, so 13 never shows.
+fn table_report(s: &[u8], out: &mut [u8]) -> usize
+    requires { ⌜ mostText ≤ length (now out) ⌝ }
+    ensures { λ r. ⌜ Wrote (now (out .entry)) 0 (tableReport (reading (now (s .entry)))) (now (out .exit)) r ⌝ }
+{
+    let mut table = [0u64; 4096];
+    match worldfip::plan(s, &mut table) {
+        worldfip::Plan::Accepted {
+            microcycle,
+            slots,
+            rows,
+        } => {
+            let names = worldfip::identifiers(s);
+            put_table(out, microcycle, slots, rows, &table, &names)
+        }
+        worldfip::Plan::Refused { no, place } => put_refusal(out, 0, no, place as u64),
     }
 }

@@ -122,7 +122,8 @@ fn put_ident(out: &mut [u8], at: usize, bit: u64, name: u16) -> usize
 }
 
 // The identifiers of the ranks that a row serves.
-fn put_idents(out: &mut [u8], at: usize, row: u64, names: &[u16; 64]) -> usize
+fn put_idents(out: &mut [u8], at: usize, row: u64, names: &[u16]) -> usize
+    requires { ⌜ 64 ≤ length (now names) ⌝ }
     requires { ⌜ Room (now out) at (texts (nameAt row (item (now names))) 64) ⌝ }
     ensures { λ r. ⌜ Wrote (now (out .entry)) at (texts (nameAt row (item (now (names .entry)))) 64) (now (out .exit)) r ⌝ }
 {
@@ -138,7 +139,8 @@ fn put_idents(out: &mut [u8], at: usize, row: u64, names: &[u16; 64]) -> usize
 }
 
 // Row m.
-fn put_row(out: &mut [u8], at: usize, m: u64, row: u64, names: &[u16; 64]) -> usize
+fn put_row(out: &mut [u8], at: usize, m: u64, row: u64, names: &[u16]) -> usize
+    requires { ⌜ 64 ≤ length (now names) ⌝ }
     requires { ⌜ Room (now out) at (rowLine m row (item (now names))) ⌝ }
     ensures { λ r. ⌜ Wrote (now (out .entry)) at (rowLine m row (item (now (names .entry)))) (now (out .exit)) r ⌝ }
 {
@@ -153,9 +155,9 @@ pub(crate) fn put_rows(
     at: usize,
     rows: &[u64],
     count: usize,
-    names: &[u16; 64],
+    names: &[u16],
 ) -> usize
-    requires { ⌜ count ≤ length (now rows) ⌝ }
+    requires { ⌜ (count ≤ length (now rows)) × (64 ≤ length (now names)) ⌝ }
     requires { ⌜ Room (now out) at (texts (rowAt (item (now rows)) (item (now names))) count) ⌝ }
     ensures { λ r. ⌜ Wrote (now (out .entry)) at (texts (rowAt (item (now (rows .entry))) (item (now (names .entry)))) count) (now (out .exit)) r ⌝ }
 {

@@ -8,8 +8,8 @@ use borrow.Author.Needs.{needs}
 use denote.Ref.{now}
 use Rattle.report.specs.Lines.{nameAt}
 use Rattle.report.specs.Text.{item, texts, Wrote}
-use Rattle.report.proofs.Writing.{length-wrote, wrote-none, wrote-next, wrote-all, room-next}
 use Rattle.report.proofs.Numbers.{quotient-more}
+use Rattle.report.proofs.Writing.{length-wrote, wrote-none, wrote-next, wrote-all, room-next}
 use Rattle.report.proofs.lines.put_idents.Statement.{statement}
 use Rattle.report.proofs.lines.put_idents.Tie as tie
 
@@ -26,12 +26,14 @@ loop-holds c = (search needs, sym (div-one _), wrote-none)
 mul-put-ident : tie.Need-mul-put-ident Inv-loop μ-loop
 mul-put-ident c = search needs
 
-element-copy-out-put-ident : tie.Need-element-copy-out-put-ident Inv-loop μ-loop
-element-copy-out-put-ident c = search needs
+shared-slice-read-put-ident : tie.Need-shared-slice-read-put-ident Inv-loop μ-loop
+shared-slice-read-put-ident c = search needs
 
 put-ident-requires : tie.Need-put-ident-requires Inv-loop μ-loop
 unfolding nameAt
-put-ident-requires c κs = rw (c .before .before .before .loop .inv .1) (room-next (nameAt (c .before .before .before .before .before .args .row) (item (now (c .before .before .before .before .before .args .names)))) (c .before .before .before .loop .inv .2) 64 (c .before .before .before .before .before .pre) (c .before .before .loop-test .taken))
+put-ident-requires c κs =
+    let start = c .before .before .before .before .before .before in
+    rw (c .before .before .before .loop .inv .1) (room-next (nameAt (start .args .row) (item (now (start .args .names)))) (c .before .before .before .loop .inv .2) 64 (start .pre .1) (c .before .before .loop-test .taken))
 
 add-r : tie.Need-add-r Inv-loop μ-loop
 add-r c = search needs
@@ -42,18 +44,21 @@ loop-less c = search needs
 loop-again : tie.Need-loop-again Inv-loop μ-loop
 unfolding nameAt
 loop-again c =
+    let start = c .before .before .before .before .before .before .before .before .before in
     let l = c .before .before .before .before .before .before .loop in (
       omega arith,
-      ap (λ (x : ℕ). x / 2) (l .inv .1) ∙ quotient-more 2 (c .before .before .before .before .before .before .before .before .args .row) (l .r),
-      wrote-next (nameAt (c .before .before .before .before .before .before .before .before .args .row) (item (now (c .before .before .before .before .before .before .before .before .args .names)))) (l .inv .2) (rw (l .inv .1) at (c .before .before .put-ident .ensures)),
+      ap (λ (x : ℕ). x / 2) (l .inv .1) ∙ quotient-more 2 (start .args .row) (l .r),
+      wrote-next (nameAt (start .args .row) (item (now (start .args .names)))) (l .inv .2) (rw (l .inv .1) at (c .before .before .put-ident .ensures)),
     )
 
 same-length : tie.Need-same-length Inv-loop μ-loop
 same-length c = length-wrote (c .before .loop .inv .2)
 
 returns : tie.Need-returns Inv-loop μ-loop
-returns c = wrote-all (nameAt (c .before .before .before .args .row) (item (now (c .before .before .before .args .names)))) (c .before .loop .inv .2) (omega arith)
+returns c =
+    let start = c .before .before .before .before in
+    wrote-all (nameAt (start .args .row) (item (now (start .args .names)))) (c .before .loop .inv .2) (omega arith)
 
 pub put-idents-spec : {M : Type 1} → statement M
 put-idents-spec =
-    tie.close (tie.spec Inv-loop μ-loop loop-holds mul-put-ident element-copy-out-put-ident put-ident-requires add-r loop-less loop-again same-length returns)
+    tie.close (tie.spec Inv-loop μ-loop loop-holds mul-put-ident shared-slice-read-put-ident put-ident-requires add-r loop-less loop-again same-length returns)

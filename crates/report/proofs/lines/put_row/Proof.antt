@@ -1,6 +1,6 @@
 -- `report::lines::put_row` stores the line of a row. Assumes nothing.
-use mathlib.Core.Path.{_≡_, subst}
 use mathlib.Core.List.{List, _++_}
+use mathlib.Core.Path.{_≡_, subst}
 use Prim.Native.Nat.{ℕ}
 use borrow.Author.Needs.{needs}
 use denote.Ref.{now}
@@ -23,21 +23,21 @@ slice-aggregate-put-counted-2 c = search needs
 
 put-counted-requires : tie.Need-put-counted-requires
 put-counted-requires c κs =
-    let a = c .before .before .before .before .args in
-    room-before (texts (nameAt (a .row) (item (now (a .names)))) 64 ++ word "\n") (subst (Room _ _) (pieces (a .m) (a .row) (item (now (a .names)))) (c .before .before .before .before .pre))
+    let a = c .before .before .before .before .before .args in
+    room-before (texts (nameAt (a .row) (item (now (a .names)))) 64 ++ word "\n") (subst (Room _ _) (pieces (a .m) (a .row) (item (now (a .names)))) (c .before .before .before .before .before .pre .1))
 
 put-idents-requires : tie.Need-put-idents-requires
 put-idents-requires c κs =
-    let a = c .before .before .before .before .before .before .before .before .args in
-    room-before (word "\n") (room-after (c .before .before .before .put-counted .ensures) (subst (Room _ _) (pieces (a .m) (a .row) (item (now (a .names)))) (c .before .before .before .before .before .before .before .before .pre)))
+    let a = c .before .before .before .before .before .before .before .before .before .args in
+    (c .before .before .before .before .before .before .before .before .before .pre .0, room-before (word "\n") (room-after (c .before .before .before .put-counted .ensures) (subst (Room _ _) (pieces (a .m) (a .row) (item (now (a .names)))) (c .before .before .before .before .before .before .before .before .before .pre .1))))
 
 slice-aggregate-put-word : tie.Need-slice-aggregate-put-word
 slice-aggregate-put-word c = search needs
 
 put-word-requires : tie.Need-put-word-requires
 put-word-requires c κs =
-    let a = c .before .before .before .before .before .before .before .before .before .before .before .before .before .args in
-    room-after (c .before .before .before .before .put-idents .ensures) (room-after {p = counted (word "row ") (a .m) (word ":")} (c .before .before .before .before .before .before .before .before .put-counted .ensures) (subst (Room _ _) (pieces (a .m) (a .row) (item (now (a .names)))) (c .before .before .before .before .before .before .before .before .before .before .before .before .before .pre)))
+    let a = c .before .before .before .before .before .before .before .before .before .before .before .before .before .before .args in
+    room-after (c .before .before .before .before .put-idents .ensures) (room-after {p = counted (word "row ") (a .m) (word ":")} (c .before .before .before .before .before .before .before .before .put-counted .ensures) (subst (Room _ _) (pieces (a .m) (a .row) (item (now (a .names)))) (c .before .before .before .before .before .before .before .before .before .before .before .before .before .before .pre .1)))
 
 same-length : tie.Need-same-length
 same-length c = search needs

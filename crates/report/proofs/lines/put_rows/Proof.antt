@@ -3,8 +3,8 @@ use Prim.Native.Nat.{_+_, _-_, _≤_}
 use native.Mathlib.Omega.{arith}
 use borrow.Author.Needs.{needs}
 use denote.Ref.{now}
-use Rattle.report.specs.Text.{item, texts, Wrote}
 use Rattle.report.specs.Lines.{rowAt}
+use Rattle.report.specs.Text.{item, texts, Wrote}
 use Rattle.report.proofs.Writing.{length-wrote, wrote-none, wrote-next, wrote-all, room-next}
 use Rattle.report.proofs.lines.put_rows.Statement.{statement}
 use Rattle.report.proofs.lines.put_rows.Tie as tie
@@ -20,7 +20,7 @@ unfolding texts
 loop-holds c = (search needs, wrote-none)
 
 mul-put-row : tie.Need-mul-put-row Inv-loop μ-loop
-mul-put-row c = omega (arith, c .before .before .before .before .before .good .1 .1 .0, c .before .before .before .before .before .pre .0)
+mul-put-row c = omega (arith, c .before .before .before .before .before .before .good .1 .1 .0, c .before .before .before .before .before .before .pre .0)
 
 shared-slice-read-put-row : tie.Need-shared-slice-read-put-row Inv-loop μ-loop
 shared-slice-read-put-row c = search needs
@@ -28,8 +28,8 @@ shared-slice-read-put-row c = search needs
 put-row-requires : tie.Need-put-row-requires Inv-loop μ-loop
 unfolding rowAt
 put-row-requires c κs =
-    let start = c .before .before .before .before .before .before in
-    room-next (rowAt (item (now (start .args .rows))) (item (now (start .args .names)))) (c .before .before .before .loop .inv .1) (start .args .count) (start .pre .1) (c .before .before .loop-test .taken)
+    let start = c .before .before .before .before .before .before .before in
+    (start .pre .0 .1, room-next (rowAt (item (now (start .args .rows))) (item (now (start .args .names)))) (c .before .before .before .loop .inv .1) (start .args .count) (start .pre .1) (c .before .before .loop-test .taken))
 
 add-m : tie.Need-add-m Inv-loop μ-loop
 add-m c = search needs
@@ -40,7 +40,7 @@ loop-less c = search needs
 loop-again : tie.Need-loop-again Inv-loop μ-loop
 unfolding rowAt
 loop-again c =
-    let start = c .before .before .before .before .before .before .before .before .before in
+    let start = c .before .before .before .before .before .before .before .before .before .before in
     (omega arith, wrote-next (rowAt (item (now (start .args .rows))) (item (now (start .args .names)))) (c .before .before .before .before .before .before .loop .inv .1) (c .before .before .put-row .ensures))
 
 same-length : tie.Need-same-length Inv-loop μ-loop
@@ -48,7 +48,7 @@ same-length c = length-wrote (c .before .loop .inv .1)
 
 returns : tie.Need-returns Inv-loop μ-loop
 returns c =
-    let start = c .before .before .before .before in
+    let start = c .before .before .before .before .before in
     wrote-all (rowAt (item (now (start .args .rows))) (item (now (start .args .names)))) (c .before .loop .inv .1) (omega arith)
 
 pub put-rows-spec : {M : Type 1} → statement M
