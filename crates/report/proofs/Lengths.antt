@@ -8,136 +8,134 @@ use native.Mathlib.Omega.{arith}
 use lib.Dec.{leb, eqb}
 use lib.ListN.{length, length-append}
 use borrow.Author.Tests.{ltb-false}
-use Rattle.common.specs.Sums.{firstOf, up}
+use Rattle.common.specs.Sums.{firstOf}
 use Rattle.common.proofs.Firsts.{First, first-is}
 use Rattle.profibus.specs.declared.answer.RingPeriods.{RingPeriods}
+use Rattle.segment.specs.Segment.{Segment, count, bound}
+use Rattle.segment.specs.Refined.{refined, rounds}
 use Rattle.units.specs.Units.{bp, microsUp}
 use Rattle.units.specs.declared.BitPeriods.{BitPeriods}
 use Rattle.units.specs.declared.Micros.{Micros}
 use Rattle.report.specs.Text.{word, places, holds, widthOf, decimal, texts}
 use Rattle.report.specs.Lines.{inBp, inUs, inBoth, nameOf, figuresOf, masterLine, masterText, masterAt, segmentText, ringText, nameText, nameAt, rowLine, rowAt, tableHead, tableText, placeText, placeEnd, refusalText}
+use Rattle.report.specs.Whole.{mostText, masterOf, mastersOf}
 use Rattle.report.proofs.Numbers.{length-places, length-decimal}
 
 -- ---- Numbers
 
 -- a number that k digits hold, of 1 to 20, has at most k
-pub decimal-most : (k n : ℕ) → 1 ≤ k → k ≤ 20 → n < 10 ^ k → length (decimal n) ≤ k
+decimal-most : (k n : ℕ) → 1 ≤ k → k ≤ 20 → n < 10 ^ k → length (decimal n) ≤ k
 unfolding widthOf holds
 decimal-most k n lo hi s =
     let f = first-is (holds n) 20 1 in
     let less : (k < firstOf (holds n) 20 1 → ⊥) = λ h. omega (arith, ltb-false n (10 ^ k) (f .fails k lo h)) in
     omega (arith, length-decimal n, less)
 
--- by the width that a number is kept in
-pub digits-32 : (n : ℕ) → n < 2 ^ 32 → length (decimal n) ≤ 10
-digits-32 n s = decimal-most 10 n (omega arith) (omega arith) (omega arith)
-
-pub digits-16 : (n : ℕ) → n < 2 ^ 16 → length (decimal n) ≤ 5
-digits-16 n s = decimal-most 5 n (omega arith) (omega arith) (omega arith)
-
-pub digits-64 : (n : ℕ) → n < 2 ^ 64 → length (decimal n) ≤ 20
-digits-64 n s = decimal-most 20 n (omega arith) (omega arith) (omega arith)
+-- no number is written with more than 21
+decimal-any : (n : ℕ) → length (decimal n) ≤ 21
+unfolding widthOf
+decimal-any n = omega (arith, length-decimal n, first-is (holds n) 20 1 .to)
 
 -- ---- Texts one behind another
 
-pub texts-most : (t : ℕ → List ℕ) (c n : ℕ) → ((i : ℕ) → i < n → length (t i) ≤ c) → length (texts t n) ≤ n * c
+texts-most : (t : ℕ → List ℕ) (c n : ℕ) → ((i : ℕ) → i < n → length (t i) ≤ c) → length (texts t n) ≤ n * c
 unfolding texts
 texts-most t c zero le = omega arith
 texts-most t c (suc n) le = omega (arith, length-append (texts t n) (t n), texts-most t c n (λ i h. le i (omega arith)), le n (omega arith), suc-mul n c)
 
 -- ---- P-NET
 
-both-most : (b : BitPeriods) → b .0 < 2 ^ 32 → length (inBoth b) ≤ 28
-unfolding inBoth inBp inUs microsUp up
-both-most b s =
-    simp length-append (omega (arith, digits-32 (b .0) s, decimal-most 11 (microsUp b .0) (omega arith) (omega arith) (omega arith)))
+both-most : (b : BitPeriods) → length (inBoth b) ≤ 49
+unfolding inBoth inBp inUs
+both-most b = simp length-append (omega (arith, decimal-any (b .0), decimal-any (microsUp b .0)))
 
-figures-most : (R W : BitPeriods) → R .0 < 2 ^ 32 → W .0 < 2 ^ 32 → length (figuresOf R W) ≤ 72
+figures-most : (R W : BitPeriods) → length (figuresOf R W) ≤ 114
 unfolding figuresOf
-figures-most R W r w =
-    omega (arith, length-append (inBoth R) (word " refined " ++ inBoth W), both-most R r, both-most W w)
+figures-most R W = omega (arith, length-append (inBoth R) (word " refined " ++ inBoth W), both-most R, both-most W)
 
-line-most : (k : ℕ) (R W : BitPeriods) (m : ℕ) → R .0 < 2 ^ 32 → W .0 < 2 ^ 32 → m < 2 ^ 32 → length (masterLine k R W m) ≤ 94
+line-most : (k : ℕ) (R W : BitPeriods) (m : ℕ) → length (masterLine k R W m) ≤ 147
 unfolding masterLine nameOf
-line-most k R W m r w s =
+line-most k R W m =
     let t = word " " ++ (decimal m ++ word " rounds\n") in
     omega (
       arith,
       length-append (places 2 k) (figuresOf R W ++ t),
       length-places 2 k,
       length-append (figuresOf R W) t,
-      figures-most R W r w,
+      figures-most R W,
       length-append (decimal m) (word " rounds\n"),
-      digits-32 m s,
+      decimal-any m,
     )
 
-master-most : (k R W m : ℕ) → R < 2 ^ 32 → W < 2 ^ 32 → m < 2 ^ 32 → length (masterText k R W m) ≤ 94
-unfolding masterText
-master-most k R W m r w s = split (eqb R 0)
-  where
-    split : (b : Bool) → length (cond b [] (masterLine k (bp R) (bp W) m)) ≤ 94
-    split true = omega arith
-    split false = line-most k (bp R) (bp W) m r w s
+-- a line, or none
+some-most : (b : Bool) (k : ℕ) (R W : BitPeriods) (m : ℕ) → length (cond b [] (masterLine k R W m)) ≤ 147
+some-most true k R W m = omega arith
+some-most false k R W m = line-most k R W m
 
--- figures that k bits hold
-abbrev pub Small : ℕ → (ℕ → ℕ) → Type 0
-Small k f = (i : ℕ) → f i < 2 ^ k
+pub segment-most : (R W rounds : ℕ → ℕ) (n : ℕ) → length (segmentText R W rounds n) ≤ 14 + n * 147
+unfolding segmentText masterAt masterText
+segment-most R W rounds n =
+    omega (arith, texts-most (masterAt R W rounds) 147 n (λ i h. some-most (eqb (R i) 0) (i + 1) (bp (R i)) (bp (W i)) (rounds i)))
 
-pub segment-most : (R W rounds : ℕ → ℕ) (n : ℕ) → Small 32 R → Small 32 W → Small 32 rounds → length (segmentText R W rounds n) ≤ 14 + n * 94
-unfolding segmentText masterAt
-segment-most R W rounds n r w m =
-    omega (arith, texts-most (masterAt R W rounds) 94 n (λ i h. master-most (i + 1) (R i) (W i) (rounds i) (r i) (w i) (m i)))
+pub masters-most : (S : Segment) → length (mastersOf S) ≤ S .masters * 147
+unfolding mastersOf masterOf
+masters-most S =
+    texts-most (λ i. masterOf S (i + 1)) 147 (S .masters)
+    (λ i h. some-most (eqb (count S (i + 1)) 0) (i + 1) (bp (bound S (i + 1))) (bp (refined S (i + 1))) (rounds S (i + 1)))
 
 -- ---- PROFIBUS
 
-pub ring-most : (rotation : RingPeriods) (stream : ℕ) → rotation .0 < 2 ^ 64 → stream < 2 ^ 64 → length (ringText rotation stream) ≤ 81
+pub ring-most : (rotation : RingPeriods) (stream : ℕ) → length (ringText rotation stream) ≤ 83
 unfolding ringText
-ring-most rotation stream r s = simp length-append (omega (arith, digits-64 (rotation .0) r, digits-64 stream s))
+ring-most rotation stream = simp length-append (omega (arith, decimal-any (rotation .0), decimal-any stream))
 
 -- ---- WorldFIP
+
+-- identifiers have 16 bits
+abbrev pub Small : (ℕ → ℕ) → Type 0
+Small name = (r : ℕ) → name r < 2 ^ 16
 
 name-most : (b x : ℕ) → x < 2 ^ 16 → length (nameText b x) ≤ 6
 unfolding nameText
 name-most b x s = split (eqb b 1)
   where
     split : (t : Bool) → length (cond t (word " " ++ decimal x) []) ≤ 6
-    split true = omega (arith, digits-16 x s)
+    split true = omega (arith, decimal-most 5 x (omega arith) (omega arith) (omega arith))
     split false = omega arith
 
-row-most : (m row : ℕ) (name : ℕ → ℕ) → m < 10 ^ 4 → Small 16 name → length (rowLine m row name) ≤ 394
+row-most : (m row : ℕ) (name : ℕ → ℕ) → m < 10 ^ 4 → Small name → length (rowLine m row name) ≤ 394
 unfolding rowLine nameAt
 row-most m row name s small =
     simp length-append
     (omega (arith, decimal-most 4 m (omega arith) (omega arith) s, texts-most (nameAt row name) 6 64 (λ r h. name-most (row / 2 ^ r % 2) (name r) (small r))))
 
-head-most : (u : Micros) (slots rows : ℕ) → u .0 < 2 ^ 64 → slots < 2 ^ 64 → rows < 2 ^ 64 → length (tableHead u slots rows) ≤ 103
+head-most : (u : Micros) (slots rows : ℕ) → length (tableHead u slots rows) ≤ 106
 unfolding tableHead inUs
-head-most u slots rows a b c = simp length-append (omega (arith, digits-64 (u .0) a, digits-64 slots b, digits-64 rows c))
+head-most u slots rows = simp length-append (omega (arith, decimal-any (u .0), decimal-any slots, decimal-any rows))
 
-pub table-most : (u : Micros) (slots rows : ℕ) (row name : ℕ → ℕ) → u .0 < 2 ^ 64 → slots < 2 ^ 64 → rows ≤ 4096 → Small 16 name
-    → length (tableText u slots rows row name) ≤ 1613927
+pub table-most : (u : Micros) (slots rows : ℕ) (row name : ℕ → ℕ) → rows ≤ 4096 → Small name → length (tableText u slots rows row name) ≤ mostText
 unfolding tableText rowAt
-table-most u slots rows row name a b few small =
+table-most u slots rows row name few small =
     omega (
       arith,
       length-append (tableHead u slots rows) (texts (rowAt row name) rows),
-      head-most u slots rows a b (omega arith),
+      head-most u slots rows,
       texts-most (rowAt row name) 394 rows (λ m h. row-most m (row m) name (omega arith) small),
     )
 
 -- ---- Refusals
 
-place-most : (n p : ℕ) → p < 2 ^ 64 → length (placeEnd n p) ≤ 34
+place-most : (n p : ℕ) → length (placeEnd n p) ≤ 35
 unfolding placeEnd placeText
-place-most n p s = split (leb n 7) (leb n 9) (eqb n 12)
+place-most n p = split (leb n 7) (leb n 9) (eqb n 12)
   where
     split : (a b c : Bool)
-        → length (cond a (word " at byte " ++ decimal p) (cond b (word " at stream " ++ decimal p) (cond c (word " at variable " ++ decimal p) [])) ++ word "\n") ≤ 34
-    split true b c = simp length-append (omega (arith, digits-64 p s))
-    split false true c = simp length-append (omega (arith, digits-64 p s))
-    split false false true = simp length-append (omega (arith, digits-64 p s))
+        → length (cond a (word " at byte " ++ decimal p) (cond b (word " at stream " ++ decimal p) (cond c (word " at variable " ++ decimal p) [])) ++ word "\n") ≤ 35
+    split true b c = simp length-append (omega (arith, decimal-any p))
+    split false true c = simp length-append (omega (arith, decimal-any p))
+    split false false true = simp length-append (omega (arith, decimal-any p))
     split false false false = omega arith
 
-pub refusal-most : (n p : ℕ) → n < 2 ^ 64 → p < 2 ^ 64 → length (refusalText n p) ≤ 62
+pub refusal-most : (n p : ℕ) → length (refusalText n p) ≤ 64
 unfolding refusalText
-refusal-most n p a b = omega (arith, length-append (decimal n) (placeEnd n p), digits-64 n a, place-most n p b)
+refusal-most n p = omega (arith, length-append (decimal n) (placeEnd n p), decimal-any n, place-most n p)

@@ -1,4 +1,5 @@
 pub mod Lengths
+pub mod Longest
 pub mod Numbers
 pub mod Page
 pub mod Segments

@@ -77,7 +77,7 @@ planned-read s H la lb lc e = by (reading s) refl e
     by (Not n p) g f = let z : _≡_ {A = ℕ} 0 1 = cc in absurd (omega arith)
 
 -- 32 places were enough
-masters-few : (s : List ℕ) (H : Sheet) → planned s 32 32 32 ≡ Read H → H .head .a ≤ 32
+pub masters-few : (s : List ℕ) (H : Sheet) → planned s 32 32 32 ≡ Read H → H .head .a ≤ 32
 unfolding planChecks
 masters-few s H e = by (passed-then (planChecks H 32 32 32) (planned-read s H 32 32 32 e .1))
   where

@@ -33,7 +33,7 @@ unfolding rowLine nameAt
 row-same m row f g e = rw (texts-same (nameAt row f) (nameAt row g) 64 (λ r h. ap (nameText (row / 2 ^ r % 2)) (e r h)))
 
 -- what a sheet passed that has a table
-table-passed : (S : Sheet) → verdict (planChecks S 4096) ≡ Passed → (S .head .kind ≡ 5) × (rows (trafficOf S) ≤ 4096)
+pub table-passed : (S : Sheet) → verdict (planChecks S 4096) ≡ Passed → (S .head .kind ≡ 5) × (rows (trafficOf S) ≤ 4096)
 unfolding planChecks tableChecks
 table-passed S e = by (passed-then (planChecks S 4096) e)
   where

@@ -5,8 +5,8 @@ use Prim.Native.Nat.{ℕ, zero, suc, _+_, _-_, _≤_, _<_}
 use native.Mathlib.Nat.{add-zero, zero-add, add-suc, suc-add, le-refl}
 use native.Mathlib.Numerals.{add-one}
 use native.Mathlib.Omega.{arith}
-use lib.ListN.{length, set, length-append}
-use lib.Seq.{sets, length-sets, set-comm}
+use lib.ListN.{length, drop, set, length-append}
+use lib.Seq.{sets, sets-eq, length-sets, set-comm}
 use Rattle.report.specs.Text.{decimal, counted, texts, Room, Wrote}
 
 -- ---- Stores of a text
@@ -97,3 +97,10 @@ pub texts-same : (t u : ℕ → List ℕ) (n : ℕ) → ((i : ℕ) → i < n →
 unfolding texts
 texts-same t u zero e = refl
 texts-same t u (suc n) e = rw (texts-same t u n (λ i h. e i (omega arith)), e n (omega arith))
+
+-- a text at the start of a run that holds it: the text, and behind it what stood there
+pub wrote-front : {o t o' : List ℕ} {r : ℕ} → Wrote o 0 t o' r → length t ≤ length o → (r ≡ length t) × (o' ≡ t ++ drop (length t) o)
+wrote-front {o} {t} {o'} {r} w h = (
+  omega (arith, w .ends),
+  w .stored ∙ (sets-eq t o 0 (omega arith) ∙ ap (λ (k : ℕ). t ++ drop k o) (zero-add (length t))),
+)

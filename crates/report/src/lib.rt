@@ -9,6 +9,7 @@ use lines::put_ring;
 use lines::put_rows;
 use text::put_word;
 use units::Micros;
+ghost use mathlib.Core.Path.{_≡_};
 ghost use Prim.Native.Nat.{_≤_};
 ghost use lib.ListN.{length};
 ghost use Rattle.sheet.specs.Whole.{reading};
@@ -17,10 +18,16 @@ ghost use Rattle.units.specs.Units.{us};
 ghost use Rattle.pnet.specs.Planned.{planned};
 ghost use Rattle.report.specs.Text.{Wrote, item};
 ghost use Rattle.report.specs.Lines.{segmentText, tableText};
-ghost use Rattle.report.specs.Whole.{mostText, segmentReport, ringReport, tableReport};
+ghost use Rattle.report.specs.Whole.{mostText, segmentReport, ringReport, tableReport, reportOf, answerOf, runOf};
 
 // No report is longer.
-pub const MOST_TEXT: usize = 1_613_927;
+pub const MOST_TEXT: usize = 1_613_930;
+
+// What writing a report answers: how many bytes it takes, or that the lent run is shorter than some report may be.
+pub enum Reported {
+    Written(usize),
+    NoRoom,
+}
 
 fn put_segment(out: &mut [u8], bound: &[u32], refined: &[u32], rounds: &[u32], n: usize) -> usize
     requires { ⌜ (n ≤ length (now bound)) × (n ≤ length (now refined)) × (n ≤ length (now rounds)) ⌝ }
@@ -96,4 +103,35 @@ fn table_report(s: &[u8], out: &mut [u8]) -> usize
         }
         worldfip::Plan::Refused { no, place } => put_refusal(out, 0, no, place as u64),
     }
+}
+
+// The report of a sheet whose first byte is given: it picks the planner.
+fn put_report(s: &[u8], first: u8, out: &mut [u8]) -> usize
+    requires { ⌜ (first ≡ item (now s) 0) × (mostText ≤ length (now out)) ⌝ }
+    ensures { λ r. ⌜ Wrote (now (out .entry)) 0 (reportOf (now (s .entry))) (now (out .exit)) r ⌝ }
+{
+    if first == 3 {
+        return ring_report(s, out);
+    }
+    if first == 5 {
+        return table_report(s, out);
+    }
+    segment_report(s, out)
+}
+
+fn first_byte(s: &[u8]) -> u8
+    ensures { λ r. ⌜ r ≡ item (now (s .entry)) 0 ⌝ }
+{
+    if s.len() == 0 { 0 } else { s[0] }
+}
+
+// Writes the report of a sheet at the start of the lent run; later bytes keep what they had.
+pub fn report(s: &[u8], out: &mut [u8]) -> Reported
+    ensures { λ r. ⌜ r ≡ answerOf (now (s .entry)) (length (now (out .entry))) ⌝ }
+    ensures { λ r. ⌜ now (out .exit) ≡ runOf (now (s .entry)) (now (out .entry)) ⌝ }
+{
+    if out.len() < MOST_TEXT {
+        return Reported::NoRoom;
+    }
+    Reported::Written(put_report(s, first_byte(s), out))
 }

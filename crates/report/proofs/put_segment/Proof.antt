@@ -5,10 +5,10 @@ use native.Mathlib.Omega.{arith}
 use borrow.Author.Needs.{needs}
 use denote.Ref.{now}
 use lib.ListN.{length}
-use Rattle.report.specs.Lines.{masterAt, segmentText}
 use Rattle.report.specs.Text.{item, texts, Room}
-use Rattle.report.proofs.Writing.{wrote-then, room-before, room-after}
+use Rattle.report.specs.Lines.{masterAt, segmentText}
 use Rattle.report.proofs.Lengths.{segment-most}
+use Rattle.report.proofs.Writing.{wrote-then, room-before, room-after}
 use Rattle.report.proofs.put_segment.Statement.{statement}
 use Rattle.report.proofs.put_segment.Tie as tie
 
@@ -19,17 +19,13 @@ put-word-requires : tie.Need-put-word-requires
 unfolding segmentText
 put-word-requires c κs =
     let start = c .before .before .before .before .before .before in
-    room-before (texts (masterAt (item (now (start .args .bound))) (item (now (start .args .refined))) (item (now (start .args .rounds)))) (start .args .n))
-    (record { fits = omega (arith, start .pre .1, segment-most (item (now (start .args .bound))) (item (now (start .args .refined))) (item (now (start .args .rounds))) (start .args .n) (λ i. c .before .before .before .before .shared-slice-known .given i .fits) (λ i. c .before .before .before .shared-slice-known2 .given i .fits) (λ i. c .before .before .shared-slice-known3 .given i .fits)) })
+    room-before (texts (masterAt (item (now (start .args .bound))) (item (now (start .args .refined))) (item (now (start .args .rounds)))) (start .args .n)) (record { fits = omega (arith, start .pre .1, segment-most (item (now (start .args .bound))) (item (now (start .args .refined))) (item (now (start .args .rounds))) (start .args .n)) })
 
 put-masters-requires : tie.Need-put-masters-requires
 unfolding segmentText
 put-masters-requires c κs =
-    let start = c .before .before .before .before .before .before .before .before .before .before in (
-      start .pre .0,
-      room-after (c .before .before .before .put-word .ensures)
-          (record { fits = omega (arith, start .pre .1, segment-most (item (now (start .args .bound))) (item (now (start .args .refined))) (item (now (start .args .rounds))) (start .args .n) (λ i. c .before .before .before .before .before .before .before .before .shared-slice-known .given i .fits) (λ i. c .before .before .before .before .before .before .before .shared-slice-known2 .given i .fits) (λ i. c .before .before .before .before .before .before .shared-slice-known3 .given i .fits)) }),
-    )
+    let start = c .before .before .before .before .before .before .before .before .before .before in
+    (start .pre .0, room-after (c .before .before .before .put-word .ensures) (record { fits = omega (arith, start .pre .1, segment-most (item (now (start .args .bound))) (item (now (start .args .refined))) (item (now (start .args .rounds))) (start .args .n)) }))
 
 same-length : tie.Need-same-length
 same-length c = search needs

@@ -5,8 +5,8 @@ use native.Mathlib.Omega.{arith}
 use borrow.Author.Needs.{needs}
 use denote.Ref.{now}
 use lib.ListN.{length}
-use Rattle.report.specs.Lines.{rowAt, tableText}
 use Rattle.report.specs.Text.{item, texts, Room}
+use Rattle.report.specs.Lines.{rowAt, tableText}
 use Rattle.units.specs.Units.{us}
 use Rattle.report.proofs.Lengths.{table-most}
 use Rattle.report.proofs.Writing.{wrote-then, room-before, room-after}
@@ -18,14 +18,14 @@ unfolding tableText
 put-head-requires c κs =
     let start = c .before .before .before .before in
     room-before (texts (rowAt (item (now (start .args .rows))) (item (now (start .args .names)))) (start .args .count))
-    (record { fits = omega (arith, start .pre .3, table-most (us (start .args .microcycle)) (start .args .slots) (start .args .count) (item (now (start .args .rows))) (item (now (start .args .names))) (omega (arith, start .fits .microcycle)) (omega (arith, start .fits .slots)) (start .pre .1) (λ r. c .before .shared-slice-known2 .given r .fits)) })
+    (record { fits = omega (arith, start .pre .3, table-most (us (start .args .microcycle)) (start .args .slots) (start .args .count) (item (now (start .args .rows))) (item (now (start .args .names))) (start .pre .1) (λ r. c .before .shared-slice-known2 .given r .fits)) })
 
 put-rows-requires : tie.Need-put-rows-requires
 unfolding tableText
 put-rows-requires c κs =
     let start = c .before .before .before .before .before .before .before .before in (
       (start .pre .0, start .pre .2),
-      room-after (c .before .before .before .put-head .ensures) (record { fits = omega (arith, start .pre .3, table-most (us (start .args .microcycle)) (start .args .slots) (start .args .count) (item (now (start .args .rows))) (item (now (start .args .names))) (omega (arith, start .fits .microcycle)) (omega (arith, start .fits .slots)) (start .pre .1) (λ r. c .before .before .before .before .before .shared-slice-known2 .given r .fits)) }),
+      room-after (c .before .before .before .put-head .ensures) (record { fits = omega (arith, start .pre .3, table-most (us (start .args .microcycle)) (start .args .slots) (start .args .count) (item (now (start .args .rows))) (item (now (start .args .names))) (start .pre .1) (λ r. c .before .before .before .before .before .shared-slice-known2 .given r .fits)) }),
     )
 
 same-length : tie.Need-same-length

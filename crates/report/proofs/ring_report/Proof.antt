@@ -17,13 +17,13 @@ enum-known-rotation : tie.Need-enum-known-rotation
 enum-known-rotation c = search needs
 
 put-ring-requires : tie.Need-put-ring-requires
-put-ring-requires c κs = record { fits = omega (arith, ring-most (c .before .before .rotation .given .0 .0) (c .before .before .rotation .given .0 .1 .0) (omega (arith, c .before .known-told .given)) (omega (arith, c .before .known-told .given)), c .before .before .before .before .before .before .before .pre) }
+put-ring-requires c κs = record { fits = omega (arith, ring-most (c .before .before .rotation .given .0 .0) (c .before .before .rotation .given .0 .1 .0), c .before .before .before .before .before .before .before .pre) }
 
 enum-known-no : tie.Need-enum-known-no
 enum-known-no c = search needs
 
 put-refusal-requires : tie.Need-put-refusal-requires
-put-refusal-requires c κs = record { fits = omega (arith, refusal-most (c .before .before .no .given .0 .0) (c .before .before .no .given .0 .1 .0) (omega (arith, c .before .known-told2 .given)) (omega (arith, c .before .known-told2 .given)), c .before .before .before .before .before .before .before .pre) }
+put-refusal-requires c κs = record { fits = omega (arith, refusal-most (c .before .before .no .given .0 .0) (c .before .before .no .given .0 .1 .0), c .before .before .before .before .before .before .before .pre) }
 
 same-length : tie.Need-same-length
 same-length c = search needs

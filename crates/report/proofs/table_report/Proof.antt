@@ -44,7 +44,7 @@ enum-known-no : tie.Need-enum-known-no
 enum-known-no c = search needs
 
 put-refusal-requires : tie.Need-put-refusal-requires
-put-refusal-requires c κs = record { fits = omega (arith, refusal-most (c .before .before .no .given .0 .0) (c .before .before .no .given .0 .1 .0) (omega (arith, c .before .known-told2 .given)) (omega (arith, c .before .known-told2 .given)), c .before .before .before .before .before .before .before .before .before .pre) }
+put-refusal-requires c κs = record { fits = omega (arith, refusal-most (c .before .before .no .given .0 .0) (c .before .before .no .given .0 .1 .0), c .before .before .before .before .before .before .before .before .before .pre) }
 
 same-length : tie.Need-same-length
 same-length c = search needs
