@@ -18,7 +18,7 @@ use Rattle.sheet.specs.declared.Reading.the-variants as answer
 use Rattle.sheet.proofs.Walk.{length-streams}
 use Rattle.sheet.proofs.Known.{Known, reading-read}
 use Rattle.ring.specs.Ring.{Ring, Stream, streamOf, streamAt, ringOf, On, owns, count, Declared}
-use Rattle.ring.proofs.Declared.{declared, counted}
+use Rattle.ring.proofs.Declared.{declared, count-is}
 use Rattle.profibus.specs.Planned.{sheetIn, Ready}
 
 -- ---- From the reader's answer
@@ -91,9 +91,9 @@ module _ (s : List ℕ) (first n : ℕ) (ready : Ready s first n) where
 
   -- the counts that reading hands over are each master's h
   pub ready-counts : (old : List ℕ) → countsTold (reading s) old ≡ tab (count (ringOf (sheetIn s n))) 33
-  unfolding countsTold streamsOfMaster count owns ringOf
+  unfolding countsTold streamsOfMaster
   ready-counts old =
       let S = sheetIn s n in
       let other : S .head .kind ≡ 5 → ⊥ = λ e. omega (arith, ready .bus) in
       rw (ready .reads, ne-eqb (S .head .kind) 5 other)
-      (tab-same (streamsOfMaster S) (count (ringOf S)) 33 (λ k l. sym (counted k (S .streams))))
+      (tab-same (streamsOfMaster S) (count (ringOf S)) 33 (λ k l. sym (count-is S k)))

@@ -1,17 +1,15 @@
 -- Page 01, 'Sheet records': a P-NET sheet that reads without refusal declares a segment within the ranges and limits. Assumes nothing.
-use mathlib.Core.Path.{_≡_, refl, sym, ap, _∙_, subst}
+use mathlib.Core.Path.{_≡_, ap, _∙_}
 use mathlib.Core.Bool.{true}
-use mathlib.Core.List.{List, [], _∷_}
-use Prim.Native.Nat.{ℕ, zero, suc, _+_, _-_, _≤_, _<_}
+use mathlib.Core.List.{List}
+use Prim.Native.Nat.{ℕ, _+_, _-_, _≤_, _<_}
 use native.Mathlib.Omega.{arith}
 use lib.ListN.{length, getD}
-use lib.Dec.{eqb}
-use Rattle.common.specs.Sums.{when, upto}
-use Rattle.common.proofs.Sums.{upto-first, upto-same}
 use Rattle.format.specs.declared.Record.{Record}
 use Rattle.format.specs.Kinds.{nothing, inRange}
 use Rattle.format.proofs.Ranges.{segment-ranges, pnet-stream-ranges}
 use Rattle.sheet.specs.Sheets.{Sheet, countOf}
+use Rattle.sheet.proofs.Counts.{counted-by-number}
 use Rattle.sheet.proofs.Known.{Known}
 use Rattle.segment.specs.Segment.{Stream, Segment, streamOf, streamAt, segmentOf, owns, count}
 use Rattle.segment.specs.Limits.{Ranged, Declared}
@@ -31,29 +29,10 @@ stream-ranged N M r k e =
       deadline-to = w .deadline .most;
     }
 
--- the streams of a master, counted by number as in the list
-owned-by : List Record → ℕ → ℕ → ℕ
-owned-by rs k i = when (eqb (streamAt rs i .master) k) 1
-
-count-more : (r : Record) (rs : List Record) (k : ℕ) → upto (owned-by (r ∷ rs) k) (suc (length rs)) ≡ when (eqb (r .a) k) 1 + upto (owned-by rs k) (length rs)
-unfolding owned-by streamAt
-count-more r rs k =
-    upto-first (owned-by (r ∷ rs) k) (length rs)
-    ∙ ap (λ (n : ℕ). when (eqb (r .a) k) 1 + n) (upto-same (λ i. owned-by (r ∷ rs) k (suc i)) (owned-by rs k) (length rs) later)
-  where
-    later : (i : ℕ) → 1 ≤ i → i ≤ length rs → owned-by (r ∷ rs) k (suc i) ≡ owned-by rs k i
-    later i lo hi =
-        let e : suc i - 1 ≡ suc (i - 1) = omega arith in
-        ap (λ (n : ℕ). when (eqb (getD (r ∷ rs) n nothing .a) k) 1) e
-
-count-is : (rs : List Record) (k : ℕ) → upto (owned-by rs k) (length rs) ≡ countOf k rs
-unfolding countOf upto
-count-is [] k = refl
-count-is (r ∷ rs) k = count-more r rs k ∙ ap (λ (n : ℕ). when (eqb (r .a) k) 1 + n) (count-is rs k)
-
+-- s is what reading counted
 count-of : (H : Sheet) (k : ℕ) → count (segmentOf H) k ≡ countOf k (H .streams)
-unfolding count owns segmentOf owned-by
-count-of H k = count-is (H .streams) k
+unfolding count owns segmentOf streamAt
+count-of H k = counted-by-number k (H .streams)
 
 pub declared : (s : List ℕ) (H : Sheet) → Known s H → H .head .kind ≡ 1 → Declared (segmentOf H)
 unfolding segmentOf streamAt
