@@ -25,7 +25,7 @@ put-masters-requires : tie.Need-put-masters-requires
 unfolding segmentText
 put-masters-requires c κs =
     let start = c .before .before .before .before .before .before .before .before .before .before in
-    (start .pre .0, room-after (c .before .before .before .put-word .ensures) (record { fits = omega (arith, start .pre .1, segment-most (item (now (start .args .bound))) (item (now (start .args .refined))) (item (now (start .args .rounds))) (start .args .n)) }))
+    (start .pre .0, room-after (c .before .before .before .put-word .ensures) {q = texts (masterAt (item (now (start .args .bound))) (item (now (start .args .refined))) (item (now (start .args .rounds)))) (start .args .n)} (record { fits = omega (arith, start .pre .1, segment-most (item (now (start .args .bound))) (item (now (start .args .refined))) (item (now (start .args .rounds))) (start .args .n)) }))
 
 same-length : tie.Need-same-length
 same-length c = search needs
