@@ -8,7 +8,7 @@ use Rattle.common.specs.Sums.{when}
 use Rattle.common.specs.Checks.{verdict}
 use Rattle.common.specs.Runs.{filled}
 use Rattle.sheet.specs.Sheets.{sheetOf, Sheet}
-use Rattle.sheet.specs.Whole.{Outcome, placeOf, recordsOf, reading}
+use Rattle.sheet.specs.Whole.{sheetIn, Outcome, placeOf, recordsOf, reading}
 use Rattle.sheet.specs.Whole.Outcome.{Read}
 use Rattle.bits.specs.Sets.{setOf}
 use Rattle.table.specs.Table.{Asked}
@@ -99,11 +99,6 @@ unfolding missRow late
 missing A = when (leb (missRow A byRank) (A .rows)) (late A byRank (missRow A byRank))
 
 -- ---- From the bytes of a sheet to these arrays
-
--- what the first record and n variables behind it say
-unfoldable pub sheetIn : List ℕ → ℕ → Sheet
-unfolding sheetOf recordsOf
-sheetIn s n = sheetOf (recordsOf s (suc n))
 
 -- these bytes are a WorldFIP sheet of n variables, and the first of them stands at a place
 pub record Ready (s : List ℕ) (first n : ℕ) : Type 0 where
