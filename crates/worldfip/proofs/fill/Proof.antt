@@ -9,7 +9,7 @@ use Rattle.table.specs.Table.{Asked}
 use Rattle.table.specs.Build.{byRank, row}
 use Rattle.table.specs.Traffic.{Traffic, plain, askedOf, missingOf, rowOf}
 use Rattle.worldfip.specs.Held.{held, given, missing}
-use Rattle.worldfip.proofs.Answers.{tells-12, tells-rows, tells-same}
+use Rattle.worldfip.proofs.Answers.{gives-12, gives-none, tells, tells-same}
 use Rattle.worldfip.proofs.Tied.{few, whole, slots-are, variable-is, places-within, usable, asked-is, misses, misses-not, best-within, best-is}
 use Rattle.worldfip.proofs.fill.Statement.{statement}
 use Rattle.worldfip.proofs.fill.Tie as tie
@@ -93,7 +93,8 @@ returns c =
     let e : _ ≡ missingOf (traffic s) =
     variable-is (s .pre .0) (c .before .before .before .before .before .before .before .before .before .by-rank .ensures) (c .first-of .result) (best c) ∙ best-is D x some (c .first-of .ensures .0) in
     rw e
-    (tells-12 (traffic s) (s .args .out .now) (p .some) (omega (arith, p .counted, p .few)) (omega (arith, p .counted, p .fits)) (misses D x some))
+    (tells (traffic s) (s .args .out .now)
+    (gives-12 (traffic s) _ (p .some) (omega (arith, p .counted, p .few)) (omega (arith, p .counted, p .fits)) (misses D x some)))
 
 copy-requires : tie.Need-copy-requires
 copy-requires c κs = search needs
@@ -114,8 +115,9 @@ returns-2 c =
     (λ m l. c .before .before .before .before .before .before .before .before .build .ensures .1 none m l ∙ ap (λ (a : Asked). row a byRank m) (asked (c .before .before .before .before .before .before .before .before .before .before .before))) in
     tells-same (traffic s) (s .args .out .now) _ _ _ _ _ _ _ _ (p .micro) (slots-are (s .pre .0) (p .micro)) (p .counted)
     (c .before .before .copy .ensures ∙ (same ∙ ap (λ (k : ℕ). filled (rowOf (traffic s)) k (s .args .out .now)) (p .counted)))
-    (tells-rows (traffic s) (s .args .out .now) (p .some) (omega (arith, p .counted, p .few)) (omega (arith, p .counted, p .fits))
-    (misses-not (s .pre .0 .declares) (late (c .before .before .before .before .before .before .before .before)) none))
+    (tells (traffic s) (s .args .out .now)
+    (gives-none (traffic s) _ (p .some) (omega (arith, p .counted, p .few)) (omega (arith, p .counted, p .fits))
+    (misses-not (s .pre .0 .declares) (late (c .before .before .before .before .before .before .before .before)) none)))
 
 pub fill-spec : {M : Type 1} → statement M
 fill-spec =

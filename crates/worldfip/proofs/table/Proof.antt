@@ -6,7 +6,7 @@ use borrow.Author.Needs.{needs}
 use lib.ListN.{length}
 use Rattle.table.specs.Traffic.{Traffic, microcycle, slots, rows}
 use Rattle.worldfip.specs.Held.{held, Past}
-use Rattle.worldfip.proofs.Answers.{tells-10, tells-11, tells-13}
+use Rattle.worldfip.proofs.Answers.{gives-10, gives-11, gives-13, tells}
 use Rattle.worldfip.proofs.Tied.{cleared, micro-is, whole, none-fits, some-fit, rows-are}
 use Rattle.worldfip.proofs.table.Statement.{statement}
 use Rattle.worldfip.proofs.table.Tie as tie
@@ -45,13 +45,13 @@ microcycle-requires : tie.Need-microcycle-requires
 microcycle-requires c κs = search needs
 
 returns : tie.Need-returns
-returns c = tells-10 (traffic (c .before .before .before .before)) (c .before .before .before .before .args .out .now) (none-fits (c .before .before .before .before .pre) (micro (c .before)) (c .if1 .taken))
+returns c = tells (traffic (c .before .before .before .before)) (c .before .before .before .before .args .out .now) (gives-10 (traffic (c .before .before .before .before)) _ (none-fits (c .before .before .before .before .pre) (micro (c .before)) (c .if1 .taken)))
 
 rows-of-requires : tie.Need-rows-of-requires
 rows-of-requires c κs = whole (c .before .before .before .before .pre) (micro (c .before))
 
 returns-2 : tie.Need-returns-2
-returns-2 c = tells-11 (traffic (c .before .before .before .before .before .before)) (c .before .before .before .before .before .before .args .out .now) (some (c .before .before)) (omega (arith, counted (c .before), c .if2 .taken))
+returns-2 c = tells (traffic (c .before .before .before .before .before .before)) (c .before .before .before .before .before .before .args .out .now) (gives-11 (traffic (c .before .before .before .before .before .before)) _ (some (c .before .before)) (omega (arith, counted (c .before), c .if2 .taken)))
 
 cast-need : tie.Need-cast-need
 cast-need c = search needs
@@ -59,7 +59,9 @@ cast-need c = search needs
 returns-3 : tie.Need-returns-3
 returns-3 c =
     let e = exact (c .before) in
-    rw e (tells-13 (traffic (c .before .before .before .before .before .before .before)) (c .before .before .before .before .before .before .before .args .out .now) (some (c .before .before .before)) (omega (arith, e, c .before .if2 .left)) (omega (arith, e, c .if3 .taken)))
+    rw e
+    (tells (traffic (c .before .before .before .before .before .before .before)) (c .before .before .before .before .before .before .before .args .out .now)
+    (gives-13 (traffic (c .before .before .before .before .before .before .before)) _ (some (c .before .before .before)) (omega (arith, e, c .before .if2 .left)) (omega (arith, e, c .if3 .taken))))
 
 slice-aggregate-fill : tie.Need-slice-aggregate-fill
 slice-aggregate-fill c = search needs
