@@ -26,7 +26,11 @@ use Rattle.profibus.specs.declared.answer.Plan.{Plan}
 use Rattle.profibus.proofs.Answers as profibus
 use Rattle.table.specs.Table.{Table}
 use Rattle.table.specs.Traffic.{Traffic, Declared, rows, askedOf, rowOf, missOf}
-use Rattle.table.proofs.Promises as table
+use Rattle.table.proofs.Promises as promises
+use Rattle.worldfip.specs.Answer as table
+use Rattle.worldfip.specs.Refusals as fip
+use Rattle.worldfip.specs.declared.answer.Plan as tablePlan
+use Rattle.worldfip.proofs.Refusals as worldfip
 
 -- ---- 'P-NET bounds and the least refined solution'
 
@@ -70,7 +74,15 @@ no-larger-target-passes = ring.largest
 -- the planner's contract fixes every row as `rowOf`; where nobody misses, those rows are a table: at most the slots in a row, and each
 -- variable in one row of each of its periods
 pub rows-are-a-table : (T : Traffic) → Declared T → rows T < missOf T → Table (askedOf T) (rowOf T)
-rows-are-a-table T declared = table.table-built T declared
+rows-are-a-table T declared = promises.table-built T declared
+
+-- `fip.Answers` is the page's list, 3, 10, 11, 13, 12 in this order, each with its condition and place, or the table
+module _ (s : List ℕ) (S : Sheet) (reads : reading s ≡ Read S) (room : ℕ) where
+  pub worldfip-answers-as-published : fip.Answers S room (table.planOf (reading s) room)
+  worldfip-answers-as-published = rw reads (worldfip.plan-answers s S (reading-read s S reads) room)
+
+  pub no-other-table : (p : tablePlan.Plan) → fip.Answers S room p → p ≡ table.planOf (reading s) room
+  no-other-table p a = rw reads (worldfip.answers-only s S (reading-read s S reads) room p a)
 
 -- ---- 'A timing refusal is given exactly if the published condition is broken and no refusal earlier in that page's order applies.'
 
