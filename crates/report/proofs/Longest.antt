@@ -7,6 +7,7 @@ use native.Mathlib.Omega.{arith}
 use native.Mathlib.Decide.{decLt}
 use lib.Dec.{eqb, ltb}
 use lib.ListN.{length, getD, length-append, List·getD-eq-default}
+use borrow.Author.Tests.{ltb-false}
 use Rattle.common.specs.Sums.{when}
 use Rattle.common.specs.Checks.{verdict, Verdict}
 use Rattle.common.specs.Checks.Verdict.{Passed, Refused}
@@ -24,8 +25,9 @@ use Rattle.profibus.specs.declared.answer.Plan.{Plan}
 use Rattle.profibus.specs.declared.answer.Plan.the-variants as ring
 use Rattle.table.specs.Traffic.{Traffic, microcycle, slots, rows, rowOf, variableOf, identifierAt}
 use Rattle.worldfip.specs.Answer.{variableAt, trafficOf, planChecks}
+use Rattle.report.specs.declared.Reported.the-variants as answer
 use Rattle.report.specs.Text.{word}
-use Rattle.report.specs.Whole.{mostText, mastersOf, segmentReport, ringReport, tableOf, tableBy, tableReport, reportOf}
+use Rattle.report.specs.Whole.{mostText, mastersOf, segmentReport, ringReport, tableOf, tableBy, tableReport, reportOf, answerOf}
 use Rattle.units.specs.Units.{us}
 use Rattle.report.proofs.Lengths.{Small, masters-most, ring-most, table-most, refusal-most}
 use Rattle.report.proofs.Segments.{masters-few}
@@ -91,3 +93,12 @@ no-report-longer s = split (eqb (getD s 0 0) 3) (eqb (getD s 0 0) 5)
     split true b = ring-longest (planOf (reading s))
     split false true = table-longest s (reading s) refl
     split false false = segment-longest s (planned s 32 32 32) refl
+
+-- what was written stands within the lent run
+pub written-within : (s : List ℕ) (room n : ℕ) → answer.Written n ≡ answerOf s room → n ≤ room
+unfolding answerOf
+written-within s room n e = split (ltb room mostText) refl e
+  where
+    split : (b : Bool) → ltb room mostText ≡ b → answer.Written n ≡ cond b answer.NoRoom (answer.Written (length (reportOf s))) → n ≤ room
+    split true q f = let z : _≡_ {A = ℕ} 0 1 = cc in absurd (omega arith)
+    split false q f = let k : n ≡ length (reportOf s) = cc in omega (arith, no-report-longer s, ltb-false room mostText q)

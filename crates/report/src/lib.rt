@@ -12,6 +12,7 @@ use units::Micros;
 ghost use mathlib.Core.Path.{_≡_};
 ghost use Prim.Native.Nat.{_≤_};
 ghost use lib.ListN.{length};
+ghost use Rattle.sheet.specs.Lengths.{enough};
 ghost use Rattle.sheet.specs.Whole.{reading};
 ghost use Rattle.profibus.specs.Planned.{planOf as ringPlan};
 ghost use Rattle.units.specs.Units.{us};
@@ -20,6 +21,9 @@ ghost use Rattle.report.specs.Text.{Wrote, item};
 ghost use Rattle.report.specs.Lines.{segmentText, tableText};
 ghost use Rattle.report.specs.Whole.{mostText, segmentReport, ringReport, tableReport, reportOf, answerOf, runOf};
 
+// The first bytes of a sheet decide its report: a buffer of so many serves, however long the sheet is.
+pub const ENOUGH: usize = 9_614;
+
 // No report is longer.
 pub const MOST_TEXT: usize = 1_613_930;
 
@@ -27,6 +31,20 @@ pub const MOST_TEXT: usize = 1_613_930;
 pub enum Reported {
     Written(usize),
     NoRoom,
+}
+
+// Room for what decides a report.
+pub fn sheet_buffer() -> [u8; ENOUGH]
+    ensures { λ r. ⌜ enough ≡ length r ⌝ }
+{
+    [0; ENOUGH]
+}
+
+// Room for every report.
+pub fn text_buffer() -> [u8; MOST_TEXT]
+    ensures { λ r. ⌜ mostText ≡ length r ⌝ }
+{
+    [0; MOST_TEXT]
 }
 
 fn put_segment(out: &mut [u8], bound: &[u32], refined: &[u32], rounds: &[u32], n: usize) -> usize
