@@ -1,6 +1,5 @@
 -- How long the report's texts are at most, so that room is tested once. Assumes nothing.
-use mathlib.Core.Path.{_≡_, refl, sym, ap, _∙_}
-use mathlib.Core.List.{List, [], _∷_, _++_}
+use mathlib.Core.List.{List, [], _++_}
 use mathlib.Core.Bool.{Bool, true, false, cond}
 use Prim.Native.Nat.{ℕ, zero, suc, _+_, _*_, _/_, _%_, _^_, _≤_, _<_}
 use native.Mathlib.Nat.{suc-mul}
@@ -9,7 +8,7 @@ use lib.Dec.{leb, eqb}
 use lib.ListN.{length, length-append}
 use borrow.Author.Tests.{ltb-false}
 use Rattle.common.specs.Sums.{firstOf}
-use Rattle.common.proofs.Firsts.{First, first-is}
+use Rattle.common.proofs.Firsts.{first-is}
 use Rattle.profibus.specs.declared.answer.RingPeriods.{RingPeriods}
 use Rattle.segment.specs.Segment.{Segment, count, bound}
 use Rattle.segment.specs.Refined.{refined, rounds}

@@ -1,19 +1,18 @@
 -- No report is longer than `mostText`, whatever the bytes are: so one test of room serves them all. Assumes nothing.
-use mathlib.Core.Path.{_≡_, refl, sym, ap, _∙_}
-use mathlib.Core.List.{List, [], _++_}
+use mathlib.Core.Path.{_≡_, refl, ap, _∙_}
+use mathlib.Core.List.{List}
 use mathlib.Core.Bool.{Bool, true, false, cond}
-use Prim.Native.Nat.{ℕ, _+_, _-_, _*_, _^_, _≤_, _<_}
+use Prim.Native.Nat.{ℕ, _+_, _-_, _^_, _≤_, _<_}
 use native.Mathlib.Omega.{arith}
 use native.Mathlib.Decide.{decLt}
 use lib.Dec.{eqb, ltb}
-use lib.ListN.{length, getD, length-append, List·getD-eq-default}
+use lib.ListN.{length, getD, List·getD-eq-default}
 use borrow.Author.Tests.{ltb-false}
 use Rattle.common.specs.Sums.{when}
 use Rattle.common.specs.Checks.{verdict, Verdict}
 use Rattle.common.specs.Checks.Verdict.{Passed, Refused}
 use Rattle.format.specs.Kinds.{nothing}
-use Rattle.format.specs.declared.Record.{Record}
-use Rattle.format.proofs.Ranges.{VariableRanges, variable-ranges}
+use Rattle.format.proofs.Ranges.{variable-ranges}
 use Rattle.sheet.specs.Sheets.{Sheet}
 use Rattle.sheet.specs.Whole.{Outcome, reading}
 use Rattle.sheet.specs.Whole.Outcome.{Read, Not}
@@ -23,11 +22,10 @@ use Rattle.pnet.specs.Planned.{planned}
 use Rattle.profibus.specs.Planned.{planOf}
 use Rattle.profibus.specs.declared.answer.Plan.{Plan}
 use Rattle.profibus.specs.declared.answer.Plan.the-variants as ring
-use Rattle.table.specs.Traffic.{Traffic, microcycle, slots, rows, rowOf, variableOf, identifierAt}
+use Rattle.table.specs.Traffic.{microcycle, slots, rows, rowOf, variableOf, identifierAt}
 use Rattle.worldfip.specs.Answer.{variableAt, trafficOf, planChecks}
 use Rattle.report.specs.declared.Reported.the-variants as answer
-use Rattle.report.specs.Text.{word}
-use Rattle.report.specs.Whole.{mostText, mastersOf, segmentReport, ringReport, tableOf, tableBy, tableReport, reportOf, answerOf}
+use Rattle.report.specs.Whole.{mostText, segmentReport, ringReport, tableOf, tableBy, tableReport, reportOf, answerOf}
 use Rattle.units.specs.Units.{us}
 use Rattle.report.proofs.Lengths.{Small, masters-most, ring-most, table-most, refusal-most}
 use Rattle.report.proofs.Segments.{masters-few}

@@ -1,18 +1,17 @@
 -- Laws of decimal numbers as text: what the digits say, that none leads with a zero, and how many there are. Assumes nothing.
-use mathlib.Core.Path.{_≡_, refl, sym, ap, _∙_, subst}
+use mathlib.Core.Path.{_≡_, refl, sym, ap, _∙_}
 use mathlib.Core.List.{List, [], _∷_, _++_}
-use mathlib.Core.Bool.{true, false}
-use Prim.Native.Nat.{ℕ, zero, suc, _+_, _-_, _*_, _/_, _%_, _^_, _≤_, _<_}
-use native.Mathlib.Nat.{pow-suc, pow-succ', pow-le-pow-right, one-le-pow, div-div-eq-div-mul, div-lt-iff-lt-mul, le-div-iff-mul-le, div-add-mod', add-zero}
+use Prim.Native.Nat.{ℕ, zero, suc, _+_, _-_, _*_, _/_, _^_, _≤_, _<_}
+use native.Mathlib.Nat.{pow-suc, pow-succ', one-le-pow, div-div-eq-div-mul, div-lt-iff-lt-mul, le-div-iff-mul-le}
 use native.Mathlib.Numerals.{add-one}
 use native.Mathlib.Omega.{arith}
 use native.Mathlib.Decide.{ℕ-discrete}
-use lib.Dec.{lit<, lit≤}
+use lib.Dec.{lit<}
 use lib.ListN.{length, getD, set, length-append, List·getD-append}
 use lib.Seq.{sets}
 use borrow.Author.Tests.{lt-ltb, le-ltb, ltb-true, ltb-false}
 use Rattle.common.specs.Sums.{firstOf}
-use Rattle.common.proofs.Firsts.{First, first-is, first-hit}
+use Rattle.common.proofs.Firsts.{first-is, first-hit}
 use Rattle.report.specs.Text.{digit, places, holds, widthOf, decimal}
 use Rattle.report.proofs.Writing.{sets-more, sets-after}
 

@@ -1,7 +1,6 @@
 -- Page 01, 'Sheets worked by hand': the report's texts as the page prints them. Assumes nothing.
 use mathlib.Core.Path.{_≡_, refl}
-use mathlib.Core.List.{List, [], _∷_, _++_}
-use Prim.Native.Nat.{ℕ}
+use mathlib.Core.List.{[], _∷_}
 use Rattle.common.specs.Sums.{firstOf, up}
 use Rattle.units.specs.Units.{us, microsUp}
 use Rattle.report.specs.Text.{word, _·_, places, holds, widthOf, decimal, item, texts}

@@ -1,23 +1,21 @@
 -- A P-NET report: what the three runs of an accepted sheet give is what the segment's figures are, master by master. Assumes nothing.
 use mathlib.Core.Path.{_≡_, refl, sym, ap, _∙_}
-use mathlib.Core.List.{List, [], _++_}
-use mathlib.Core.Bool.{Bool, true, false, cond, _||_}
-use Prim.Native.Nat.{ℕ, zero, suc, _+_, _*_, _≤_, _<_}
+use mathlib.Core.List.{List, _++_}
+use mathlib.Core.Bool.{Bool, true, false, _||_}
+use Prim.Native.Nat.{ℕ, _+_, _*_, _≤_, _<_}
 use native.Mathlib.Nat.{mul-le-mul, zero-mul}
 use native.Mathlib.Omega.{arith}
 use native.Mathlib.Decide.{ℕ-discrete}
 use lib.Dec.{eqb, ltb}
-use lib.ListN.{length, getD, drop, replicate, List·getD-append}
-use borrow.Author.Tests.{eq-eqb, ne-eqb, ltb-false}
-use Rattle.common.specs.Sums.{upto}
+use lib.ListN.{drop, List·getD-append}
+use borrow.Author.Tests.{ne-eqb, ltb-false}
 use Rattle.common.specs.Runs.{tab, filled}
 use Rattle.common.specs.Checks.{verdict, Verdict}
 use Rattle.common.specs.Checks.Verdict.{Passed, Refused}
 use Rattle.common.proofs.Checks.{Clear, passed-then}
-use Rattle.common.proofs.Checks.Clear.{none, and}
+use Rattle.common.proofs.Checks.Clear.{and}
 use Rattle.common.proofs.Runs.{length-tab, getD-tab}
 use Rattle.common.proofs.Sums.{upto-term}
-use Rattle.units.specs.Units.{bp}
 use Rattle.sheet.specs.Sheets.{Sheet}
 use Rattle.sheet.specs.Whole.{Outcome, orElse, reading}
 use Rattle.sheet.specs.Whole.Outcome.{Read, Not}
@@ -27,8 +25,8 @@ use Rattle.segment.proofs.Holds.{hold-at-least}
 use Rattle.pnet.specs.Planned.{planChecks, plannedBy, planned, planOf, atPlace, runOf}
 use Rattle.pnet.specs.declared.answer.Plan.the-variants as answer
 use Rattle.report.proofs.Writing.{texts-same}
-use Rattle.report.specs.Text.{word, item, texts}
-use Rattle.report.specs.Lines.{masterLine, masterText, masterAt, segmentText, refusalText}
+use Rattle.report.specs.Text.{word, item}
+use Rattle.report.specs.Lines.{masterText, masterAt, segmentText, refusalText}
 use Rattle.report.specs.Whole.{masterOf, mastersOf, segmentReport}
 
 -- ---- A master without streams is the one whose bound is 0

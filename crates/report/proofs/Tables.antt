@@ -1,27 +1,25 @@
 -- A WorldFIP report: what the lent run and the identifiers of an accepted sheet give is the table that the sheet asks for. Assumes nothing.
-use mathlib.Core.Path.{_≡_, refl, sym, ap, _∙_}
-use mathlib.Core.List.{List, [], _++_}
-use mathlib.Core.Bool.{Bool, true, false, cond, not}
+use mathlib.Core.Path.{_≡_, refl, ap, _∙_}
+use mathlib.Core.List.{List, _++_}
 use Prim.Native.Nat.{ℕ, _+_, _/_, _%_, _^_, _≤_, _<_}
 use native.Mathlib.Omega.{arith}
-use lib.Dec.{eqb, ltb}
-use lib.ListN.{length, getD}
+use lib.Dec.{eqb}
+use lib.ListN.{length}
 use borrow.Author.Tests.{eq-eqb, eqb-true, ltb-false, not-false}
-use Rattle.common.specs.Sums.{when}
 use Rattle.common.specs.Runs.{tab, filled}
 use Rattle.common.specs.Checks.{verdict, Verdict}
 use Rattle.common.specs.Checks.Verdict.{Passed, Refused}
 use Rattle.common.proofs.Checks.{Clear, passed-then}
-use Rattle.common.proofs.Checks.Clear.{none, and}
+use Rattle.common.proofs.Checks.Clear.{and}
 use Rattle.common.proofs.Runs.{getD-tab}
 use Rattle.units.specs.Units.{us}
 use Rattle.sheet.specs.Sheets.{Sheet}
 use Rattle.sheet.specs.Whole.{Outcome}
 use Rattle.sheet.specs.Whole.Outcome.{Read, Not}
-use Rattle.table.specs.Traffic.{Traffic, microcycle, slots, rows, rowOf, identifierAt}
+use Rattle.table.specs.Traffic.{microcycle, slots, rows, rowOf, identifierAt}
 use Rattle.worldfip.specs.Answer.{trafficOf, tableChecks, planChecks, planBy, planOf, runBy, runOf, identifierOf}
 use Rattle.worldfip.specs.declared.answer.Plan.the-variants as answer
-use Rattle.report.specs.Text.{word, item, texts}
+use Rattle.report.specs.Text.{item}
 use Rattle.report.specs.Lines.{nameText, nameAt, rowLine, rowAt, tableHead, tableText, refusalText}
 use Rattle.report.specs.Whole.{tableOf, tableBy, tableReport}
 use Rattle.report.proofs.Writing.{texts-same}

@@ -1,6 +1,6 @@
 -- Page 01, 'Sheets worked by hand', the third case, from its bytes to its whole report. Assumes nothing.
 use mathlib.Core.Path.{_≡_, refl}
-use mathlib.Core.List.{List, [], _∷_, _++_}
+use mathlib.Core.List.{List, [], _∷_}
 use Prim.Native.Nat.{ℕ}
 use Rattle.common.specs.Checks.{verdict}
 use Rattle.common.specs.Sums.{upto, greatest, up, firstOf}

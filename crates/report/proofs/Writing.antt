@@ -5,9 +5,9 @@ use Prim.Native.Nat.{ℕ, zero, suc, _+_, _-_, _≤_, _<_}
 use native.Mathlib.Nat.{add-zero, zero-add, add-suc, suc-add, le-refl}
 use native.Mathlib.Numerals.{add-one}
 use native.Mathlib.Omega.{arith}
-use lib.ListN.{length, drop, set, length-append}
+use lib.ListN.{length, drop, set, replicate, length-append, length-replicate}
 use lib.Seq.{sets, sets-eq, length-sets, set-comm}
-use Rattle.report.specs.Text.{decimal, counted, texts, Room, Wrote}
+use Rattle.report.specs.Text.{decimal, counted, item, texts, Zeros, Room, Wrote}
 
 -- ---- Stores of a text
 
@@ -104,3 +104,14 @@ wrote-front {o} {t} {o'} {r} w h = (
   omega (arith, w .ends),
   w .stored ∙ (sets-eq t o 0 (omega arith) ∙ ap (λ (k : ℕ). t ++ drop k o) (zero-add (length t))),
 )
+
+-- ---- A run that nothing was stored in
+
+zero-at : (n i : ℕ) → item (replicate n 0) i ≡ 0
+zero-at zero i = refl
+zero-at (suc n) zero = refl
+zero-at (suc n) (suc i) = zero-at n i
+
+-- the element type is written out: left to be found, a long run would be computed
+pub zeros : (n : ℕ) → Zeros n (replicate {0} {A = ℕ} n 0)
+zeros n = record { long = sym {A = ℕ} (length-replicate {0} {A = ℕ} n 0); each = zero-at n }

@@ -1,7 +1,7 @@
 -- Page 01, 'Sheets worked by hand': the report's lines, each ended by one newline. Words do not change with the count. Assumes nothing.
-use Prim.Native.Nat.{ℕ, suc, _+_, _/_, _%_, _^_}
-use mathlib.Core.List.{List, [], _∷_, _++_}
-use mathlib.Core.Bool.{Bool, cond, _||_}
+use Prim.Native.Nat.{ℕ, _+_, _/_, _%_, _^_}
+use mathlib.Core.List.{List, []}
+use mathlib.Core.Bool.{cond}
 use lib.Dec.{leb, eqb}
 use Rattle.profibus.specs.declared.answer.RingPeriods.{RingPeriods}
 use Rattle.units.specs.Units.{bp, microsUp}

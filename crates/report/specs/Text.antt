@@ -61,6 +61,11 @@ texts t (suc n) = texts t n · t n
 
 -- ---- Writing
 
+-- n zeros
+pub record Zeros (n : ℕ) (run : List ℕ) : Type 0 where
+  pub long : n ≡ length run
+  pub each : (i : ℕ) → item run i ≡ 0
+
 -- the run has room for the text t from place `at` on
 pub record Room (run : List ℕ) (at : ℕ) (t : List ℕ) : Type 0 where
   pub fits : at + length t ≤ length run

@@ -49,6 +49,7 @@ ringReport (ring.Refused n p) = refusalText n p
 
 -- ---- WorldFIP
 
+-- the table that a sheet asks for, identifiers by rank
 unfoldable pub tableOf : Traffic → List ℕ
 tableOf T = tableText (us (microcycle T)) (slots T) (rows T) (rowOf T) (identifierAt T)
 
@@ -63,7 +64,8 @@ tableReport (Not n p) = refusalText n p
 
 -- ---- Any sheet
 
--- the first byte picks the planner: 3 PROFIBUS, 5 WorldFIP, and P-NET for all others, whose reading every planner refuses alike unless it is 1
+-- the first byte picks the planner: 3 PROFIBUS, 5 WorldFIP, else P-NET. Where it is none of 1, 3 and 5, reading refuses, and every planner
+-- reports that alike
 unfoldable pub reportOf : List ℕ → List ℕ
 reportOf s =
     cond (eqb (getD s 0 0) 3) (ringReport (planOf (reading s)))

@@ -17,7 +17,7 @@ ghost use Rattle.sheet.specs.Whole.{reading};
 ghost use Rattle.profibus.specs.Planned.{planOf as ringPlan};
 ghost use Rattle.units.specs.Units.{us};
 ghost use Rattle.pnet.specs.Planned.{planned};
-ghost use Rattle.report.specs.Text.{Wrote, item};
+ghost use Rattle.report.specs.Text.{Zeros, Wrote, item};
 ghost use Rattle.report.specs.Lines.{segmentText, tableText};
 ghost use Rattle.report.specs.Whole.{mostText, segmentReport, ringReport, tableReport, reportOf, answerOf, runOf};
 
@@ -35,14 +35,14 @@ pub enum Reported {
 
 // Room for what decides a report.
 pub fn sheet_buffer() -> [u8; ENOUGH]
-    ensures { λ r. ⌜ enough ≡ length r ⌝ }
+    ensures { λ r. ⌜ Zeros enough r ⌝ }
 {
     [0; ENOUGH]
 }
 
 // Room for every report.
 pub fn text_buffer() -> [u8; MOST_TEXT]
-    ensures { λ r. ⌜ mostText ≡ length r ⌝ }
+    ensures { λ r. ⌜ Zeros mostText r ⌝ }
 {
     [0; MOST_TEXT]
 }

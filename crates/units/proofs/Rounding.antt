@@ -1,6 +1,6 @@
 -- Page 01, 'Units': what the two rounding rules are, each of them fixed by its words alone. Assumes nothing.
-use mathlib.Core.Path.{_≡_, refl, ap}
-use Prim.Native.Nat.{ℕ, _+_, _*_, _/_, _^_, _≤_, _<_, min}
+use mathlib.Core.Path.{_≡_, ap}
+use Prim.Native.Nat.{_*_, _/_, _^_, _≤_, _<_}
 use native.Mathlib.Omega.{arith}
 use Rattle.common.specs.Sums.{up}
 use Rattle.units.specs.Units.{bp, us, Within, microsUp, periodsDown}

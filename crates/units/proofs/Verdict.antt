@@ -1,6 +1,6 @@
 -- What the two directions of rounding are for. A bound that is turned up into us meets a deadline exactly if it meets the deadline turned
 -- down into bp: whichever unit a verdict is given in, it is the same. Assumes nothing.
-use Prim.Native.Nat.{ℕ, _^_, _≤_, _<_}
+use Prim.Native.Nat.{_^_, _≤_, _<_}
 use native.Mathlib.Omega.{arith}
 use Rattle.common.specs.Sums.{up}
 use Rattle.units.specs.Units.{Within, microsUp, periodsDown}

@@ -1,6 +1,6 @@
 -- Page 01, 'Units': one bit period is 625/48 us; a bound in bp becomes us rounded up, a deadline in us becomes bp rounded down.
 -- The two kinds of count are two types here too. Assumes nothing.
-use Prim.Native.Nat.{ℕ, _+_, _-_, _*_, _/_, _^_, _≤_, min}
+use Prim.Native.Nat.{ℕ, _-_, _*_, _/_, _^_, _≤_, min}
 use Rattle.common.specs.Sums.{up}
 use Rattle.units.specs.declared.BitPeriods.{BitPeriods}
 use Rattle.units.specs.declared.Micros.{Micros}

@@ -1,7 +1,6 @@
 -- `planner::read_all` reads no more than the buffer holds. The loop's invariant: `at` is within the buffer, whose length stays. Assumes nothing.
 use mathlib.Core.Path.{_≡_}
 use Prim.Native.Nat.{_-_, _≤_}
-use native.Mathlib.Omega.{arith}
 use borrow.Author.Needs.{needs}
 use lib.ListN.{length}
 use Rattle.planner.proofs.read_all.Statement.{statement}

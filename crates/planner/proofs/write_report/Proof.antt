@@ -1,9 +1,7 @@
 -- `planner::write_report` writes as many bytes as the report has, which stand within the buffer. Assumes nothing.
-use mathlib.Core.Path.{_≡_, sym, _∙_}
-use Prim.Native.Nat.{_≤_}
+use mathlib.Core.Path.{sym, _∙_}
 use native.Mathlib.Omega.{arith}
 use borrow.Author.Needs.{needs}
-use lib.ListN.{length}
 use lib.Seq.{length-take-le}
 use Rattle.report.proofs.Longest.{written-within}
 use Rattle.planner.proofs.write_report.Statement.{statement}

@@ -1,11 +1,8 @@
 -- `report::put_segment` stores the heading and the masters' lines. Assumes nothing.
-use mathlib.Core.List.{_++_}
-use Prim.Native.Nat.{ℕ, _+_, _*_, _^_, _≤_, _<_}
 use native.Mathlib.Omega.{arith}
 use borrow.Author.Needs.{needs}
 use denote.Ref.{now}
-use lib.ListN.{length}
-use Rattle.report.specs.Text.{item, texts, Room}
+use Rattle.report.specs.Text.{item, texts}
 use Rattle.report.specs.Lines.{masterAt, segmentText}
 use Rattle.report.proofs.Lengths.{segment-most}
 use Rattle.report.proofs.Writing.{wrote-then, room-before, room-after}

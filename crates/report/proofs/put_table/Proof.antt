@@ -1,11 +1,8 @@
 -- `report::put_table` stores the two first lines and the rows. Assumes nothing.
-use mathlib.Core.List.{_++_}
-use Prim.Native.Nat.{ℕ, _+_, _*_, _^_, _≤_, _<_}
 use native.Mathlib.Omega.{arith}
 use borrow.Author.Needs.{needs}
 use denote.Ref.{now}
-use lib.ListN.{length}
-use Rattle.report.specs.Text.{item, texts, Room}
+use Rattle.report.specs.Text.{item, texts}
 use Rattle.report.specs.Lines.{rowAt, tableText}
 use Rattle.units.specs.Units.{us}
 use Rattle.report.proofs.Lengths.{table-most}

@@ -1,13 +1,10 @@
 -- `report::report` writes the whole report of any bytes, or nothing where a report might not fit. Assumes nothing.
-use mathlib.Core.List.{List, _++_}
-use mathlib.Core.Path.{_≡_, refl, sym, ap, _∙_}
-use Prim.Native.Nat.{ℕ, _≤_}
+use mathlib.Core.Path.{ap}
 use native.Mathlib.Omega.{arith}
 use borrow.Author.Needs.{needs}
 use borrow.Author.Tests.{lt-ltb, le-ltb}
 use denote.Ref.{now}
-use lib.ListN.{length, drop}
-use Rattle.report.specs.Whole.{mostText, reportOf, answerOf, runOf}
+use Rattle.report.specs.Whole.{mostText, answerOf, runOf}
 use Rattle.report.specs.declared.Reported.the-variants as answer
 use Rattle.report.proofs.Longest.{no-report-longer}
 use Rattle.report.proofs.Writing.{wrote-front}

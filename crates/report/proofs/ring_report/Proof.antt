@@ -1,11 +1,7 @@
 -- `report::ring_report` stores the report of a PROFIBUS plan. Assumes nothing.
-use mathlib.Core.Path.{_≡_, sym, ap, _∙_}
-use Prim.Native.Nat.{ℕ, _+_, _^_, _≤_, _<_}
 use native.Mathlib.Omega.{arith}
 use borrow.Author.Needs.{needs}
-use denote.Ref.{now}
 use Rattle.report.specs.Whole.{ringReport}
-use Rattle.report.specs.Text.{Room}
 use Rattle.report.proofs.Lengths.{ring-most, refusal-most}
 use Rattle.report.proofs.ring_report.Statement.{statement}
 use Rattle.report.proofs.ring_report.Tie as tie

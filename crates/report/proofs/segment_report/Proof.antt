@@ -1,12 +1,11 @@
 -- `report::segment_report` stores the report of a P-NET sheet. Assumes nothing.
-use mathlib.Core.Path.{_≡_, sym, ap, _∙_}
+use mathlib.Core.Path.{sym, _∙_}
 use mathlib.Core.List.{List}
 use Prim.Native.Nat.{ℕ}
 use native.Mathlib.Omega.{arith}
 use borrow.Author.Needs.{needs}
 use denote.Ref.{now}
 use lib.ListN.{replicate}
-use Rattle.report.specs.Whole.{segmentReport}
 use Rattle.report.proofs.Segments.{segment-of-runs, segment-refused}
 use Rattle.report.proofs.Lengths.{refusal-most}
 use Rattle.report.proofs.segment_report.Statement.{statement}

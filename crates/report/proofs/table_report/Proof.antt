@@ -1,10 +1,9 @@
 -- `report::table_report` stores the report of a WorldFIP sheet. Assumes nothing.
-use mathlib.Core.Path.{_≡_, refl, sym, ap, _∙_}
+use mathlib.Core.Path.{refl, sym, ap, _∙_}
 use mathlib.Core.List.{List}
 use Prim.Native.Nat.{ℕ}
 use native.Mathlib.Omega.{arith}
 use borrow.Author.Needs.{needs}
-use denote.Ref.{now}
 use lib.ListN.{length, replicate}
 use Rattle.common.proofs.Runs.{length-tab}
 use Rattle.report.proofs.Tables.{table-of-run, table-refused}

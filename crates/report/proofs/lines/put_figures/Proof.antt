@@ -1,6 +1,6 @@
 -- `report::lines::put_figures` stores R and W, each in both units. Assumes nothing.
 use mathlib.Core.Path.{_≡_, sym, subst}
-use mathlib.Core.List.{List, _++_, append-assoc}
+use mathlib.Core.List.{_++_, append-assoc}
 use borrow.Author.Needs.{needs}
 use Rattle.units.specs.declared.BitPeriods.{BitPeriods}
 use Rattle.report.specs.Text.{word, Room}

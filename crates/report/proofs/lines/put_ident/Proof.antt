@@ -1,11 +1,11 @@
 -- `report::lines::put_ident` stores an identifier if its bit is set, and nothing else. Assumes nothing.
-use mathlib.Core.List.{List, [], _++_, append-nil}
-use mathlib.Core.Path.{_≡_, subst, sym, ap, _∙_}
+use mathlib.Core.List.{[], append-nil}
+use mathlib.Core.Path.{_≡_, subst}
 use Prim.Native.Nat.{ℕ}
 use borrow.Author.Tests.{eq-eqb, ne-eqb}
 use borrow.Author.Needs.{needs}
 use Rattle.report.specs.Lines.{nameText}
-use Rattle.report.specs.Text.{word, decimal, counted, Room}
+use Rattle.report.specs.Text.{word, counted, Room}
 use Rattle.report.proofs.Writing.{wrote-none}
 use Rattle.report.proofs.lines.put_ident.Statement.{statement}
 use Rattle.report.proofs.lines.put_ident.Tie as tie

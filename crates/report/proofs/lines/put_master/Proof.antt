@@ -1,8 +1,6 @@
 -- `report::lines::put_master` stores a master's line, and nothing for a master without streams. Assumes nothing.
-use mathlib.Core.Path.{subst}
 use borrow.Author.Needs.{needs}
 use borrow.Author.Tests.{eq-eqb, ne-eqb}
-use Rattle.report.specs.Text.{Room}
 use Rattle.report.specs.Lines.{masterText}
 use Rattle.report.proofs.Writing.{wrote-none}
 use Rattle.report.proofs.lines.put_master.Statement.{statement}

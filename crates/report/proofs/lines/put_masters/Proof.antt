@@ -1,5 +1,5 @@
 -- `report::lines::put_masters` stores the lines of n masters. The loop's invariant: the first i lines are stored. Assumes nothing.
-use Prim.Native.Nat.{_+_, _-_, _≤_}
+use Prim.Native.Nat.{_-_, _≤_}
 use native.Mathlib.Omega.{arith}
 use borrow.Author.Needs.{needs}
 use denote.Ref.{now}

@@ -1,10 +1,10 @@
 -- `report::lines::put_place` stores a refusal's place in words. Assumes nothing.
-use mathlib.Core.Path.{_≡_, refl, subst}
+use mathlib.Core.Path.{_≡_, subst}
 use Prim.Native.Nat.{ℕ, _≤_, _<_}
 use borrow.Author.Tests.{le-leb, lt-leb, eq-eqb, ne-eqb}
 use borrow.Author.Needs.{needs}
 use Rattle.report.specs.Lines.{placeText, placeEnd}
-use Rattle.report.specs.Text.{word, decimal, counted, Room}
+use Rattle.report.specs.Text.{word, counted, Room}
 use Rattle.report.proofs.lines.put_place.Statement.{statement}
 use Rattle.report.proofs.lines.put_place.Tie as tie
 

@@ -1,6 +1,6 @@
 -- `report::lines::put_refusal` stores the line of a refusal. Assumes nothing.
 use mathlib.Core.Path.{_≡_, subst}
-use mathlib.Core.List.{List, [], _++_}
+use mathlib.Core.List.{[], _++_}
 use Prim.Native.Nat.{ℕ}
 use borrow.Author.Needs.{needs}
 use Rattle.report.specs.Text.{word, counted, Room}

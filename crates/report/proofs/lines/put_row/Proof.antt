@@ -1,5 +1,5 @@
 -- `report::lines::put_row` stores the line of a row. Assumes nothing.
-use mathlib.Core.List.{List, _++_}
+use mathlib.Core.List.{_++_}
 use mathlib.Core.Path.{_≡_, subst}
 use Prim.Native.Nat.{ℕ}
 use borrow.Author.Needs.{needs}

@@ -1,5 +1,5 @@
 -- `report::lines::put_rows` stores the rows. The loop's invariant: the first m are stored. Assumes nothing.
-use Prim.Native.Nat.{_+_, _-_, _≤_}
+use Prim.Native.Nat.{_-_, _≤_}
 use native.Mathlib.Omega.{arith}
 use borrow.Author.Needs.{needs}
 use denote.Ref.{now}

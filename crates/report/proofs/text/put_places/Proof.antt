@@ -1,14 +1,12 @@
 -- `report::text::put_places` stores k digits, the last one first. The loop's invariant: with the j digits that are left to store, the run is
 -- what it is to be. Assumes nothing.
 use mathlib.Core.Path.{_≡_, refl, sym, ap, _∙_}
-use mathlib.Core.List.{List}
-use Prim.Native.Nat.{ℕ, _+_, _-_, _/_, _%_, _≤_, _<_}
+use Prim.Native.Nat.{ℕ, _+_, _-_, _≤_}
 use native.Mathlib.Omega.{arith}
 use borrow.Author.Needs.{needs}
-use denote.Ref.{now}
-use lib.ListN.{length, set, length-set}
+use lib.ListN.{length, length-set}
 use lib.Seq.{sets}
-use Rattle.report.specs.Text.{digit, places}
+use Rattle.report.specs.Text.{places}
 use Rattle.report.proofs.Numbers.{length-places, last-digit-first}
 use Rattle.report.proofs.text.put_places.Statement.{statement}
 use Rattle.report.proofs.text.put_places.Tie as tie

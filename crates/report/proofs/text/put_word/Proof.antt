@@ -1,13 +1,13 @@
 -- `report::text::put_word` stores a word. The loop's invariant: the first j bytes of the word are stored. Assumes nothing.
 use mathlib.Core.Path.{_≡_, refl, sym, ap, _∙_}
-use mathlib.Core.List.{List, [], _∷_, _++_}
+use mathlib.Core.List.{List}
 use Prim.Native.Nat.{ℕ, _+_, _-_, _≤_, _<_}
 use native.Mathlib.Numerals.{add-one}
 use native.Mathlib.Omega.{arith}
 use borrow.Author.Needs.{needs}
 use denote.Ref.{now}
 use lib.ListN.{length, getD, take, set, length-set}
-use lib.Seq.{sets, length-sets, length-take-le, take-suc, take-length}
+use lib.Seq.{sets, length-take-le, take-suc, take-length}
 use Rattle.report.proofs.Writing.{sets-more}
 use Rattle.report.proofs.text.put_word.Statement.{statement}
 use Rattle.report.proofs.text.put_word.Tie as tie
