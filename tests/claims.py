@@ -35,7 +35,7 @@ def files_of(crate, name):
 
 
 def missing_names(text):
-    for crate, names in re.findall(r"(?:^|[|;])\s*([a-z_]+): ([^|]*)", text, re.M):
+    for crate, names in re.findall(r"(?:^|[|;])\s*([a-z_]+): ([^|;]*)", text, re.M):
         if not (CRATES / crate).is_dir():
             continue
         files = []
