@@ -1,7 +1,7 @@
 -- Identifiers play no part in ranks, microcycle, slots, rows and the table. Assumes nothing.
 use mathlib.Core.Path.{_≡_, refl}
 use Prim.Native.Nat.{ℕ}
-use Rattle.table.specs.Traffic.{Traffic, Declared, periodOf, plain, ahead, rankOf, variableOf, microcycle, slots, inRows, rows, periodAt, askedOf, missingOf}
+use Rattle.table.specs.Traffic.{Traffic, Declared, periodOf, plain, ahead, rankOf, variableOf, microcycle, slots, inRows, rows, periodAt, askedOf}
 
 -- T without its identifiers
 abbrev pub plainOf : Traffic → Traffic

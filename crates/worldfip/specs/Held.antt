@@ -8,7 +8,7 @@ use Rattle.common.specs.Sums.{when}
 use Rattle.common.specs.Checks.{verdict}
 use Rattle.common.specs.Runs.{filled}
 use Rattle.sheet.specs.Sheets.{sheetOf, Sheet}
-use Rattle.sheet.specs.Whole.{Outcome, placeOf, recordsOf, reading}
+use Rattle.sheet.specs.Whole.{placeOf, recordsOf, reading}
 use Rattle.sheet.specs.Whole.Outcome.{Read}
 use Rattle.bits.specs.Sets.{setOf}
 use Rattle.table.specs.Table.{Asked}
