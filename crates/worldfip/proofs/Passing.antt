@@ -13,12 +13,11 @@ use Rattle.common.specs.Sums.{when}
 use Rattle.common.specs.Checks.{Check, Verdict, verdict}
 use Rattle.common.specs.Checks.Verdict.{Passed, Refused}
 use Rattle.format.specs.declared.Met.{Met}
-use Rattle.format.specs.declared.Record.{Record}
 use Rattle.format.specs.Kinds.{nothing, metAt}
 use Rattle.format.proofs.Ranges.{VariableRanges, exchange-ranges, variable-ranges}
 use Rattle.sheet.specs.Sheets.{Sheet, sheetOf}
-use Rattle.sheet.specs.Whole.{Outcome, placeOf, reading, told}
-use Rattle.sheet.specs.Whole.Outcome.{Read, Not}
+use Rattle.sheet.specs.Whole.{sheetIn, Outcome, placeOf, reading}
+use Rattle.sheet.specs.Whole.Outcome.{Read}
 use Rattle.sheet.specs.declared.Reading.the-variants as answer
 use Rattle.sheet.proofs.Walk.{length-streams}
 use Rattle.sheet.proofs.Known.{Known, reading-read}
@@ -26,7 +25,7 @@ use Rattle.table.specs.Traffic.{Traffic, Declared, plain, periodOf, ahead, rank
 use Rattle.table.proofs.Plain.{plainOf, plain-declared, plain-variable}
 use Rattle.worldfip.specs.declared.answer.Plan.the-variants as plan
 use Rattle.worldfip.specs.Answer.{variableBy, variableAt, trafficOf, tableChecks, planChecks, planBy, runBy, planOf, runOf, identifierOf}
-use Rattle.worldfip.specs.Held.{numbered, held, Sheeted, Placed, Ranked, tablePlan, tableRun, sheetIn, Ready, Gathered}
+use Rattle.worldfip.specs.Held.{numbered, held, Sheeted, Placed, Ranked, tablePlan, tableRun, Ready, Gathered}
 use Rattle.worldfip.proofs.Tied.{variable-is}
 
 -- ---- A sheet that reads without refusal declares traffic within the ranges
@@ -44,34 +43,6 @@ module _ (s : List ℕ) (S : Sheet) (known : Known s S) (bus : S .head .kind ≡
         number-in = (known .some, known .few-variables bus);
         period-in = λ i lo hi. (let r = in-range (i - 1) (omega arith) in (r .period .least, r .period .most));
       }
-
--- ---- From the reader's answer
-
--- the answer `Accepted head n first`: the first record and n streams behind it are the whole sheet
-pub record Taken (s : List ℕ) (head : Record) (n first : ℕ) : Type 0 where
-  pub reads : reading s ≡ Read (sheetIn s n)
-  pub begins : head ≡ sheetIn s n .head
-  pub starts : first ≡ placeOf s 1
-
-pub taken : (s : List ℕ) (h : Record) (n f : ℕ) → told s (reading s) ≡ answer.Accepted h n f → Taken s h n f
-unfolding sheetIn
-taken s h n f e = split (reading s) refl e
-  where
-    split : (o : Outcome) → reading s ≡ o → told s o ≡ answer.Accepted h n f → Taken s h n f
-    split (Read S) q a =
-        let eh : h ≡ S .head = cc in
-        let en : length (S .streams) ≡ n = cc in
-        let ef : f ≡ placeOf s 1 = cc in
-        let w : S ≡ sheetIn s n = rw (← en) (reading-read s S q .says) in
-        record { reads = q ∙ ap Read w; begins = eh ∙ ap (λ (x : Sheet). x .head) w; starts = ef }
-    split (Not no' p) q a = let z : _≡_ {A = ℕ} 0 1 = cc in absurd (omega arith)
-
-pub not-taken : (s : List ℕ) (x p : ℕ) → told s (reading s) ≡ answer.Refused x p → reading s ≡ Not x p
-not-taken s x p e = split (reading s) refl e
-  where
-    split : (o : Outcome) → reading s ≡ o → told s o ≡ answer.Refused x p → reading s ≡ Not x p
-    split (Read S) q a = let z : _≡_ {A = ℕ} 0 1 = cc in absurd (omega arith)
-    split (Not y r) q a = let ex : y ≡ x = cc in let ep : r ≡ p = cc in cc
 
 -- ---- Record after record
 

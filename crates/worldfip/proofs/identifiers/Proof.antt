@@ -2,14 +2,15 @@
 use mathlib.Core.Path.{_≡_, sym, ap, _∙_}
 use native.Mathlib.Omega.{arith}
 use borrow.Author.Needs.{needs}
+use Rattle.sheet.proofs.Taken.{Taken, taken, not-taken}
 use Rattle.common.proofs.Runs.{tab-places}
 use Rattle.format.specs.declared.Record.{Record}
-use Rattle.sheet.specs.Whole.{Outcome, reading}
+use Rattle.sheet.specs.Whole.{sheetIn, Outcome, reading}
 use Rattle.worldfip.specs.Answer.{identifierOf}
-use Rattle.worldfip.specs.Held.{sheetIn, Ready}
+use Rattle.worldfip.specs.Held.{Ready}
 use Rattle.worldfip.proofs.Turns.{zero-run}
 use Rattle.worldfip.proofs.Tied.{few, places-within}
-use Rattle.worldfip.proofs.Passing.{Taken, taken, not-taken, sheeted, other-name, name-is}
+use Rattle.worldfip.proofs.Passing.{sheeted, other-name, name-is}
 use Rattle.worldfip.proofs.identifiers.Statement.{statement}
 use Rattle.worldfip.proofs.identifiers.Tie as tie
 

@@ -2,11 +2,12 @@
 use mathlib.Core.Path.{_≡_, sym, ap, _∙_}
 use borrow.Author.Needs.{needs}
 use lib.ListN.{length}
+use Rattle.sheet.proofs.Taken.{Taken, taken, not-taken}
 use Rattle.format.specs.declared.Record.{Record}
-use Rattle.sheet.specs.Whole.{Outcome}
+use Rattle.sheet.specs.Whole.{sheetIn, Outcome}
 use Rattle.worldfip.specs.Answer.{planOf, runOf}
-use Rattle.worldfip.specs.Held.{sheetIn, Ready}
-use Rattle.worldfip.proofs.Passing.{Taken, taken, not-taken, sheeted, plan-is, run-is, other-bus, other-run}
+use Rattle.worldfip.specs.Held.{Ready}
+use Rattle.worldfip.proofs.Passing.{sheeted, plan-is, run-is, other-bus, other-run}
 use Rattle.worldfip.proofs.plan.Statement.{statement}
 use Rattle.worldfip.proofs.plan.Tie as tie
 

@@ -1,0 +1,62 @@
+// What --help writes: what the bytes of a sheet are, with units.
+use libc::STDOUT_FILENO;
+
+fn line(text: &[u8]) {
+    io::write_all(STDOUT_FILENO, text);
+    io::write_all(STDOUT_FILENO, b"\n");
+}
+
+fn usage() {
+    line(b"planner: plans a fieldbus sheet and writes a report");
+    line(b"");
+    line(b"planner < SHEET    reads the sheet from standard input");
+    line(b"planner SHEET      reads it from the file SHEET");
+    line(b"planner --help     writes this");
+}
+
+fn kinds() {
+    line(b"A sheet is a row of records: one byte of kind, then a body. Numbers are big-endian.");
+    line(b"");
+    line(b"kind  body  fields, each with its bytes and its range");
+    line(b"   1     1  P-NET segment: masters N (1) 1..32");
+    line(
+        b"   2    11  P-NET stream: master (1) 1..N, longest cycle C (2) 1..1548 bp, spacing T (4) 1..1000000000 bp, deadline D (4) 1..T bp",
+    );
+    line(
+        b"   3     9  PROFIBUS ring: masters n (1) 1..32, ring latency L (4) 1..100000 bp, longest message M (4) 1..100000 bp",
+    );
+    line(
+        b"   4     9  PROFIBUS high-priority stream: master (1) 1..n, cycle C (4) 1..M bp, deadline D (4) 1..1000000000 bp",
+    );
+    line(b"   5     4  WorldFIP: one buffer exchange E (4) 1..1000000 us");
+    line(b"   6     6  WorldFIP variable: identifier (2) any, period (4) 1..1000000000 us");
+}
+
+fn rules() {
+    line(
+        b"The first record is 1, 3 or 5; all later ones are 2, 4 or 6 to match. P-NET and PROFIBUS: at most 800 streams, at most 80 for one master.",
+    );
+    line(
+        b"WorldFIP: at most 64 variables, no identifier twice. us are microseconds. bp are bit periods: of P-NET, 48 in 625 us; of that ring for PROFIBUS.",
+    );
+}
+
+fn refusals() {
+    line(b"A sheet that cannot be planned is refused with a number and a place:");
+    line(b"   1  it is empty, or ends inside a record     2  a kind that is not 1..6");
+    line(b"   3  a kind in the wrong position             4  a field out of range");
+    line(b"   5  one stream more than a limit allows      6  a first record and no stream");
+    line(b"   7  an identifier met before                 8  a P-NET bound above a deadline");
+    line(b"   9  a PROFIBUS stream fails at L            10  no exchange fits a microcycle");
+    line(b"  11  more than 4096 rows                     12  a variable misses its period");
+}
+
+pub(crate) fn help() {
+    usage();
+    line(b"");
+    kinds();
+    line(b"");
+    rules();
+    line(b"");
+    refusals();
+}

@@ -1,0 +1,115 @@
+-- What holds of the report of any bytes: reading's refusals are reported alike whichever planner is picked, 13 never shows, and the first
+-- `enough` bytes decide the report. Assumes nothing.
+use mathlib.Core.Path.{_≡_, refl, sym, ap, _∙_}
+use mathlib.Core.List.{List}
+use mathlib.Core.Bool.{Bool, true, false, cond, not, _||_}
+use Prim.Native.Nat.{ℕ, _≤_}
+use native.Mathlib.Omega.{arith}
+use lib.Dec.{eqb, ltb, leb}
+use lib.ListN.{length, getD, take}
+use lib.Seq.{getD-take}
+use borrow.Author.Tests.{eqb-true, not-false, le-ltb}
+use Rattle.common.specs.Checks.{verdict, Verdict}
+use Rattle.common.specs.Checks.Verdict.{Passed, Refused}
+use Rattle.sheet.specs.Sheets.{Sheet}
+use Rattle.sheet.specs.Whole.{Outcome, orElse, reading}
+use Rattle.sheet.specs.Whole.Outcome.{Read, Not}
+use Rattle.sheet.specs.Lengths.{enough}
+use Rattle.sheet.proofs.Lengths.{enough-is, reading-prefix}
+use Rattle.sheet.proofs.Refusals.{given-then, numbers-given}
+use Rattle.sheet.proofs.Known.{reading-read}
+use Rattle.format.proofs.Ranges.{segment-ranges}
+use Rattle.segment.specs.Segment.{segmentOf}
+use Rattle.pnet.specs.Planned.{firstLate, planChecks, plannedBy, planned}
+use Rattle.profibus.specs.Planned.{planOf}
+use Rattle.table.specs.Traffic.{Traffic, slots, rows, missOf, missingOf}
+use Rattle.worldfip.specs.Answer as fip
+use Rattle.worldfip.specs.declared.answer.Plan.the-variants as answer
+use Rattle.report.specs.Lines.{refusalText}
+use Rattle.report.specs.Whole.{segmentReport, ringReport, tableReport, reportOf}
+
+-- the report is made from the first byte and the reading
+reportBy : ℕ → Outcome → List ℕ
+reportBy k o = cond (eqb k 3) (ringReport (planOf o)) (cond (eqb k 5) (tableReport o) (segmentReport (plannedBy o 32 32 32)))
+
+report-by : (s : List ℕ) → reportOf s ≡ reportBy (getD s 0 0) (reading s)
+unfolding reportOf reportBy planned
+report-by s = refl
+
+-- ---- Reading's refusals
+
+pub refused-alike : (s : List ℕ) (n p : ℕ) → reading s ≡ Not n p → reportOf s ≡ refusalText n p
+unfolding reportBy ringReport tableReport segmentReport planOf
+refused-alike s n p e = report-by s ∙ (ap (reportBy (getD s 0 0)) e ∙ split (eqb (getD s 0 0) 3) (eqb (getD s 0 0) 5))
+  where
+    split : (a b : Bool) → cond a (refusalText n p) (cond b (refusalText n p) (refusalText n p)) ≡ refusalText n p
+    split true b = refl
+    split false true = refl
+    split false false = refl
+
+-- ---- A bounded buffer serves
+
+pub report-prefix : (s : List ℕ) → reportOf s ≡ reportOf (take enough s)
+report-prefix s =
+    let first : getD (take enough s) 0 0 ≡ getD s 0 0 = getD-take enough s 0 0 (omega (arith, enough-is)) in
+    report-by s ∙ (ap (reportBy (getD s 0 0)) (reading-prefix s) ∙ (ap (λ (k : ℕ). reportBy k (reading (take enough s))) (sym first) ∙ sym (report-by (take enough s))))
+
+-- ---- 13 never shows
+
+same-number : {n m p q : ℕ} → Refused n p ≡ Refused m q → n ≡ m
+same-number e = cc
+
+passed-not : {n p : ℕ} → Passed ≡ Refused n p → ⊥
+passed-not e = let z : _≡_ {A = ℕ} 0 1 = cc in omega arith
+
+false-not : true ≡ false → ⊥
+false-not e = let z : _≡_ {A = ℕ} 0 1 = cc in omega arith
+
+-- 32 places hold every segment
+pub no-13-segment : (s : List ℕ) (p : ℕ) → planned s 32 32 32 ≡ Not 13 p → ⊥
+unfolding planned planChecks verdict
+no-13-segment s p e = by (reading s) refl e
+  where
+    checks : (a b c : Bool) (x y : ℕ) → (a ≡ false → b ≡ false) → cond a (Refused 3 0) (cond b (Refused 13 x) (cond c (Refused 8 y) Passed)) ≡ Refused 13 p → ⊥
+    checks true b c x y h f = omega (arith, same-number f)
+    checks false true c x y h f = false-not (h refl)
+    checks false false true x y h f = omega (arith, same-number f)
+    checks false false false x y h f = passed-not f
+
+    refused : (H : Sheet) (v : Verdict) → orElse v (Read H) ≡ Not 13 p → v ≡ Refused 13 p
+    refused H Passed f = let z : _≡_ {A = ℕ} 0 1 = cc in absurd (omega arith)
+    refused H (Refused n q) f = cc
+
+    by : (o : Outcome) → reading s ≡ o → plannedBy o 32 32 32 ≡ Not 13 p → ⊥
+    by (Not n q) r f = let k : n ≡ 13 = cc in omega (arith, numbers-given s (given-then s n q r))
+    by (Read H) r f =
+        let N = H .head .a in
+        checks (not (eqb (H .head .kind) 1)) (ltb 32 N || (ltb 32 N || ltb 32 N)) (leb (firstLate (segmentOf H)) (length (H .streams))) N (firstLate (segmentOf H))
+        (λ q.
+        let k : H .head .kind ≡ 1 = eqb-true (H .head .kind) 1 (not-false (eqb (H .head .kind) 1) q) in
+        let few : N ≤ 32 = segment-ranges 0 0 (H .head) (reading-read s H r .head-ranged) k .masters .most in
+        simp (le-ltb 32 N few))
+        (refused H (verdict (planChecks H 32 32 32)) f)
+
+-- 4,096 places hold every table
+pub no-13-table : (s : List ℕ) (p : ℕ) → fip.planOf (reading s) 4096 ≡ answer.Refused 13 p → ⊥
+unfolding fip.planOf fip.planChecks fip.tableChecks verdict
+no-13-table s p e = by (reading s) refl e
+  where
+    checks : (a b c d : Bool) (x y : ℕ) → cond a (Refused 3 0) (cond b (Refused 10 0) (cond c (Refused 11 0) (cond c (Refused 13 x) (cond d (Refused 12 y) Passed)))) ≡ Refused 13 p → ⊥
+    checks true b c d x y f = omega (arith, same-number f)
+    checks false true c d x y f = omega (arith, same-number f)
+    checks false false true d x y f = omega (arith, same-number f)
+    checks false false false true x y f = omega (arith, same-number f)
+    checks false false false false x y f = passed-not f
+
+    refused : (T : Traffic) (v : Verdict) → fip.planBy v T ≡ answer.Refused 13 p → v ≡ Refused 13 p
+    refused T Passed f = let z : _≡_ {A = ℕ} 0 1 = cc in absurd (omega arith)
+    refused T (Refused n q) f = cc
+
+    by : (o : Outcome) → reading s ≡ o → fip.planOf o 4096 ≡ answer.Refused 13 p → ⊥
+    by (Not n q) r f = let k : n ≡ 13 = cc in omega (arith, numbers-given s (given-then s n q r))
+    by (Read S) r f =
+        let T = fip.trafficOf S in
+        checks (not (eqb (S .head .kind) 5)) (eqb (slots T) 0) (ltb 4096 (rows T)) (leb (missOf T) (rows T)) (rows T) (missingOf T)
+        (refused T (verdict (fip.planChecks S 4096)) f)

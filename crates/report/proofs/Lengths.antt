@@ -1,0 +1,140 @@
+-- How long the report's texts are at most, so that room is tested once. Assumes nothing.
+use mathlib.Core.List.{List, [], _++_}
+use mathlib.Core.Bool.{Bool, true, false, cond}
+use Prim.Native.Nat.{ℕ, zero, suc, _+_, _*_, _/_, _%_, _^_, _≤_, _<_}
+use native.Mathlib.Nat.{suc-mul}
+use native.Mathlib.Omega.{arith}
+use lib.Dec.{leb, eqb}
+use lib.ListN.{length, length-append}
+use borrow.Author.Tests.{ltb-false}
+use Rattle.common.specs.Sums.{firstOf}
+use Rattle.common.proofs.Firsts.{first-is}
+use Rattle.profibus.specs.declared.answer.RingPeriods.{RingPeriods}
+use Rattle.segment.specs.Segment.{Segment, count, bound}
+use Rattle.segment.specs.Refined.{refined, rounds}
+use Rattle.units.specs.Units.{bp, microsUp}
+use Rattle.units.specs.declared.BitPeriods.{BitPeriods}
+use Rattle.units.specs.declared.Micros.{Micros}
+use Rattle.report.specs.Text.{word, places, holds, widthOf, decimal, texts}
+use Rattle.report.specs.Lines.{inBp, inUs, inBoth, nameOf, figuresOf, masterLine, masterText, masterAt, segmentText, ringText, nameText, nameAt, rowLine, rowAt, tableHead, tableText, placeText, placeEnd, refusalText}
+use Rattle.report.specs.Whole.{mostText, masterOf, mastersOf}
+use Rattle.report.proofs.Numbers.{length-places, length-decimal}
+
+-- ---- Numbers
+
+-- a number that k digits hold, of 1 to 20, has at most k
+decimal-most : (k n : ℕ) → 1 ≤ k → k ≤ 20 → n < 10 ^ k → length (decimal n) ≤ k
+unfolding widthOf holds
+decimal-most k n lo hi s =
+    let f = first-is (holds n) 20 1 in
+    let less : (k < firstOf (holds n) 20 1 → ⊥) = λ h. omega (arith, ltb-false n (10 ^ k) (f .fails k lo h)) in
+    omega (arith, length-decimal n, less)
+
+-- no number is written with more than 21
+decimal-any : (n : ℕ) → length (decimal n) ≤ 21
+unfolding widthOf
+decimal-any n = omega (arith, length-decimal n, first-is (holds n) 20 1 .to)
+
+-- ---- Texts one behind another
+
+texts-most : (t : ℕ → List ℕ) (c n : ℕ) → ((i : ℕ) → i < n → length (t i) ≤ c) → length (texts t n) ≤ n * c
+unfolding texts
+texts-most t c zero le = omega arith
+texts-most t c (suc n) le = omega (arith, length-append (texts t n) (t n), texts-most t c n (λ i h. le i (omega arith)), le n (omega arith), suc-mul n c)
+
+-- ---- P-NET
+
+both-most : (b : BitPeriods) → length (inBoth b) ≤ 49
+unfolding inBoth inBp inUs
+both-most b = simp length-append (omega (arith, decimal-any (b .0), decimal-any (microsUp b .0)))
+
+figures-most : (R W : BitPeriods) → length (figuresOf R W) ≤ 114
+unfolding figuresOf
+figures-most R W = omega (arith, length-append (inBoth R) (word " refined " ++ inBoth W), both-most R, both-most W)
+
+line-most : (k : ℕ) (R W : BitPeriods) (m : ℕ) → length (masterLine k R W m) ≤ 147
+unfolding masterLine nameOf
+line-most k R W m =
+    let t = word " " ++ (decimal m ++ word " rounds\n") in
+    omega (
+      arith,
+      length-append (places 2 k) (figuresOf R W ++ t),
+      length-places 2 k,
+      length-append (figuresOf R W) t,
+      figures-most R W,
+      length-append (decimal m) (word " rounds\n"),
+      decimal-any m,
+    )
+
+-- a line, or none
+some-most : (b : Bool) (k : ℕ) (R W : BitPeriods) (m : ℕ) → length (cond b [] (masterLine k R W m)) ≤ 147
+some-most true k R W m = omega arith
+some-most false k R W m = line-most k R W m
+
+pub segment-most : (R W rounds : ℕ → ℕ) (n : ℕ) → length (segmentText R W rounds n) ≤ 14 + n * 147
+unfolding segmentText masterAt masterText
+segment-most R W rounds n =
+    omega (arith, texts-most (masterAt R W rounds) 147 n (λ i h. some-most (eqb (R i) 0) (i + 1) (bp (R i)) (bp (W i)) (rounds i)))
+
+pub masters-most : (S : Segment) → length (mastersOf S) ≤ S .masters * 147
+unfolding mastersOf masterOf
+masters-most S =
+    texts-most (λ i. masterOf S (i + 1)) 147 (S .masters)
+    (λ i h. some-most (eqb (count S (i + 1)) 0) (i + 1) (bp (bound S (i + 1))) (bp (refined S (i + 1))) (rounds S (i + 1)))
+
+-- ---- PROFIBUS
+
+pub ring-most : (rotation : RingPeriods) (stream : ℕ) → length (ringText rotation stream) ≤ 83
+unfolding ringText
+ring-most rotation stream = simp length-append (omega (arith, decimal-any (rotation .0), decimal-any stream))
+
+-- ---- WorldFIP
+
+-- identifiers have 16 bits
+abbrev pub Small : (ℕ → ℕ) → Type 0
+Small name = (r : ℕ) → name r < 2 ^ 16
+
+name-most : (b x : ℕ) → x < 2 ^ 16 → length (nameText b x) ≤ 6
+unfolding nameText
+name-most b x s = split (eqb b 1)
+  where
+    split : (t : Bool) → length (cond t (word " " ++ decimal x) []) ≤ 6
+    split true = omega (arith, decimal-most 5 x (omega arith) (omega arith) (omega arith))
+    split false = omega arith
+
+row-most : (m row : ℕ) (name : ℕ → ℕ) → m < 10 ^ 4 → Small name → length (rowLine m row name) ≤ 394
+unfolding rowLine nameAt
+row-most m row name s small =
+    simp length-append
+    (omega (arith, decimal-most 4 m (omega arith) (omega arith) s, texts-most (nameAt row name) 6 64 (λ r h. name-most (row / 2 ^ r % 2) (name r) (small r))))
+
+head-most : (u : Micros) (slots rows : ℕ) → length (tableHead u slots rows) ≤ 106
+unfolding tableHead inUs
+head-most u slots rows = simp length-append (omega (arith, decimal-any (u .0), decimal-any slots, decimal-any rows))
+
+pub table-most : (u : Micros) (slots rows : ℕ) (row name : ℕ → ℕ) → rows ≤ 4096 → Small name → length (tableText u slots rows row name) ≤ mostText
+unfolding tableText rowAt
+table-most u slots rows row name few small =
+    omega (
+      arith,
+      length-append (tableHead u slots rows) (texts (rowAt row name) rows),
+      head-most u slots rows,
+      texts-most (rowAt row name) 394 rows (λ m h. row-most m (row m) name (omega arith) small),
+    )
+
+-- ---- Refusals
+
+place-most : (n p : ℕ) → length (placeEnd n p) ≤ 35
+unfolding placeEnd placeText
+place-most n p = split (leb n 7) (leb n 9) (eqb n 12)
+  where
+    split : (a b c : Bool)
+        → length (cond a (word " at byte " ++ decimal p) (cond b (word " at stream " ++ decimal p) (cond c (word " at variable " ++ decimal p) [])) ++ word "\n") ≤ 35
+    split true b c = simp length-append (omega (arith, decimal-any p))
+    split false true c = simp length-append (omega (arith, decimal-any p))
+    split false false true = simp length-append (omega (arith, decimal-any p))
+    split false false false = omega arith
+
+pub refusal-most : (n p : ℕ) → length (refusalText n p) ≤ 64
+unfolding refusalText
+refusal-most n p = omega (arith, length-append (decimal n) (placeEnd n p), decimal-any n, place-most n p)

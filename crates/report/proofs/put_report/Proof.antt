@@ -1,0 +1,62 @@
+-- `report::put_report` picks the planner by the first byte. Assumes nothing.
+use mathlib.Core.List.{List}
+use mathlib.Core.Path.{_≡_, sym, _∙_}
+use Prim.Native.Nat.{ℕ}
+use borrow.Author.Needs.{needs}
+use borrow.Author.Tests.{eq-eqb, ne-eqb}
+use denote.Ref.{now}
+use lib.ListN.{getD}
+use Rattle.sheet.specs.Whole.{reading}
+use Rattle.pnet.specs.Planned.{planned}
+use Rattle.report.specs.Whole.{segmentReport, ringReport, tableReport, reportOf}
+use Rattle.profibus.specs.Planned.{planOf}
+use Rattle.report.proofs.put_report.Statement.{statement}
+use Rattle.report.proofs.put_report.Tie as tie
+
+-- ---- The report by the first byte
+
+module _ (s : List ℕ) where
+  profibus : getD s 0 0 ≡ 3 → reportOf s ≡ ringReport (planOf (reading s))
+  unfolding reportOf
+  profibus e = simp (eq-eqb (getD s 0 0) 3 e)
+
+  worldfip : (getD s 0 0 ≡ 3 → ⊥) → getD s 0 0 ≡ 5 → reportOf s ≡ tableReport (reading s)
+  unfolding reportOf
+  worldfip n e = simp (ne-eqb (getD s 0 0) 3 n, eq-eqb (getD s 0 0) 5 e)
+
+  pnet : (getD s 0 0 ≡ 3 → ⊥) → (getD s 0 0 ≡ 5 → ⊥) → reportOf s ≡ segmentReport (planned s 32 32 32)
+  unfolding reportOf
+  pnet n m = simp (ne-eqb (getD s 0 0) 3 n, ne-eqb (getD s 0 0) 5 m)
+
+-- ---- The needs
+
+ring-report-requires : tie.Need-ring-report-requires
+ring-report-requires c κs = search needs
+
+same-length : tie.Need-same-length
+same-length c = search needs
+
+returns : tie.Need-returns
+returns c = rw (profibus (now (c .before .before .before .before .before .before .before .args .s)) (sym (c .before .before .before .before .before .before .before .pre .0) ∙ c .before .before .before .before .if1 .taken)) (c .before .before .ring-report .ensures)
+
+table-report-requires : tie.Need-table-report-requires
+table-report-requires c κs = search needs
+
+same-length-2 : tie.Need-same-length-2
+same-length-2 c = search needs
+
+returns-2 : tie.Need-returns-2
+returns-2 c = rw (worldfip (now (c .before .before .before .before .before .before .before .before .args .s)) (λ e. c .before .before .before .before .before .if1 .left (c .before .before .before .before .before .before .before .before .pre .0 ∙ e)) (sym (c .before .before .before .before .before .before .before .before .pre .0) ∙ c .before .before .before .before .if2 .taken)) (c .before .before .table-report .ensures)
+
+segment-report-requires : tie.Need-segment-report-requires
+segment-report-requires c κs = search needs
+
+same-length-3 : tie.Need-same-length-3
+same-length-3 c = search needs
+
+returns-3 : tie.Need-returns-3
+returns-3 c = rw (pnet (now (c .before .before .before .before .before .before .before .before .args .s)) (λ e. c .before .before .before .before .before .if1 .left (c .before .before .before .before .before .before .before .before .pre .0 ∙ e)) (λ e. c .before .before .before .before .if2 .left (c .before .before .before .before .before .before .before .before .pre .0 ∙ e))) (c .before .before .segment-report .ensures)
+
+pub put-report-spec : {M : Type 1} → statement M
+put-report-spec =
+    tie.close (tie.spec ring-report-requires same-length returns table-report-requires same-length-2 returns-2 segment-report-requires same-length-3 returns-3)

@@ -1,0 +1,36 @@
+-- `report::report` writes the whole report of any bytes, or nothing where a report might not fit. Assumes nothing.
+use mathlib.Core.Path.{ap}
+use native.Mathlib.Omega.{arith}
+use borrow.Author.Needs.{needs}
+use borrow.Author.Tests.{lt-ltb, le-ltb}
+use denote.Ref.{now}
+use Rattle.report.specs.Whole.{mostText, answerOf, runOf}
+use Rattle.report.specs.declared.Reported.the-variants as answer
+use Rattle.report.proofs.Longest.{no-report-longer}
+use Rattle.report.proofs.Writing.{wrote-front}
+use Rattle.report.proofs.report.Statement.{statement}
+use Rattle.report.proofs.report.Tie as tie
+
+returns : tie.Need-returns
+unfolding answerOf runOf
+returns c = (simp (lt-ltb _ mostText (c .if1 .taken)), simp (lt-ltb _ mostText (c .if1 .taken)))
+
+first-byte-requires : tie.Need-first-byte-requires
+first-byte-requires c κs = search needs
+
+put-report-requires : tie.Need-put-report-requires
+put-report-requires c κs = search needs
+
+same-length : tie.Need-same-length
+same-length c = search needs
+
+returns-2 : tie.Need-returns-2
+unfolding answerOf runOf
+returns-2 c =
+    let s = now (c .before .before .before .before .before .before .before .before .args .s) in
+    let w = wrote-front (c .before .before .put-report .ensures) (omega (arith, no-report-longer s, c .before .before .before .before .before .if1 .left)) in
+    (simp (le-ltb _ mostText (c .before .before .before .before .before .if1 .left)) (ap answer.Written (w .0)), simp (le-ltb _ mostText (c .before .before .before .before .before .if1 .left)) (w .1))
+
+pub report-spec : {M : Type 1} → statement M
+report-spec =
+    tie.close (tie.spec returns first-byte-requires put-report-requires same-length returns-2)

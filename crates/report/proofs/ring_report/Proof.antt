@@ -1,0 +1,40 @@
+-- `report::ring_report` stores the report of a PROFIBUS plan. Assumes nothing.
+use native.Mathlib.Omega.{arith}
+use borrow.Author.Needs.{needs}
+use Rattle.report.specs.Whole.{ringReport}
+use Rattle.report.proofs.Lengths.{ring-most, refusal-most}
+use Rattle.report.proofs.ring_report.Statement.{statement}
+use Rattle.report.proofs.ring_report.Tie as tie
+
+plan-requires : tie.Need-plan-requires
+plan-requires c κs = search needs
+
+enum-known-rotation : tie.Need-enum-known-rotation
+enum-known-rotation c = search needs
+
+put-ring-requires : tie.Need-put-ring-requires
+put-ring-requires c κs = record { fits = omega (arith, ring-most (c .before .before .rotation .given .0 .0) (c .before .before .rotation .given .0 .1 .0), c .before .before .before .before .before .before .before .pre) }
+
+enum-known-no : tie.Need-enum-known-no
+enum-known-no c = search needs
+
+put-refusal-requires : tie.Need-put-refusal-requires
+put-refusal-requires c κs = record { fits = omega (arith, refusal-most (c .before .before .no .given .0 .0) (c .before .before .no .given .0 .1 .0), c .before .before .before .before .before .before .before .pre) }
+
+same-length : tie.Need-same-length
+same-length c = search needs
+
+returns : tie.Need-returns
+unfolding ringReport
+returns c = rw (← c .before .before .before .before .before .before .before .plan .ensures, c .before .before .before .before .before .rotation .given .1) (c .before .before .put-ring .ensures)
+
+same-length-2 : tie.Need-same-length-2
+same-length-2 c = search needs
+
+returns-2 : tie.Need-returns-2
+unfolding ringReport
+returns-2 c = rw (← c .before .before .before .before .before .before .before .plan .ensures, c .before .before .before .before .before .no .given .1) (c .before .before .put-refusal .ensures)
+
+pub ring-report-spec : {M : Type 1} → statement M
+ring-report-spec =
+    tie.close (tie.spec plan-requires enum-known-rotation put-ring-requires enum-known-no put-refusal-requires same-length returns same-length-2 returns-2)

@@ -1,0 +1,80 @@
+-- Page 01, 'Sheets worked by hand': the whole report of a sheet, from its bytes alone. Assumes nothing.
+use Prim.Native.Nat.{ℕ, _+_}
+use mathlib.Core.List.{List, [], _++_}
+use mathlib.Core.Bool.{cond}
+use lib.Dec.{eqb, ltb}
+use lib.ListN.{length, getD, drop}
+use Rattle.common.specs.Checks.{Verdict, verdict}
+use Rattle.common.specs.Checks.Verdict.{Passed, Refused}
+use Rattle.units.specs.Units.{bp, us}
+use Rattle.sheet.specs.Whole.{Outcome, reading}
+use Rattle.sheet.specs.Whole.Outcome.{Read, Not}
+use Rattle.segment.specs.Segment.{Segment, segmentOf, count, bound}
+use Rattle.segment.specs.Refined.{refined, rounds}
+use Rattle.pnet.specs.Planned.{planned}
+use Rattle.profibus.specs.Planned.{planOf}
+use Rattle.profibus.specs.declared.answer.Plan.{Plan}
+use Rattle.profibus.specs.declared.answer.Plan.the-variants as ring
+use Rattle.table.specs.Traffic.{Traffic, microcycle, slots, rows, rowOf, identifierAt}
+use Rattle.worldfip.specs.Answer.{trafficOf, planChecks}
+use Rattle.report.specs.declared.Reported.{Reported}
+use Rattle.report.specs.declared.Reported.the-variants as answer
+use Rattle.report.specs.Text.{word, _·_, texts}
+use Rattle.report.specs.Lines.{masterLine, ringText, tableText, refusalText}
+
+-- no report is longer
+abbrev pub mostText : ℕ
+mostText = 1613930
+
+-- ---- P-NET
+
+-- the line of master k; a master without streams has none
+unfoldable pub masterOf : Segment → ℕ → List ℕ
+masterOf S k = cond (eqb (count S k) 0) [] (masterLine k (bp (bound S k)) (bp (refined S k)) (rounds S k))
+
+-- masters 1..N
+unfoldable pub mastersOf : Segment → List ℕ
+mastersOf S = texts (λ i. masterOf S (i + 1)) (S .masters)
+
+-- what planning a P-NET sheet gave: the segment, or the refusal
+unfoldable pub segmentReport : Outcome → List ℕ
+segmentReport (Read H) = word "P-NET segment\n" · mastersOf (segmentOf H)
+segmentReport (Not n p) = refusalText n p
+
+-- ---- PROFIBUS
+
+unfoldable pub ringReport : Plan → List ℕ
+ringReport (ring.Target rotation stream) = ringText rotation stream
+ringReport (ring.Refused n p) = refusalText n p
+
+-- ---- WorldFIP
+
+-- the table that a sheet asks for, identifiers by rank
+unfoldable pub tableOf : Traffic → List ℕ
+tableOf T = tableText (us (microcycle T)) (slots T) (rows T) (rowOf T) (identifierAt T)
+
+abbrev pub tableBy : Verdict → Traffic → List ℕ
+tableBy Passed T = tableOf T
+tableBy (Refused n p) T = refusalText n p
+
+-- a run of 4,096 places holds every table
+unfoldable pub tableReport : Outcome → List ℕ
+tableReport (Read S) = tableBy (verdict (planChecks S 4096)) (trafficOf S)
+tableReport (Not n p) = refusalText n p
+
+-- ---- Any sheet
+
+-- the first byte picks the planner: 3 PROFIBUS, 5 WorldFIP, else P-NET. Where it is none of 1, 3 and 5, reading refuses, and every planner
+-- reports that alike
+unfoldable pub reportOf : List ℕ → List ℕ
+reportOf s =
+    cond (eqb (getD s 0 0) 3) (ringReport (planOf (reading s)))
+    (cond (eqb (getD s 0 0) 5) (tableReport (reading s)) (segmentReport (planned s 32 32 32)))
+
+-- the answer for a lent run of so many bytes: how many the report takes, or no room for every report
+unfoldable pub answerOf : List ℕ → ℕ → Reported
+answerOf s room = cond (ltb room mostText) answer.NoRoom (answer.Written (length (reportOf s)))
+
+-- the lent run then: the report, and behind it what stood there
+unfoldable pub runOf : List ℕ → List ℕ → List ℕ
+runOf s old = cond (ltb (length old) mostText) old (reportOf s ++ drop (length (reportOf s)) old)

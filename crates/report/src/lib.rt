@@ -1,0 +1,155 @@
+// The report of a plan as text, page 01 'Sheets worked by hand'.
+mod lines;
+mod text;
+
+use lines::put_head;
+use lines::put_masters;
+use lines::put_refusal;
+use lines::put_ring;
+use lines::put_rows;
+use text::put_word;
+use units::Micros;
+ghost use mathlib.Core.Path.{_≡_};
+ghost use Prim.Native.Nat.{_≤_};
+ghost use lib.ListN.{length};
+ghost use Rattle.sheet.specs.Lengths.{enough};
+ghost use Rattle.sheet.specs.Whole.{reading};
+ghost use Rattle.profibus.specs.Planned.{planOf as ringPlan};
+ghost use Rattle.units.specs.Units.{us};
+ghost use Rattle.pnet.specs.Planned.{planned};
+ghost use Rattle.report.specs.Text.{Zeros, Wrote, item};
+ghost use Rattle.report.specs.Lines.{segmentText, tableText};
+ghost use Rattle.report.specs.Whole.{mostText, segmentReport, ringReport, tableReport, reportOf, answerOf, runOf};
+
+// The first bytes of a sheet decide its report: a buffer of so many serves, however long the sheet is.
+pub const ENOUGH: usize = 9_614;
+
+// No report is longer.
+pub const MOST_TEXT: usize = 1_613_930;
+
+// What writing a report answers: how many bytes it takes, or that the lent run is shorter than some report may be.
+pub enum Reported {
+    Written(usize),
+    NoRoom,
+}
+
+// Room for what decides a report.
+pub fn sheet_buffer() -> [u8; ENOUGH]
+    ensures { λ r. ⌜ Zeros enough r ⌝ }
+{
+    [0; ENOUGH]
+}
+
+// Room for every report.
+pub fn text_buffer() -> [u8; MOST_TEXT]
+    ensures { λ r. ⌜ Zeros mostText r ⌝ }
+{
+    [0; MOST_TEXT]
+}
+
+fn put_segment(out: &mut [u8], bound: &[u32], refined: &[u32], rounds: &[u32], n: usize) -> usize
+    requires { ⌜ (n ≤ length (now bound)) × (n ≤ length (now refined)) × (n ≤ length (now rounds)) ⌝ }
+    requires { ⌜ (n ≤ 32) × (mostText ≤ length (now out)) ⌝ }
+    ensures { λ r. ⌜ Wrote (now (out .entry)) 0 (segmentText (item (now (bound .entry))) (item (now (refined .entry))) (item (now (rounds .entry))) n) (now (out .exit)) r ⌝ }
+{
+    let lines = put_word(out, 0, b"P-NET segment\n");
+    put_masters(out, lines, bound, refined, rounds, n)
+}
+
+// 32 places hold every segment, so 13 never shows.
+fn segment_report(s: &[u8], out: &mut [u8]) -> usize
+    requires { ⌜ mostText ≤ length (now out) ⌝ }
+    ensures { λ r. ⌜ Wrote (now (out .entry)) 0 (segmentReport (planned (now (s .entry)) 32 32 32)) (now (out .exit)) r ⌝ }
+{
+    let mut bound = [0u32; 32];
+    let mut refined = [0u32; 32];
+    let mut rounds = [0u32; 32];
+    match pnet::plan(s, &mut bound, &mut refined, &mut rounds) {
+        pnet::Plan::Accepted {
+            masters,
+            streams: _,
+        } => put_segment(out, &bound, &refined, &rounds, masters),
+        pnet::Plan::Refused { no, place } => put_refusal(out, 0, no, place as u64),
+    }
+}
+
+fn ring_report(s: &[u8], out: &mut [u8]) -> usize
+    requires { ⌜ mostText ≤ length (now out) ⌝ }
+    ensures { λ r. ⌜ Wrote (now (out .entry)) 0 (ringReport (ringPlan (reading (now (s .entry))))) (now (out .exit)) r ⌝ }
+{
+    match profibus::plan(s) {
+        profibus::Plan::Target { rotation, stream } => put_ring(out, 0, rotation, stream as u64),
+        profibus::Plan::Refused { no, place } => put_refusal(out, 0, no, place as u64),
+    }
+}
+
+fn put_table(
+    out: &mut [u8],
+    microcycle: u32,
+    slots: u32,
+    count: u32,
+    rows: &[u64],
+    names: &[u16],
+) -> usize
+    requires { ⌜ (count ≤ length (now rows)) × (count ≤ 4096) × (64 ≤ length (now names)) × (mostText ≤ length (now out)) ⌝ }
+    ensures { λ r. ⌜ Wrote (now (out .entry)) 0 (tableText (us microcycle) slots count (item (now (rows .entry))) (item (now (names .entry)))) (now (out .exit)) r ⌝ }
+{
+    let next = put_head(
+        out,
+        0,
+        Micros(microcycle as u64),
+        slots as u64,
+        count as u64,
+    );
+    put_rows(out, next, rows, count as usize, names)
+}
+
+// 4,096 places hold every table, so 13 never shows.
+fn table_report(s: &[u8], out: &mut [u8]) -> usize
+    requires { ⌜ mostText ≤ length (now out) ⌝ }
+    ensures { λ r. ⌜ Wrote (now (out .entry)) 0 (tableReport (reading (now (s .entry)))) (now (out .exit)) r ⌝ }
+{
+    let mut table = [0u64; 4096];
+    match worldfip::plan(s, &mut table) {
+        worldfip::Plan::Accepted {
+            microcycle,
+            slots,
+            rows,
+        } => {
+            let names = worldfip::identifiers(s);
+            put_table(out, microcycle, slots, rows, &table, &names)
+        }
+        worldfip::Plan::Refused { no, place } => put_refusal(out, 0, no, place as u64),
+    }
+}
+
+// The report of a sheet whose first byte is given: it picks the planner.
+fn put_report(s: &[u8], first: u8, out: &mut [u8]) -> usize
+    requires { ⌜ (first ≡ item (now s) 0) × (mostText ≤ length (now out)) ⌝ }
+    ensures { λ r. ⌜ Wrote (now (out .entry)) 0 (reportOf (now (s .entry))) (now (out .exit)) r ⌝ }
+{
+    if first == 3 {
+        return ring_report(s, out);
+    }
+    if first == 5 {
+        return table_report(s, out);
+    }
+    segment_report(s, out)
+}
+
+fn first_byte(s: &[u8]) -> u8
+    ensures { λ r. ⌜ r ≡ item (now (s .entry)) 0 ⌝ }
+{
+    if s.len() == 0 { 0 } else { s[0] }
+}
+
+// Writes the report of a sheet at the start of the lent run; later bytes keep what they had.
+pub fn report(s: &[u8], out: &mut [u8]) -> Reported
+    ensures { λ r. ⌜ r ≡ answerOf (now (s .entry)) (length (now (out .entry))) ⌝ }
+    ensures { λ r. ⌜ now (out .exit) ≡ runOf (now (s .entry)) (now (out .entry)) ⌝ }
+{
+    if out.len() < MOST_TEXT {
+        return Reported::NoRoom;
+    }
+    Reported::Written(put_report(s, first_byte(s), out))
+}

@@ -1,0 +1,36 @@
+// The lines of page 01 'Units', and the bound that rounding to the nearest us would get wrong.
+use libc::STDOUT_FILENO;
+use units::BitPeriods;
+use units::Micros;
+
+fn say(text: &[u8]) {
+    io::write_all(STDOUT_FILENO, text);
+}
+
+fn up(n: u32) {
+    io::print_decimal(STDOUT_FILENO, n as u64);
+    say(b" bp, up: ");
+    io::print_decimal(STDOUT_FILENO, units::micros_up(BitPeriods(n)).0);
+    say(b" us\n");
+}
+
+fn down(n: u64) {
+    io::print_decimal(STDOUT_FILENO, n);
+    say(b" us, down: ");
+    io::print_decimal(STDOUT_FILENO, units::periods_down(Micros(n)).0 as u64);
+    say(b" bp\n");
+}
+
+fn main() {
+    up(0);
+    up(1);
+    up(48);
+    up(2000);
+    down(26041);
+    down(26042);
+    up(48001);
+    // The ends of the 32-bit numbers, and a deadline that is longer than 32 bits of bp can say.
+    up(4294967295);
+    down(4294967295);
+    down(18446744073709551615);
+}

@@ -1,0 +1,26 @@
+-- Page 01, 'Units': one bit period is 625/48 us; a bound in bp becomes us rounded up, a deadline in us becomes bp rounded down.
+-- The two kinds of count are two types here too. Assumes nothing.
+use Prim.Native.Nat.{ℕ, _-_, _*_, _/_, _^_, _≤_, min}
+use Rattle.common.specs.Sums.{up}
+use Rattle.units.specs.declared.BitPeriods.{BitPeriods}
+use Rattle.units.specs.declared.Micros.{Micros}
+
+-- a count of bp, and one of us
+abbrev pub bp : ℕ → BitPeriods
+bp n = record { 0 = n }
+
+abbrev pub us : ℕ → Micros
+us n = record { 0 = n }
+
+-- b bp are over within u us: 48 bp last 625 us
+abbrev pub Within : BitPeriods → Micros → Type 0
+Within b u = 625 * b .0 ≤ 48 * u .0
+
+-- b rounded up: the least count of us that b fits into
+unfoldable pub microsUp : BitPeriods → Micros
+unfolding up
+microsUp b = us (up (625 * b .0) 48)
+
+-- u rounded down: the greatest count of bp that fits into u, of those that 32 bits hold
+unfoldable pub periodsDown : Micros → BitPeriods
+periodsDown u = bp (min (48 * u .0 / 625) (2 ^ 32 - 1))
