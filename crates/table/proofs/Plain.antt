@@ -16,10 +16,6 @@ module _ (T : Traffic) where
   unfolding plain variableOf rankOf ahead
   plain-variable r = refl
 
-  pub plain-microcycle : microcycle (plainOf T) ≡ microcycle T
-  unfolding plain microcycle
-  plain-microcycle = refl
-
   pub plain-asked : askedOf (plainOf T) ≡ askedOf T
   unfolding plain askedOf slots rows periodAt inRows microcycle variableOf rankOf ahead
   plain-asked = refl
