@@ -1,8 +1,8 @@
 -- The variable that 12 names is the one that the definition finds, and no other. Assumes nothing.
 use mathlib.Core.Path.{_≡_, refl, sym, ap, _∙_, subst}
-use mathlib.Core.Bool.{Bool, true, false}
+use mathlib.Core.Bool.{true}
 use mathlib.Core.Logic.{_⊎_, inl, inr}
-use Prim.Native.Nat.{ℕ, suc, _+_, _*_, _%_, _^_, _≤_, _<_, min}
+use Prim.Native.Nat.{ℕ, suc, _^_, _≤_, _<_}
 use native.Mathlib.Nat.{zero-add, eq-zero-or-pos}
 use native.Mathlib.Omega.{arith}
 use native.Mathlib.Decide.{ℕ-discrete, decLt}
@@ -12,9 +12,8 @@ use Rattle.common.proofs.Firsts.{first-hit}
 use Rattle.bits.specs.Sets.{bit, lowest}
 use Rattle.bits.proofs.Members.{bit-small, bit-none, same-members, Lowest}
 use Rattle.bits.proofs.Picks.{lowest-is, lowest-picks}
-use Rattle.table.specs.Table.{Asked}
-use Rattle.table.specs.Build.{new, byRank, pending, late, missAt, missRow}
-use Rattle.table.specs.Traffic.{Traffic, Declared, periodOf, variableOf, microcycle, rows, askedOf, pendingOf, lateOf, missOf, missingOf}
+use Rattle.table.specs.Build.{new, byRank, pending, missAt, missRow}
+use Rattle.table.specs.Traffic.{Traffic, Declared, variableOf, rows, askedOf, pendingOf, lateOf, missOf, missingOf}
 use Rattle.table.specs.Misses.{Miss, Named}
 use Rattle.table.proofs.Steps.{rank-picking, late-bit, late-below}
 use Rattle.table.proofs.Promises.{new-request-if, new-request-then, no-miss-before, miss-at-its-row}

@@ -4,15 +4,14 @@ use mathlib.Core.Path.{_≡_, sym, _∙_}
 use Prim.Native.Nat.{ℕ, suc, _+_, _*_, _%_, _∣_, _≤_, _<_, min}
 use native.Mathlib.Nat.{div-add-mod', mod-lt}
 use native.Mathlib.Omega.{arith}
-use native.Mathlib.Decide.{ℕ-discrete}
 use lib.Count.{ones}
 use Rattle.bits.specs.Sets.{bit}
-use Rattle.table.specs.Table.{Asked, Table}
-use Rattle.table.specs.Build.{new, byRank, pending, ready, row, late, missRow}
+use Rattle.table.specs.Table.{Table}
+use Rattle.table.specs.Build.{new, byRank, ready}
 use Rattle.table.specs.Traffic.{Traffic, Declared, periodOf, rankOf, variableOf, microcycle, slots, inRows, rows, askedOf, pendingOf, rowOf, lateOf, missOf}
 use Rattle.table.proofs.Steps.{Picking, rank-picking, hit, hit-yes, hit-one, new-bit, row-few, row-full, row-bit, late-bit}
 use Rattle.table.proofs.Rows.{builds, row-lowest}
-use Rattle.table.proofs.Misses.{quiet-before, miss-there, none-accepts, accepts-none}
+use Rattle.table.proofs.Misses.{quiet-before, miss-there, none-accepts}
 use Rattle.table.proofs.Ranks as ranks
 use Rattle.table.proofs.Factors as factors
 

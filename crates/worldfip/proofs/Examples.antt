@@ -1,7 +1,7 @@
 -- Page 01, 'Sheets worked by hand', the WorldFIP cases, from the sheets' bytes. Assumes nothing.
 use Prim.Native.Nat.{ℕ}
 use mathlib.Core.Path.{_≡_, refl}
-use mathlib.Core.List.{List, [], _∷_, _++_}
+use mathlib.Core.List.{List, [], _∷_}
 use Rattle.common.specs.Runs.{tab}
 use Rattle.sheet.specs.Sheets.{headOf, streamsOf}
 use Rattle.sheet.specs.Whole.{reading}

@@ -2,7 +2,7 @@
 -- Assumes nothing.
 use mathlib.Core.Path.{_≡_, refl, sym, ap, _∙_, fun-ext}
 use mathlib.Core.List.{List}
-use Prim.Native.Nat.{ℕ, zero, suc, _+_, _-_, _≤_, _<_}
+use Prim.Native.Nat.{ℕ, suc, _+_, _-_, _≤_, _<_}
 use native.Mathlib.Numerals.{add-one}
 use native.Mathlib.Omega.{arith}
 use native.Mathlib.Decide.{decLt}
@@ -13,16 +13,15 @@ use Rattle.common.specs.Sums.{when}
 use Rattle.common.specs.Checks.{Check, Verdict, verdict}
 use Rattle.common.specs.Checks.Verdict.{Passed, Refused}
 use Rattle.format.specs.declared.Met.{Met}
-use Rattle.format.specs.declared.Record.{Record}
 use Rattle.format.specs.Kinds.{nothing, metAt}
-use Rattle.format.proofs.Ranges.{ExchangeRanges, VariableRanges, exchange-ranges, variable-ranges}
+use Rattle.format.proofs.Ranges.{VariableRanges, exchange-ranges, variable-ranges}
 use Rattle.sheet.specs.Sheets.{Sheet, sheetOf}
-use Rattle.sheet.specs.Whole.{sheetIn, Outcome, placeOf, recordsOf, reading, told}
-use Rattle.sheet.specs.Whole.Outcome.{Read, Not}
+use Rattle.sheet.specs.Whole.{sheetIn, Outcome, placeOf, reading}
+use Rattle.sheet.specs.Whole.Outcome.{Read}
 use Rattle.sheet.specs.declared.Reading.the-variants as answer
 use Rattle.sheet.proofs.Walk.{length-streams}
 use Rattle.sheet.proofs.Known.{Known, reading-read}
-use Rattle.table.specs.Traffic.{Variable, Traffic, Declared, plain, periodOf, ahead, rankOf, variableOf, identifierAt, microcycle, slots, inRows, rows, periodAt, askedOf, missingOf}
+use Rattle.table.specs.Traffic.{Traffic, Declared, plain, periodOf, ahead, rankOf, variableOf, identifierAt, microcycle, slots, inRows, rows, periodAt, askedOf, missingOf}
 use Rattle.table.proofs.Plain.{plainOf, plain-declared, plain-variable}
 use Rattle.worldfip.specs.declared.answer.Plan.the-variants as plan
 use Rattle.worldfip.specs.Answer.{variableBy, variableAt, trafficOf, tableChecks, planChecks, planBy, runBy, planOf, runOf, identifierOf}

@@ -1,13 +1,13 @@
 -- The planner's answer is the page's, case by case, and no other is: each refusal is given exactly if its condition holds and that of none
 -- before it. Assumes nothing.
-use mathlib.Core.Path.{_≡_, refl, sym, ap, _∙_}
+use mathlib.Core.Path.{_≡_, sym, ap, _∙_}
 use mathlib.Core.List.{List}
 use Prim.Native.Nat.{ℕ, _*_, _≤_, _<_}
 use native.Mathlib.Nat.{div-eq-of-lt, div-lt-iff-lt-mul}
 use native.Mathlib.Omega.{arith}
 use native.Mathlib.Decide.{ℕ-discrete, decLt}
 use Rattle.common.specs.Checks.{Verdict, verdict}
-use Rattle.common.specs.Checks.Verdict.{Passed, Refused}
+use Rattle.common.specs.Checks.Verdict.{Refused}
 use Rattle.sheet.specs.Sheets.{Sheet}
 use Rattle.sheet.specs.Whole.Outcome.{Read}
 use Rattle.sheet.proofs.Known.{Known}

@@ -1,23 +1,22 @@
 -- What the code's arrays hold are the figures of the sheet's traffic. Assumes nothing.
 use mathlib.Core.Path.{_≡_, refl, sym, ap, _∙_, fun-ext}
 use mathlib.Core.List.{List}
-use Prim.Native.Nat.{ℕ, zero, suc, _+_, _-_, _*_, _/_, _^_, _≤_, _<_, min}
+use Prim.Native.Nat.{ℕ, _+_, _-_, _*_, _/_, _^_, _≤_, _<_}
 use native.Mathlib.Nat.{div-eq-of-lt, div-lt-iff-lt-mul}
 use native.Mathlib.Omega.{arith}
 use native.Mathlib.Decide.{decLt, decLe}
 use lib.Dec.{ltb}
 use lib.ListN.{length, getD, replicate, length-replicate}
-use borrow.Author.Tests.{lt-ltb, le-ltb, le-leb, lt-leb}
+use borrow.Author.Tests.{le-ltb, le-leb, lt-leb}
 use Rattle.common.specs.Sums.{when}
 use Rattle.bits.specs.Sets.{lowest}
 use Rattle.bits.proofs.Picks.{lowest-picks}
-use Rattle.table.specs.Table.{Asked}
-use Rattle.table.specs.Build.{byRank, late, missRow, row}
-use Rattle.table.specs.Traffic.{Traffic, Declared, plain, periodOf, ahead, rankOf, variableOf, factorUpto, multipleUpto, microcycle, slots, inRows, rows, periodAt, askedOf, missOf, missingOf, rowOf, lateOf}
+use Rattle.table.specs.Build.{byRank}
+use Rattle.table.specs.Traffic.{Traffic, Declared, plain, ahead, rankOf, variableOf, factorUpto, multipleUpto, microcycle, slots, inRows, rows, periodAt, askedOf, missOf, missingOf, lateOf}
 use Rattle.table.proofs.Steps.{rank-picking, late-below}
 use Rattle.table.proofs.Misses.{miss-there}
 use Rattle.table.proofs.Ranks.{variable-within}
-use Rattle.table.proofs.Factors.{micro-pos, in-rows-pos, period-is, asked-sound}
+use Rattle.table.proofs.Factors.{micro-pos, in-rows-pos, period-is}
 use Rattle.worldfip.specs.Held.{numbered, held, Sheeted, Whole, Placed, Within, Ranked, Usable, Cleared, given, missing}
 use Rattle.worldfip.proofs.Turns.{quotients, numbered-next, zeros}
 

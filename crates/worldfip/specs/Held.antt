@@ -1,14 +1,13 @@
 -- What the code holds of a sheet, in arrays that count from 0. Assumes nothing.
 use mathlib.Core.Path.{_≡_}
 use mathlib.Core.List.{List}
-use Prim.Native.Nat.{ℕ, suc, _+_, _-_, _/_, _%_, _≤_, _<_}
+use Prim.Native.Nat.{ℕ, _+_, _-_, _/_, _%_, _≤_, _<_}
 use lib.ListN.{length, getD}
 use lib.Dec.{eqb, ltb, leb}
 use Rattle.common.specs.Sums.{when}
 use Rattle.common.specs.Checks.{verdict}
 use Rattle.common.specs.Runs.{filled}
-use Rattle.sheet.specs.Sheets.{sheetOf, Sheet}
-use Rattle.sheet.specs.Whole.{sheetIn, Outcome, placeOf, recordsOf, reading}
+use Rattle.sheet.specs.Whole.{sheetIn, placeOf, reading}
 use Rattle.sheet.specs.Whole.Outcome.{Read}
 use Rattle.bits.specs.Sets.{setOf}
 use Rattle.table.specs.Table.{Asked}

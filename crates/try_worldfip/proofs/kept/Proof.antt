@@ -1,6 +1,6 @@
 -- `kept` is safe and ends. Assumes nothing.
 use borrow.Author.Needs.{needs}
-use Prim.Native.Nat.{_-_, _≤_, _<_}
+use Prim.Native.Nat.{_-_, _≤_}
 use lib.ListN.{length}
 use Rattle.try_worldfip.proofs.kept.Statement.{statement}
 use Rattle.try_worldfip.proofs.kept.Tie as tie

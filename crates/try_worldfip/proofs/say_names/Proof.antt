@@ -1,6 +1,6 @@
 -- `say_names` is safe and ends. Assumes nothing.
 use borrow.Author.Needs.{needs}
-use Prim.Native.Nat.{_-_, _≤_, _<_}
+use Prim.Native.Nat.{_-_, _≤_}
 use Rattle.try_worldfip.proofs.say_names.Statement.{statement}
 use Rattle.try_worldfip.proofs.say_names.Tie as tie
 

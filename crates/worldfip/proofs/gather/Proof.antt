@@ -1,7 +1,7 @@
 -- `worldfip::gather` meets its contract. The invariant: the first i variables are kept, with 0 behind them, and the next record stands at
 -- `at`. Assumes nothing.
 use borrow.Author.Needs.{needs}
-use mathlib.Core.Path.{_≡_, refl, sym, ap, _∙_}
+use mathlib.Core.Path.{_≡_, refl, ap}
 use Prim.Native.Nat.{ℕ, suc, _+_, _-_, _≤_, _<_}
 use native.Mathlib.Omega.{arith}
 use lib.Dec.{ltb}

@@ -1,6 +1,6 @@
 -- `worldfip::table` meets its contract: 10, 11 and 13 in this order, each at its own return, and else what `fill` answers. Assumes nothing.
 use mathlib.Core.Path.{_≡_, _∙_, ap}
-use Prim.Native.Nat.{ℕ, min}
+use Prim.Native.Nat.{min}
 use native.Mathlib.Omega.{arith}
 use borrow.Author.Needs.{needs}
 use lib.ListN.{length}

@@ -1,6 +1,6 @@
 -- `worldfip::rows::mark` meets its contract. The invariant: `at` is a multiple of p, and the rows below it are done. Assumes nothing.
 use borrow.Author.Needs.{needs}
-use mathlib.Core.Path.{_≡_, refl, sym, ap, _∙_}
+use mathlib.Core.Path.{_≡_, refl, _∙_}
 use Prim.Native.Nat.{ℕ, _+_, _-_, _%_, _≤_}
 use native.Mathlib.Omega.{arith}
 use native.Mathlib.Nat.{zero-mod, add-mod-right}
