@@ -103,7 +103,7 @@ static int their_worldfip(void)
 static double now(void)
 {
     struct timespec t;
-    clock_gettime(1, &t);
+    clock_gettime(2, &t); /* the time of this process, so that others on the machine do not count */
     return (double)t.seconds * 1e9 + (double)t.nanoseconds;
 }
 
@@ -180,7 +180,7 @@ int main(void)
     line("PROFIBUS, 10 masters, 400 streams", our_profibus, their_profibus);
     profibus_sheet(10, 800);
     line("PROFIBUS, 10 masters, 800 streams", our_profibus, their_profibus);
-    worldfip_sheet(4, 4, 2);
+    worldfip_sheet(4, 4, 3);
     line("WorldFIP, 4 variables, 4 rows", our_worldfip, their_worldfip);
     worldfip_sheet(16, 256, 8);
     line("WorldFIP, 16 variables, 256 rows", our_worldfip, their_worldfip);

@@ -1,6 +1,6 @@
 -- Laws of the highest common factor and the least common multiple: repeated remainder finds the one, and the other divides every
 -- common multiple. Assumes nothing.
-use mathlib.Core.Path.{_≡_, refl, sym, ap, _∙_, subst}
+use mathlib.Core.Path.{_≡_, sym, ap, _∙_, subst}
 use Prim.Native.Nat.{ℕ, zero, suc, _+_, _*_, _/_, _%_, _∣_, _<_}
 use native.Mathlib.Nat.{dvd-mod-iff, dvd-refl, dvd-zero, dvd-antisymm, mod-lt, zero-mul, mul-zero, mul-comm, div-add-mod', mul-lt-mul-of-pos-left, dvd-mul-left, dvd-mul-right, mul-dvd-mul-right, mul-dvd-mul-left, dvd-of-mul-dvd-mul-right, div-mul-cancel, pos-of-dvd-of-pos, mul-pos, one-mul}
 use native.Mathlib.Omega.{arith}

@@ -1,5 +1,5 @@
 -- Laws of serving: the best of a set is taken out again and again. Assumes nothing.
-use mathlib.Core.Path.{_≡_, refl, sym, ap, _∙_}
+use mathlib.Core.Path.{_≡_, refl, sym, _∙_}
 use mathlib.Core.Logic.{_⊎_, inl, inr}
 use Prim.Native.Nat.{ℕ, zero, suc, _+_, _-_, _^_, _≤_, _<_}
 use native.Mathlib.Nat.{eq-zero-or-pos}
@@ -7,7 +7,7 @@ use native.Mathlib.Omega.{arith}
 use native.Mathlib.Decide.{ℕ-discrete, decLt}
 use lib.Bits.{bitXor, xor-lt, xor-zero-r}
 use lib.Count.{ones, ones-le}
-use lib.Pow.{pow-pos, pow-lt, pow-mono}
+use lib.Pow.{pow-lt, pow-mono}
 use borrow.Author.Tests.{ne-eqb}
 use Rattle.common.specs.Sums.{sum}
 use Rattle.common.proofs.FromZero.{sum-same, sum-add, sum-change}

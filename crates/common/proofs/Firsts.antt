@@ -2,7 +2,7 @@
 use mathlib.Core.Path.{_≡_, refl, sym, ap, _∙_, subst}
 use mathlib.Core.Bool.{Bool, true, false, cond}
 use Prim.Native.Nat.{ℕ, zero, suc, _+_, _-_, _≤_, _<_}
-use native.Mathlib.Nat.{add-zero, add-comm, add-suc, suc-add, le-of-suc-le-suc, not-suc-le-zero}
+use native.Mathlib.Nat.{add-zero, zero-add, add-comm, add-suc, suc-add, le-of-suc-le-suc, not-suc-le-zero}
 use native.Mathlib.Omega.{arith}
 use native.Mathlib.Decide.{ℕ-discrete}
 use Rattle.common.specs.Sums.{firstOf}
@@ -53,6 +53,14 @@ first-is f (suc n) i = split (f i) refl (first-is f n (suc i))
         before : (j : ℕ) → i ≤ j → j < firstOf f n (suc i) → Dec (j ≡ i) → f j ≡ false
         before j lo hi (yes e) = ap f e ∙ q
         before j lo hi (no e) = r .fails j (omega (arith, e)) hi
+
+-- from 0, as a loop finds it
+pub found-first : (f : ℕ → Bool) (n p : ℕ) → ((j : ℕ) → j < p → f j ≡ false) → f p ≡ true → p < n → p ≡ firstOf f n 0
+found-first f n p miss hit l =
+    sym (first-hit f p 0 n (λ j lo hi. miss j (omega arith)) (subst (λ (m : ℕ). f m ≡ true) (sym (zero-add p)) hit) l ∙ zero-add p)
+
+pub found-none : (f : ℕ → Bool) (n p : ℕ) → ((j : ℕ) → j < p → f j ≡ false) → p ≡ n → p ≡ firstOf f n 0
+found-none f n p miss e = e ∙ sym (first-none f 0 n (λ j lo hi. miss j (omega arith)) ∙ zero-add n)
 
 -- the first number from 1, as a loop that counts from 0 finds it
 module _ (f : ℕ → Bool) (n i : ℕ) (miss : (j : ℕ) → j < i → f (j + 1) ≡ false) where

@@ -2,11 +2,12 @@
 use mathlib.Core.Path.{_≡_, refl, sym, ap, _∙_, subst}
 use mathlib.Core.List.{List, [], _∷_, _++_, append-assoc}
 use Prim.Native.Nat.{ℕ, zero, suc, _+_, _-_, _≤_, _<_}
+use native.Mathlib.Nat.{not-suc-le-zero}
+use native.Mathlib.Decide.{ℕ-discrete}
 use native.Mathlib.Numerals.{add-one}
 use native.Mathlib.Omega.{arith}
-use native.Mathlib.Decide.{ℕ-discrete}
 use lib.ListN.{length, getD, take, drop, set, length-append, length-drop, length-set, List·getD-append}
-use lib.Seq.{take-suc, take-all, drop-cons, set-at, getD-at, getD-set-same, getD-set-other, ext-getD}
+use lib.Seq.{take-suc, take-all, drop-cons, set-at, getD-at, getD-set-same, getD-set-other, getD-append-seam, ext-getD}
 use Rattle.common.specs.Runs.{tab, filled}
 
 module _ (f : ℕ → ℕ) where
@@ -29,6 +30,20 @@ module _ (f : ℕ → ℕ) where
   pub length-filled : (n : ℕ) (d : List ℕ) → n ≤ length d → length (filled f n d) ≡ length d
   unfolding filled
   length-filled n d h = rw (length-append, length-tab n, length-drop) (omega arith)
+
+  -- what stands in a filled place
+  tab-at : (n j : ℕ) → j < n → getD (tab f n) j 0 ≡ f j
+  unfolding tab
+  tab-at zero j h = absurd (not-suc-le-zero h)
+  tab-at (suc n) j h = go (ℕ-discrete j n) (tab-at n j)
+    where
+      go : Dec (j ≡ n) → (j < n → getD (tab f n) j 0 ≡ f j) → getD (tab f n ++ (f n ∷ [])) j 0 ≡ f j
+      go (yes e) ih = rw e (subst (λ (i : ℕ). getD (tab f n ++ (f n ∷ [])) i 0 ≡ f n) (length-tab n) (getD-append-seam (tab f n) (f n) [] 0))
+      go (no z) ih = List·getD-append (tab f n) (f n ∷ []) 0 j (rw (length-tab n) (omega (arith, z))) ∙ ih (omega (arith, z))
+
+  pub filled-at : (n j : ℕ) (d : List ℕ) → j < n → getD (filled f n d) j 0 ≡ f j
+  unfolding filled
+  filled-at n j d h = List·getD-append (tab f n) (drop n d) 0 j (rw (length-tab n) h) ∙ tab-at n j h
 
 -- one store of a filled run, as a loop has it
 pub filled-step : (f : ℕ → ℕ) (d l : List ℕ) (n x : ℕ) → l ≡ filled f n d → x ≡ f n → n < length d → set l n x ≡ filled f (n + 1) d

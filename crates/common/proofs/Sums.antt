@@ -1,10 +1,11 @@
 -- Laws of sums and greatest figures over 1..n, and of quotients rounded up. Assumes nothing.
 use mathlib.Core.Path.{_≡_, refl, sym, ap, _∙_, subst}
+use mathlib.Core.Logic.{_≢_}
 use Prim.Native.Nat.{ℕ, zero, suc, _+_, _-_, _*_, _/_, _≤_, _<_, zero-le, max}
 use native.Mathlib.Nat.{mul-zero, mul-le-mul, mul-add, suc-mul, zero-div, div-zero, div-lt-iff-lt-mul, le-div-iff-mul-le, mul-comm}
 use native.Mathlib.Numerals.{add-one}
 use native.Mathlib.Omega.{arith}
-use native.Mathlib.Decide.{ℕ-discrete}
+use native.Mathlib.Decide.{ℕ-discrete, le-ind}
 use borrow.Author.Tests.{eq-eqb, ne-eqb}
 use lib.Dec.{eqb}
 use Rattle.common.specs.Sums.{when, upto, greatest, up}
@@ -130,6 +131,21 @@ up-mono x y t p h = up-at-most x t (up y t) p (omega (arith, up-covers y t p))
 
 pub up-zero : (t : ℕ) → 0 < t → up 0 t ≡ 0
 up-zero t p = omega (arith, up-at-most 0 t 0 p (omega arith))
+
+-- ---- Longer sums, and sums that differ in one term
+
+pub upto-longer : (f : ℕ → ℕ) (m n : ℕ) → m ≤ n → upto f m ≤ upto f n
+unfolding upto
+upto-longer f m n l = le-ind (λ (x : ℕ). upto f m ≤ upto f x) (omega arith) (λ x k e. omega arith) n l
+
+pub upto-but-one : (f g : ℕ → ℕ) (n m : ℕ) → 1 ≤ m → m ≤ n → ((y : ℕ) → y ≢ m → f y ≡ g y) → upto f n + g m ≡ upto g n + f m
+unfolding upto
+upto-but-one f g zero m lo hi eq = omega arith
+upto-but-one f g (suc n) m lo hi eq = last (ℕ-discrete m (suc n)) (upto-but-one f g n m lo)
+  where
+    last : Dec (m ≡ suc n) → (m ≤ n → ((y : ℕ) → y ≢ m → f y ≡ g y) → upto f n + g m ≡ upto g n + f m) → upto f n + f (suc n) + g m ≡ upto g n + g (suc n) + f m
+    last (yes q) ih = omega (arith, ap f q, ap g q, upto-same f g n (λ y a b. eq y (λ e. omega arith)))
+    last (no q) ih = omega (arith, ih (omega (arith, q)) eq, eq (suc n) (λ e. q (sym e)))
 
 -- one term alone
 pub upto-only : (x k n : ℕ) → 1 ≤ k → k ≤ n → upto (λ y. when (eqb y k) x) n ≡ x

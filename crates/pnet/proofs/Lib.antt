@@ -3,3 +3,5 @@ pub mod Gathering
 pub mod Bytes
 pub mod Tied
 pub mod Cases
+pub mod Refusals
+pub mod Examples

@@ -1,2 +1,3 @@
 pub mod Arrays
 pub mod Planned
+pub mod Refusals

@@ -203,8 +203,9 @@ fn fill(
 {
     let mut i: usize = 0;
     while i < n {
-        let r = counts[i + 1] * turn;
-        let found = search(counts, holds, spacings, n, i + 1, r);
+        let k = i + 1;
+        let r = counts[k] * turn;
+        let found = search(counts, holds, spacings, n, k, r);
         bound[i] = r;
         refined[i] = found.refined;
         rounds[i] = found.rounds;

@@ -12,42 +12,14 @@ use Rattle.format.specs.declared.Met.{Met}
 use Rattle.format.specs.declared.Record.{Record}
 use Rattle.format.specs.Kinds.{nothing, metAt}
 use Rattle.sheet.specs.Sheets.{Sheet, streamsOf, sheetOf}
-use Rattle.sheet.specs.Whole.{placeOf, recordsOf, reading, told, streamsOfMaster, countsTold, Outcome}
+use Rattle.sheet.specs.Whole.{sheetIn, placeOf, recordsOf, reading, told, streamsOfMaster, countsTold, Outcome}
 use Rattle.sheet.specs.Whole.Outcome.{Read, Not}
 use Rattle.sheet.specs.declared.Reading.the-variants as answer
 use Rattle.sheet.proofs.Walk.{length-streams}
 use Rattle.sheet.proofs.Known.{Known, reading-read}
 use Rattle.ring.specs.Ring.{Ring, Stream, streamOf, streamAt, ringOf, On, owns, count, Declared}
-use Rattle.ring.proofs.Declared.{declared, counted}
-use Rattle.profibus.specs.Planned.{sheetIn, Ready}
-
--- ---- From the reader's answer
-
--- the answer `Accepted head n first`: the first record and n streams behind it are the whole sheet
-pub record Taken (s : List ℕ) (head : Record) (n first : ℕ) : Type 0 where
-  pub reads : reading s ≡ Read (sheetIn s n)
-  pub begins : head ≡ sheetIn s n .head
-  pub starts : first ≡ placeOf s 1
-
-pub taken : (s : List ℕ) (h : Record) (n f : ℕ) → told s (reading s) ≡ answer.Accepted h n f → Taken s h n f
-unfolding sheetIn
-taken s h n f e = split (reading s) refl e
-  where
-    split : (o : Outcome) → reading s ≡ o → told s o ≡ answer.Accepted h n f → Taken s h n f
-    split (Read S) q a =
-        let eh : h ≡ S .head = cc in
-        let en : length (S .streams) ≡ n = cc in
-        let ef : f ≡ placeOf s 1 = cc in
-        let w : S ≡ sheetIn s n = rw (← en) (reading-read s S q .says) in
-        record { reads = q ∙ ap Read w; begins = eh ∙ ap (λ (x : Sheet). x .head) w; starts = ef }
-    split (Not no' p) q a = let z : _≡_ {A = ℕ} 0 1 = cc in absurd (omega arith)
-
-pub not-taken : (s : List ℕ) (x p : ℕ) → told s (reading s) ≡ answer.Refused x p → reading s ≡ Not x p
-not-taken s x p e = split (reading s) refl e
-  where
-    split : (o : Outcome) → reading s ≡ o → told s o ≡ answer.Refused x p → reading s ≡ Not x p
-    split (Read S) q a = let z : _≡_ {A = ℕ} 0 1 = cc in absurd (omega arith)
-    split (Not y r) q a = let ex : y ≡ x = cc in let ep : r ≡ p = cc in cc
+use Rattle.ring.proofs.Declared.{declared, count-is}
+use Rattle.profibus.specs.Planned.{Ready}
 
 -- ---- Stream after stream
 
@@ -91,9 +63,9 @@ module _ (s : List ℕ) (first n : ℕ) (ready : Ready s first n) where
 
   -- the counts that reading hands over are each master's h
   pub ready-counts : (old : List ℕ) → countsTold (reading s) old ≡ tab (count (ringOf (sheetIn s n))) 33
-  unfolding countsTold streamsOfMaster count owns ringOf
+  unfolding countsTold streamsOfMaster
   ready-counts old =
       let S = sheetIn s n in
       let other : S .head .kind ≡ 5 → ⊥ = λ e. omega (arith, ready .bus) in
       rw (ready .reads, ne-eqb (S .head .kind) 5 other)
-      (tab-same (streamsOfMaster S) (count (ringOf S)) 33 (λ k l. sym (counted k (S .streams))))
+      (tab-same (streamsOfMaster S) (count (ringOf S)) 33 (λ k l. sym (count-is S k)))

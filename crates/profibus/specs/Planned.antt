@@ -8,7 +8,7 @@ use lib.Dec.{eqb, leb}
 use Rattle.common.specs.Checks.{Check, check, Verdict, verdict}
 use Rattle.common.specs.Checks.Verdict.{Passed, Refused}
 use Rattle.sheet.specs.Sheets.{Sheet, sheetOf}
-use Rattle.sheet.specs.Whole.{Outcome, placeOf, recordsOf, reading}
+use Rattle.sheet.specs.Whole.{sheetIn, Outcome, placeOf, recordsOf, reading}
 use Rattle.sheet.specs.Whole.Outcome.{Read, Not}
 use Rattle.ring.specs.Ring.{Ring, ringOf}
 use Rattle.ring.specs.Target.{FirstFails, Limited, target, firstFailing}
@@ -44,11 +44,6 @@ pub data Answers (S : Sheet) : Plan → Type 0 where
   limited : (ttr i : ℕ) → S .head .kind ≡ 3 → Limited (ringOf S) ttr i → Answers S (plan.Target (record { 0 = ttr }) i)
 
 -- ---- What the passes over the streams go by
-
--- what the first record and n streams behind it say
-unfoldable pub sheetIn : List ℕ → ℕ → Sheet
-unfolding sheetOf recordsOf
-sheetIn s n = sheetOf (recordsOf s (suc n))
 
 -- these bytes are a PROFIBUS sheet of n streams, and the first of them stands at a place
 pub record Ready (s : List ℕ) (first n : ℕ) : Type 0 where

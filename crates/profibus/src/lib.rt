@@ -6,10 +6,10 @@ pub use answer::RingPeriods;
 use sheet::Reading;
 ghost use mathlib.Core.Path.{_≡_};
 ghost use Rattle.common.specs.Runs.{tab};
-ghost use Rattle.sheet.specs.Whole.{reading};
+ghost use Rattle.sheet.specs.Whole.{sheetIn, reading};
 ghost use Rattle.sheet.specs.Whole.Outcome.{Read};
 ghost use Rattle.ring.specs.Ring.{ringOf, count, messages};
-ghost use Rattle.profibus.specs.Planned.{planOf, sheetIn, Ready};
+ghost use Rattle.profibus.specs.Planned.{planOf, Ready};
 
 // The longest deadline of a sheet. No stream bears a rotation as long, since C is at least 1.
 const LONGEST: u64 = 1000000000;

@@ -11,14 +11,32 @@ use Rattle.common.specs.Sums.{when, upto, up, firstOf}
 use Rattle.common.proofs.Sums.{upto-mono, up-rises}
 use Rattle.segment.specs.Segment.{Segment, owns, count, hold, turnBy, boundBy, bound}
 use Rattle.segment.specs.Refined.{rightBy, valueOf, stands, roundsOf, mostRounds, asked, right, rounds, refined}
-use Rattle.segment.proofs.Sequence.{Settles, Least, still-at-once}
-use Rattle.segment.proofs.Right.{rightOf, right-least, right-rounds, right-rounds-at-most, right-value-at-most}
+use Rattle.segment.proofs.Sequence.{Settles, Least, value-rises, still-at-once}
+use Rattle.segment.proofs.Right.{rightOf, charge, right-is-charges, right-rises, right-at-most, right-least, right-rounds, right-rounds-at-most, right-value-at-most}
 use Rattle.segment.proofs.Holds.{hold-at-least}
 
 -- ---- For any charge and any count
 
 module _ (h : ℕ → ℕ) (a : ℕ → ℕ → ℕ) (S : Segment) (k : ℕ) where
   module _ (big : (y : ℕ) → 1 ≤ y → y ≤ S .masters → 10 ≤ h y) (grows : (y v w : ℕ) → v ≤ w → a y v ≤ a y w) (lo : 1 ≤ k) (hi : k ≤ S .masters) where
+    -- the right side, with its minus, is s·h(k) and 10·s + min(s, a(y))·(h(y) - 10) for every other y
+    pub right-is-sum-by : (w : ℕ) → rightBy h a S k w ≡ upto (λ y. charge h (count S k) k (a y w) y) (S .masters)
+    unfolding rightBy turnBy rightOf
+    right-is-sum-by = right-is-charges h a (S .masters) (count S k) k big
+
+    -- it never falls as W grows, and is at most the bound
+    pub right-rises-by : (v w : ℕ) → v ≤ w → rightBy h a S k v ≤ rightBy h a S k w
+    unfolding rightBy turnBy rightOf
+    right-rises-by = right-rises h a (S .masters) (count S k) k big grows
+
+    pub right-at-most-by : (w : ℕ) → rightBy h a S k w ≤ boundBy h S k
+    unfolding rightBy turnBy rightOf boundBy
+    right-at-most-by = right-at-most h a (S .masters) (count S k) k
+
+    -- so the sequence rises
+    pub values-rise-by : (m : ℕ) → valueOf (rightBy h a S k) m ≤ valueOf (rightBy h a S k) (suc m)
+    values-rise-by = value-rises (rightBy h a S k) right-rises-by
+
     -- the value reached is the least W with W = right side
     pub least-by : Least (rightBy h a S k) (valueOf (rightBy h a S k) (roundsOf (rightBy h a S k) (mostRounds S k)))
     unfolding rightBy turnBy rightOf mostRounds

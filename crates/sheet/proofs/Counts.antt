@@ -1,14 +1,16 @@
 -- How many records have a number in their first field. Assumes nothing.
-use mathlib.Core.Path.{_≡_, refl}
+use mathlib.Core.Path.{_≡_, refl, ap, _∙_}
 use mathlib.Core.Bool.{Bool, true, false}
 use mathlib.Core.List.{List, [], _∷_, _++_}
-use Prim.Native.Nat.{ℕ, zero, suc, _+_, _<_}
+use Prim.Native.Nat.{ℕ, zero, suc, _+_, _-_, _≤_, _<_}
 use native.Mathlib.Nat.{not-suc-le-zero}
+use native.Mathlib.Numerals.{unary-clauses}
 use native.Mathlib.Omega.{arith}
 use borrow.Author.Tests.{eqb-true, ne-eqb, eq-eqb}
 use lib.ListN.{length, getD}
 use lib.Dec.{eqb}
-use Rattle.common.specs.Sums.{when}
+use Rattle.common.specs.Sums.{when, upto}
+use Rattle.common.proofs.Sums.{upto-same, upto-first}
 use Rattle.format.specs.declared.Record.{Record}
 use Rattle.format.specs.Kinds.{nothing}
 use Rattle.sheet.specs.Sheets.{countOf}
@@ -48,3 +50,16 @@ count-some x (r ∷ rs) l = split (eqb (r .a) x) refl (count-some x rs)
         let k : 0 < 0 + countOf x rs = rw q at l in
         let w = ih (omega arith) in
         (suc (w .0), omega (arith, w .1), w .2)
+
+-- streams are numbered from 1: counted by number, a master has as many as in the list
+pub counted-by-number : (k : ℕ) (rs : List Record) → upto (λ i. when (eqb (getD rs (i - 1) nothing .a) k) 1) (length rs) ≡ countOf k rs
+unfolding upto countOf
+counted-by-number k [] = refl
+counted-by-number k (r ∷ rs) =
+    upto-first (λ i. when (eqb (getD (r ∷ rs) (i - 1) nothing .a) k) 1) (length rs)
+    ∙ ap (λ (n : ℕ). when (eqb (r .a) k) 1 + n)
+    (upto-same (λ i. when (eqb (getD (r ∷ rs) (suc i - 1) nothing .a) k) 1) (λ i. when (eqb (getD rs (i - 1) nothing .a) k) 1) (length rs) next ∙ counted-by-number k rs)
+  where
+    next : (i : ℕ) → 1 ≤ i → i ≤ length rs → when (eqb (getD (r ∷ rs) (suc i - 1) nothing .a) k) 1 ≡ when (eqb (getD rs (i - 1) nothing .a) k) 1
+    next zero lo hi = absurd (omega arith)
+    next (suc i) lo hi = simp unary-clauses

@@ -10,3 +10,4 @@ pub mod Refusals
 pub mod Trips
 pub mod Walk
 pub mod Writes
+pub mod Taken

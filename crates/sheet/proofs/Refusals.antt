@@ -19,7 +19,7 @@ use Rattle.format.proofs.Tables.{both-true, known-within, known-bounds}
 use Rattle.sheet.specs.Sheets.{Sheet, streamsOf, sheetOf, fits, countOf, mostInAll, hasMaster, overLimit, metBefore}
 use Rattle.sheet.specs.Whole.{placeOf, recordsOf, recordChecks, judge, ended, reading, Outcome}
 use Rattle.sheet.specs.Whole.Outcome.{Read, Not}
-use Rattle.sheet.specs.Refusals.{recordAt, streamsBefore, KnownKind, RightKind, Complete, Ranged, InLimits, MetBefore, RefusedWith, Accepted, Reached, OnlyFirst, Given}
+use Rattle.sheet.specs.Refusals.{recordAt, streamsBefore, KnownKind, RightKind, Complete, Ranged, InLimits, MetBefore, RefusedWith, Taken, Reached, OnlyFirst, Given}
 use Rattle.sheet.specs.Refusals.RightKind.{at-first, behind}
 use Rattle.sheet.specs.Refusals.RefusedWith.{unknown, misplaced, cut, out-of-range, one-too-many, met-before}
 use Rattle.sheet.specs.Refusals.Given.{empty, at-record, no-stream}
@@ -128,13 +128,13 @@ module _ (s : List ℕ) where
   unfolding sizeOf
   complete-inside i c = omega (arith, c .ends)
 
-  only : Accepted s 0 → (j : ℕ) → j < 1 → Accepted s j
+  only : Taken s 0 → (j : ℕ) → j < 1 → Taken s j
   only a zero l = a
   only a (suc j) l = absurd (omega arith)
 
-  -- accepted by the table exactly if it passes
-  accepted-then : (i : ℕ) → PassesAt s i → Accepted s i
-  accepted-then i p =
+  -- taken by the table exactly if it passes
+  taken-then : (i : ℕ) → PassesAt s i → Taken s i
+  taken-then i p =
       record {
         is-known = known-then s i (p .is-known);
         is-right = right-then i (p .is-right);
@@ -144,8 +144,8 @@ module _ (s : List ℕ) where
         is-new = λ m. differ (met-if i m) (p .is-new);
       }
 
-  accepted-if : (i : ℕ) → Accepted s i → PassesAt s i
-  accepted-if i a =
+  taken-if : (i : ℕ) → Taken s i → PassesAt s i
+  taken-if i a =
       record {
         is-known = known-if s i (a .is-known);
         is-right = right-if i (a .is-right);
@@ -199,12 +199,12 @@ module _ (s : List ℕ) where
 
   -- ---- The whole sheet
 
-  -- records that the table accepts are those that reading goes on behind
-  upto-then : (i : ℕ) → Upto s i → (j : ℕ) → j < i → Accepted s j
-  upto-then i u j l = accepted-then j (u .passed j l)
+  -- records that the table takes are those that reading goes on behind
+  upto-then : (i : ℕ) → Upto s i → (j : ℕ) → j < i → Taken s j
+  upto-then i u j l = taken-then j (u .passed j l)
 
-  upto-if : (i : ℕ) → ((j : ℕ) → j < i → Accepted s j) → Upto s i
-  upto-if i a = record { inside = λ j l. complete-inside j (a j l .is-complete); passed = λ j l. accepted-if j (a j l) }
+  upto-if : (i : ℕ) → ((j : ℕ) → j < i → Taken s j) → Upto s i
+  upto-if i a = record { inside = λ j l. complete-inside j (a j l .is-complete); passed = λ j l. taken-if j (a j l) }
 
   at-its-end : (i n p : ℕ) → Upto s i → placeOf s i ≡ length s → ended s i ≡ Not n p → Given s n p
   unfolding placeOf
@@ -217,7 +217,7 @@ module _ (s : List ℕ) where
       let f : Not 6 (length s) ≡ Not n p = sym (ended-no-stream s) ∙ e in
       let en : 6 ≡ n = cc in
       let ep : length s ≡ p = cc in
-      rw (← en, ← ep) (no-stream (record { accepted = upto-then 1 u 0 (omega arith); ends = l }))
+      rw (← en, ← ep) (no-stream (record { taken = upto-then 1 u 0 (omega arith); ends = l }))
   at-its-end (suc (suc i)) n p u l e =
       let f : Read (sheetOf (recordsOf s (suc (suc i)))) ≡ Not n p = sym (ended-sheet s (suc i) (λ z. omega arith)) ∙ e in
       let z : _≡_ {A = ℕ} 0 1 = cc in
@@ -244,7 +244,7 @@ module _ (s : List ℕ) where
   given-if (at-record {i} {n} {p} h r) =
       let j : judge s i ≡ Refused n p = rw (h .starts) (refused-for r) in
       stops-once s (by-record i n p (upto-if i (h .before)) (rw (← h .starts) (h .inside)) j refl)
-  given-if (no-stream o) = stops-once s (at-end 1 (upto-if 1 (only (o .accepted))) (o .ends) refl) ∙ ended-no-stream s
+  given-if (no-stream o) = stops-once s (at-end 1 (upto-if 1 (only (o .taken))) (o .ends) refl) ∙ ended-no-stream s
 
   -- ---- Both ways
 
@@ -303,7 +303,7 @@ module _ (s : List ℕ) where
       line : {q : ℕ} → Given s 5 q → (i : ℕ) × Reached s i q × KnownKind s i × RightKind s i × Complete s i × Ranged s i × (InLimits s i → ⊥)
       line (at-record {i} h (one-too-many k r c f l)) = (i, h, k, r, c, f, l)
 
-  -- 6: the first record is accepted, and the sheet ends behind it
+  -- 6: the first record is taken, and the sheet ends behind it
   pub refused-6 : (p : ℕ) → (reading s ≡ Not 6 p) ↔ (OnlyFirst s × (p ≡ length s))
   refused-6 p = (λ e. line (given-then 6 p e), λ w. given-if (rw (w .1) (no-stream (w .0))))
     where

@@ -64,7 +64,7 @@ pub data RefusedWith (s : List ℕ) (i : ℕ) : ℕ → Type 0 where
   met-before : KnownKind s i → RightKind s i → Complete s i → Ranged s i → InLimits s i → MetBefore s i → RefusedWith s i 7
 
 -- no line applies to record i
-pub record Accepted (s : List ℕ) (i : ℕ) : Type 0 where
+pub record Taken (s : List ℕ) (i : ℕ) : Type 0 where
   pub is-known : KnownKind s i
   pub is-right : RightKind s i
   pub is-complete : Complete s i
@@ -72,15 +72,15 @@ pub record Accepted (s : List ℕ) (i : ℕ) : Type 0 where
   pub in-limits : InLimits s i
   pub is-new : MetBefore s i → ⊥
 
--- reading comes to record i: it starts at place p, within the sheet, and all records before it are accepted
+-- reading comes to record i: it starts at place p, within the sheet, and all records before it are taken
 pub record Reached (s : List ℕ) (i p : ℕ) : Type 0 where
   pub starts : p ≡ placeOf s i
   pub inside : p < length s
-  pub before : (j : ℕ) → j < i → Accepted s j
+  pub before : (j : ℕ) → j < i → Taken s j
 
 -- reading comes to the end behind the first record
 pub record OnlyFirst (s : List ℕ) : Type 0 where
-  pub accepted : Accepted s 0
+  pub taken : Taken s 0
   pub ends : placeOf s 1 ≡ length s
 
 -- a number and its place are given for a sheet

@@ -28,6 +28,11 @@ unfolding decode placeOf
 recordsOf s zero = []
 recordsOf s (suc n) = recordsOf s n ++ (decode s (placeOf s n) ∷ [])
 
+-- what the first record and n streams behind it say
+unfoldable pub sheetIn : List ℕ → ℕ → Sheet
+unfolding sheetOf recordsOf
+sheetIn s n = sheetOf (recordsOf s (suc n))
+
 -- ---- The refusals of reading
 
 -- those of a record r of the sheet s that stands at a place behind the records `before`

@@ -1,15 +1,15 @@
 -- The microcycle is the highest common factor of the periods, and rows times microcycle their least common multiple; so what a sheet
 -- asks of its table is sound. Assumes nothing.
-use mathlib.Core.Path.{_≡_, refl, sym, ap, _∙_, subst}
+use mathlib.Core.Path.{_≡_, sym, ap, _∙_, subst}
 use mathlib.Core.Logic.{_⊎_, inl, inr}
-use Prim.Native.Nat.{ℕ, zero, suc, _+_, _*_, _/_, _%_, _∣_, _<_, _≤_}
+use Prim.Native.Nat.{ℕ, zero, suc, _*_, _/_, _%_, _∣_, _<_, _≤_}
 use native.Mathlib.Nat.{dvd-trans, dvd-refl, dvd-zero, one-dvd, mod-eq-zero-of-dvd, dvd-of-mod-eq-zero, pos-of-dvd-of-pos, div-mul-cancel, eq-zero-or-pos, zero-mul, mul-dvd-mul-right, dvd-of-mul-dvd-mul-right}
 use native.Mathlib.Omega.{arith}
 use native.Mathlib.Decide.{ℕ-discrete}
 use borrow.Author.Tests.{lt-ltb}
 use Rattle.bits.specs.Remainder.{hcf, lcm}
 use Rattle.bits.proofs.Divides.{hcf-common, lcm-first, lcm-second, lcm-least, lcm-pos}
-use Rattle.table.specs.Table.{Asked, Sound}
+use Rattle.table.specs.Table.{Sound}
 use Rattle.table.specs.Traffic.{Traffic, Declared, periodOf, variableOf, factorUpto, multipleUpto, microcycle, inRows, rows, periodAt, askedOf}
 use Rattle.table.proofs.Ranks.{variable-within}
 

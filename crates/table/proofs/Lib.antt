@@ -5,4 +5,5 @@ pub mod Ranks
 pub mod Factors
 pub mod Plain
 pub mod Promises
+pub mod Named
 pub mod Examples

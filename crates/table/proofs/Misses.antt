@@ -1,11 +1,8 @@
 -- The earliest miss, as the definition finds it: there is none exactly if the builder accepts. Assumes nothing.
-use mathlib.Core.Path.{_≡_, _∙_}
-use mathlib.Core.Bool.{true, false}
-use Prim.Native.Nat.{ℕ, suc, _+_, _≤_, _<_}
+use mathlib.Core.Path.{_≡_}
+use Prim.Native.Nat.{ℕ, suc, _≤_, _<_}
 use native.Mathlib.Omega.{arith}
-use lib.Dec.{ltb}
 use borrow.Author.Tests.{ltb-true, ltb-false, le-ltb}
-use Rattle.common.specs.Sums.{firstOf}
 use Rattle.common.proofs.Firsts.{first-none, First, first-is}
 use Rattle.table.specs.Table.{Asked}
 use Rattle.table.specs.Build.{Order, late, missAt, missRow, Accepts}

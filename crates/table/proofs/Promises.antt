@@ -1,20 +1,17 @@
 -- Page 01, 'WorldFIP table': what the page says of the table of every sheet, sentence by sentence. The road to these laws stands in the
 -- files beside this one. Assumes nothing.
 use mathlib.Core.Path.{_≡_, sym, _∙_}
-use Prim.Native.Nat.{ℕ, suc, _+_, _*_, _%_, _^_, _∣_, _≤_, _<_, min}
+use Prim.Native.Nat.{ℕ, suc, _+_, _*_, _%_, _∣_, _≤_, _<_, min}
 use native.Mathlib.Nat.{div-add-mod', mod-lt}
 use native.Mathlib.Omega.{arith}
-use native.Mathlib.Decide.{ℕ-discrete}
 use lib.Count.{ones}
-use lib.Pow.{pow-mono}
-use Rattle.bits.specs.Sets.{bit, lowest}
-use Rattle.bits.proofs.Picks.{lowest-is, lowest-picks}
-use Rattle.table.specs.Table.{Asked, Table}
-use Rattle.table.specs.Build.{new, byRank, pending, ready, row, late, missRow}
-use Rattle.table.specs.Traffic.{Traffic, Declared, periodOf, rankOf, variableOf, microcycle, slots, inRows, rows, askedOf, pendingOf, rowOf, lateOf, missOf, missingOf}
-use Rattle.table.proofs.Steps.{Picking, rank-picking, hit, hit-yes, hit-one, new-bit, row-few, row-full, row-bit, late-bit, late-below}
+use Rattle.bits.specs.Sets.{bit}
+use Rattle.table.specs.Table.{Table}
+use Rattle.table.specs.Build.{new, byRank, ready}
+use Rattle.table.specs.Traffic.{Traffic, Declared, periodOf, rankOf, variableOf, microcycle, slots, inRows, rows, askedOf, pendingOf, rowOf, lateOf, missOf}
+use Rattle.table.proofs.Steps.{Picking, rank-picking, hit, hit-yes, hit-one, new-bit, row-few, row-full, row-bit, late-bit}
 use Rattle.table.proofs.Rows.{builds, row-lowest}
-use Rattle.table.proofs.Misses.{quiet-before, miss-there, none-accepts, accepts-none}
+use Rattle.table.proofs.Misses.{quiet-before, miss-there, none-accepts}
 use Rattle.table.proofs.Ranks as ranks
 use Rattle.table.proofs.Factors as factors
 
@@ -107,7 +104,7 @@ module _ (T : Traffic) (D : Declared T) where
   served-until-full m h = row-full (askedOf T) byRank P m h
 
   -- ---- 'A miss is a request still pending when the variable's next falls due, the end of the last row included; 12 names the
-  -- earliest miss.'
+  -- earliest miss': Named.antt has the variable that it names
 
   pub late-pending-and-new : (m r : ℕ) → bit (lateOf T m) r ≡ min (bit (pendingOf T m) r) (bit (new (askedOf T) m) r)
   late-pending-and-new m r = late-bit (askedOf T) byRank m r
@@ -118,19 +115,6 @@ module _ (T : Traffic) (D : Declared T) where
   pub miss-at-its-row : missOf T ≤ rows T → 0 < lateOf T (missOf T)
   unfolding askedOf
   miss-at-its-row l = miss-there (askedOf T) byRank l
-
-  -- 'and at one row the best rank': the variable that 12 names is late there, and no better rank is
-  pub names-the-best-rank : missOf T ≤ rows T
-      → (rankOf T (missingOf T) < T .number) × (bit (lateOf T (missOf T)) (rankOf T (missingOf T)) ≡ 1)
-      × ((r : ℕ) → r < rankOf T (missingOf T) → bit (lateOf T (missOf T)) r ≡ 0)
-  unfolding askedOf missingOf
-  names-the-best-rank l =
-      let x = lateOf T (missOf T) in
-      let h : 0 < x = miss-at-its-row l in
-      let b : x < 2 ^ T .number = late-below (askedOf T) byRank P (missOf T) in
-      let w = lowest-is x h (omega (arith, b, pow-mono {i = T .number} {j = 64} few)) in
-      let u : lowest x < T .number = lowest-picks (T .number) few .in-set x h b .0 in
-      rw (rank-of-variable (lowest x) u) (u, w .member, w .first)
 
   -- ---- 'The set bits of a row are at most the slots. In each period each variable's bit is set in exactly one row.'
 

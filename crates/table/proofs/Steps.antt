@@ -83,6 +83,11 @@ new-bit A m r l = setOf-bit (asks A m) (A .vars) r l
 
 -- ---- One row
 
+-- what misses is pending and new
+pub late-bit : (A : Asked) (o : Order) (m r : ℕ) → bit (late A o m) r ≡ min (bit (pending A o m) r) (bit (new A m) r)
+unfolding late
+late-bit A o m r = bit-and (pending A o m) (new A m) r
+
 -- an order that serves members
 pub record Picking (A : Asked) (o : Order) : Type 0 where
   pub at-row : (m : ℕ) → Picks (A .vars) (o m)
@@ -125,11 +130,6 @@ module _ (A : Asked) (o : Order) (P : Picking A o) where
   pub row-bit : (m r : ℕ) → bit (row A o m) r + bit (pending A o (suc m)) r ≡ bit (ready A o m) r
   unfolding row pending ready
   row-bit m r = served-bit (A .vars) (o m) (P .at-row m) (A .slots) (bitOr (pending A o m) (new A m)) r (ready-below m)
-
--- what misses is pending and new
-pub late-bit : (A : Asked) (o : Order) (m r : ℕ) → bit (late A o m) r ≡ min (bit (pending A o m) r) (bit (new A m) r)
-unfolding late
-late-bit A o m r = bit-and (pending A o m) (new A m) r
 
 module _ (A : Asked) (o : Order) (m r : ℕ) (quiet : late A o m ≡ 0) where
   no-late : bit (late A o m) r ≡ 0

@@ -1,3 +1,4 @@
 pub mod Table
 pub mod Build
 pub mod Traffic
+pub mod Misses

@@ -4,7 +4,8 @@ use format::Put;
 use format::Record;
 use libc::STDOUT_FILENO;
 use pnet::Plan;
-ghost use Prim.Native.Nat.{_≤_};
+ghost use Prim.Native.Nat.{_≤_, _<_};
+ghost use lib.ListN.{length};
 
 fn say(text: &[u8]) {
     io::write_all(STDOUT_FILENO, text);
@@ -70,164 +71,253 @@ fn case(name: &[u8], s: &[u8], a: usize, b: usize, c: usize)
     );
 }
 
-fn put(buf: &mut [u8], at: usize, r: Record) -> usize {
+// Puts a record at a place, and gives the place just after it.
+fn put(buf: &mut [u8], at: usize, kind: u8, a: u32, b: u32, c: u32, d: u32) -> usize {
+    let r = Record { kind, a, b, c, d };
     match format::put_record(buf, at, r) {
         Put::Next(next) => next,
         Put::Refused { no: _, place: _ } => at,
     }
 }
 
-// Ten masters with 80 streams each, in turn.
-fn write_large(buf: &mut [u8]) {
-    let mut at = put(
-        buf,
-        0,
-        Record {
-            kind: 1,
-            a: 10,
-            b: 0,
-            c: 0,
-            d: 0,
-        },
-    );
+// A segment of n masters with so many streams, dealt out in turn, all with one C, T and D.
+fn write_even(buf: &mut [u8], n: u32, streams: u32, cycle: u32, spacing: u32, deadline: u32)
+    requires { ⌜ 0 < n ⌝ }
+{
+    let mut at = put(buf, 0, 1, n, 0, 0, 0);
     let mut i: u32 = 0;
-    while i < 800 {
-        at = put(
-            buf,
-            at,
-            Record {
-                kind: 2,
-                a: i % 10 + 1,
-                b: 200,
-                c: 1000000,
-                d: 1000000,
-            },
-        );
+    while i < streams {
+        at = put(buf, at, 2, i % n + 1, cycle, spacing, deadline);
         i += 1;
     }
 }
 
-// The page's case with 80 streams for each of ten masters: R 197,600.
-fn large() {
+// A segment of n masters with a stream for each four figures: master, C, T and D.
+fn write_streams(buf: &mut [u8], n: u32, figures: &[u32]) {
+    let mut at = put(buf, 0, 1, n, 0, 0, 0);
+    let mut i: usize = 0;
+    while i + 3 < figures.len() {
+        at = put(
+            buf,
+            at,
+            2,
+            figures[i],
+            figures[i + 1],
+            figures[i + 2],
+            figures[i + 3],
+        );
+        i += 4;
+    }
+}
+
+// The page's four masters with two streams each, C 203.
+fn four(name: &[u8], deadline: u32, a: usize, b: usize, c: usize)
+    requires { ⌜ (a ≤ 12) × (b ≤ 12) × (c ≤ 12) ⌝ }
+{
+    let mut s = [0u8; 98];
+    write_even(&mut s, 4, 8, 203, 100000, deadline);
+    case(name, &s, a, b, c);
+}
+
+// The page's ten masters with 80 streams each, C 200.
+fn ten() {
     let mut s = [0u8; 9602];
-    write_large(&mut s);
+    write_even(&mut s, 10, 800, 200, 1000000, 1000000);
     case(b"80 streams each", &s, 12, 12, 12);
+}
+
+// A few streams, and runs with one place more than there are masters.
+fn few(name: &[u8], n: u32, figures: &[u32], room: usize)
+    requires { ⌜ (length (now figures) ≤ 32) × (room ≤ 12) ⌝ }
+{
+    let mut s = [0u8; 98];
+    write_streams(&mut s, n, figures);
+    let end = 2 + 3 * figures.len();
+    case(name, &s[..end], room, room, room);
 }
 
 fn page() {
     // Page 01, 'Sheets worked by hand': V 1,000, so R 2,000.
-    case(
-        b"D 2000",
-        b"\x01\x04\x02\x01\x00\xcb\x00\x01\x86\xa0\x00\x00\x07\xd0\x02\x01\x00\xcb\x00\x01\x86\xa0\x00\x00\x07\xd0\x02\x02\x00\xcb\x00\x01\x86\xa0\x00\x00\x07\xd0\x02\x02\x00\xcb\x00\x01\x86\xa0\x00\x00\x07\xd0\x02\x03\x00\xcb\x00\x01\x86\xa0\x00\x00\x07\xd0\x02\x03\x00\xcb\x00\x01\x86\xa0\x00\x00\x07\xd0\x02\x04\x00\xcb\x00\x01\x86\xa0\x00\x00\x07\xd0\x02\x04\x00\xcb\x00\x01\x86\xa0\x00\x00\x07\xd0",
-        5,
-        5,
-        5,
-    );
-    case(
-        b"D 1999",
-        b"\x01\x04\x02\x01\x00\xcb\x00\x01\x86\xa0\x00\x00\x07\xcf\x02\x01\x00\xcb\x00\x01\x86\xa0\x00\x00\x07\xcf\x02\x02\x00\xcb\x00\x01\x86\xa0\x00\x00\x07\xcf\x02\x02\x00\xcb\x00\x01\x86\xa0\x00\x00\x07\xcf\x02\x03\x00\xcb\x00\x01\x86\xa0\x00\x00\x07\xcf\x02\x03\x00\xcb\x00\x01\x86\xa0\x00\x00\x07\xcf\x02\x04\x00\xcb\x00\x01\x86\xa0\x00\x00\x07\xcf\x02\x04\x00\xcb\x00\x01\x86\xa0\x00\x00\x07\xcf",
-        5,
-        5,
-        5,
-    );
-    case(
-        b"D 1999 of stream 3",
-        b"\x01\x04\x02\x01\x00\xcb\x00\x01\x86\xa0\x00\x00\x07\xd0\x02\x01\x00\xcb\x00\x01\x86\xa0\x00\x00\x07\xd0\x02\x02\x00\xcb\x00\x01\x86\xa0\x00\x00\x07\xcf\x02\x02\x00\xcb\x00\x01\x86\xa0\x00\x00\x07\xd0\x02\x03\x00\xcb\x00\x01\x86\xa0\x00\x00\x07\xcf\x02\x03\x00\xcb\x00\x01\x86\xa0\x00\x00\x07\xd0\x02\x04\x00\xcb\x00\x01\x86\xa0\x00\x00\x07\xd0\x02\x04\x00\xcb\x00\x01\x86\xa0\x00\x00\x07\xd0",
-        5,
-        5,
-        5,
-    );
+    four(b"D 2000", 2000, 5, 5, 5);
+    four(b"D 1999", 1999, 5, 5, 5);
     // The next case of the page: W 760 and 500.
-    case(
+    few(
         b"T 100000",
-        b"\x01\x02\x02\x01\x00\xcb\x00\x01\x86\xa0\x00\x01\x86\xa0\x02\x01\x00\xcb\x00\x01\x86\xa0\x00\x01\x86\xa0\x02\x02\x00\xcb\x00\x01\x86\xa0\x00\x01\x86\xa0",
+        2,
+        &[
+            1,
+            203,
+            100000,
+            100000,
+            1,
+            203,
+            100000,
+            100000,
+            2,
+            203,
+            100000,
+            100000,
+        ],
         4,
+    );
+    ten();
+}
+
+fn deadlines() {
+    // V and every R 600: streams 3 and 4 are late, and the first of them is named.
+    few(
+        b"D 599 of streams 3 and 4",
         4,
+        &[
+            1,
+            203,
+            1000,
+            600,
+            2,
+            203,
+            1000,
+            600,
+            3,
+            3,
+            1000,
+            599,
+            4,
+            3,
+            1000,
+            599,
+        ],
+        5,
+    );
+    few(
+        b"D 600",
         4,
+        &[
+            1,
+            203,
+            1000,
+            600,
+            2,
+            203,
+            1000,
+            600,
+            3,
+            3,
+            1000,
+            600,
+            4,
+            3,
+            1000,
+            600,
+        ],
+        5,
     );
 }
 
 fn searches() {
     // W 760 and W 1,000 both solve it; the least is asked.
-    case(
+    few(
         b"T 900",
-        b"\x01\x02\x02\x01\x00\xcb\x00\x01\x86\xa0\x00\x01\x86\xa0\x02\x01\x00\xcb\x00\x01\x86\xa0\x00\x01\x86\xa0\x02\x02\x00\xcb\x00\x00\x03\x84\x00\x00\x03\x84",
-        4,
-        4,
-        4,
+        2,
+        &[
+            1,
+            203,
+            100000,
+            100000,
+            1,
+            203,
+            100000,
+            100000,
+            2,
+            203,
+            900,
+            900,
+        ],
+        3,
     );
     // Values 0, 240, 420, 510, 600.
-    case(
+    few(
         b"T 150",
-        b"\x01\x02\x02\x01\x00\x03\x00\x01\x86\xa0\x00\x01\x86\xa0\x02\x01\x00\x03\x00\x01\x86\xa0\x00\x01\x86\xa0\x02\x01\x00\x03\x00\x01\x86\xa0\x00\x01\x86\xa0\x02\x01\x00\x03\x00\x01\x86\xa0\x00\x01\x86\xa0\x02\x02\x00\x35\x00\x00\x00\x96\x00\x00\x00\x96",
         2,
-        2,
-        2,
+        &[
+            1,
+            3,
+            100000,
+            100000,
+            1,
+            3,
+            100000,
+            100000,
+            1,
+            3,
+            100000,
+            100000,
+            1,
+            3,
+            100000,
+            100000,
+            2,
+            53,
+            150,
+            150,
+        ],
+        3,
     );
     // Values 0, 240, 420, 510.
-    case(
+    few(
         b"T 200",
-        b"\x01\x02\x02\x01\x00\x03\x00\x01\x86\xa0\x00\x01\x86\xa0\x02\x01\x00\x03\x00\x01\x86\xa0\x00\x01\x86\xa0\x02\x01\x00\x03\x00\x01\x86\xa0\x00\x01\x86\xa0\x02\x01\x00\x03\x00\x01\x86\xa0\x00\x01\x86\xa0\x02\x02\x00\x35\x00\x00\x00\xc8\x00\x00\x00\xc8",
         2,
-        2,
-        2,
+        &[
+            1,
+            3,
+            100000,
+            100000,
+            1,
+            3,
+            100000,
+            100000,
+            1,
+            3,
+            100000,
+            100000,
+            1,
+            3,
+            100000,
+            100000,
+            2,
+            53,
+            200,
+            200,
+        ],
+        3,
     );
     // Master 2 is silent and costs 10: V 510.
-    case(
+    few(
         b"a silent master",
-        b"\x01\x03\x02\x03\x00\xcb\x00\x01\x86\xa0\x00\x01\x86\xa0\x02\x01\x00\xcb\x00\x01\x86\xa0\x00\x01\x86\xa0",
         3,
-        3,
-        3,
+        &[3, 203, 100000, 100000, 1, 203, 100000, 100000],
+        4,
     );
-    // The longest H is its own master's, not the segment's: V 1,595 + 48.
-    case(
+    // The longest cycle is each master's own: V 1,595 + 48.
+    few(
         b"own longest cycle",
-        b"\x01\x02\x02\x01\x06\x0c\x00\x01\x86\xa0\x00\x01\x86\xa0\x02\x02\x00\x01\x00\x01\x86\xa0\x00\x01\x86\xa0",
         2,
-        2,
-        2,
+        &[1, 1548, 100000, 100000, 2, 1, 100000, 100000],
+        3,
     );
 }
 
 fn rooms() {
     // Exactly enough room, and one place too few in each run.
-    case(
-        b"room for 4",
-        b"\x01\x04\x02\x01\x00\xcb\x00\x01\x86\xa0\x00\x00\x07\xd0\x02\x01\x00\xcb\x00\x01\x86\xa0\x00\x00\x07\xd0\x02\x02\x00\xcb\x00\x01\x86\xa0\x00\x00\x07\xd0\x02\x02\x00\xcb\x00\x01\x86\xa0\x00\x00\x07\xd0\x02\x03\x00\xcb\x00\x01\x86\xa0\x00\x00\x07\xd0\x02\x03\x00\xcb\x00\x01\x86\xa0\x00\x00\x07\xd0\x02\x04\x00\xcb\x00\x01\x86\xa0\x00\x00\x07\xd0\x02\x04\x00\xcb\x00\x01\x86\xa0\x00\x00\x07\xd0",
-        4,
-        4,
-        4,
-    );
-    case(
-        b"bound short",
-        b"\x01\x04\x02\x01\x00\xcb\x00\x01\x86\xa0\x00\x00\x07\xd0\x02\x01\x00\xcb\x00\x01\x86\xa0\x00\x00\x07\xd0\x02\x02\x00\xcb\x00\x01\x86\xa0\x00\x00\x07\xd0\x02\x02\x00\xcb\x00\x01\x86\xa0\x00\x00\x07\xd0\x02\x03\x00\xcb\x00\x01\x86\xa0\x00\x00\x07\xd0\x02\x03\x00\xcb\x00\x01\x86\xa0\x00\x00\x07\xd0\x02\x04\x00\xcb\x00\x01\x86\xa0\x00\x00\x07\xd0\x02\x04\x00\xcb\x00\x01\x86\xa0\x00\x00\x07\xd0",
-        3,
-        4,
-        4,
-    );
-    case(
-        b"refined short",
-        b"\x01\x04\x02\x01\x00\xcb\x00\x01\x86\xa0\x00\x00\x07\xd0\x02\x01\x00\xcb\x00\x01\x86\xa0\x00\x00\x07\xd0\x02\x02\x00\xcb\x00\x01\x86\xa0\x00\x00\x07\xd0\x02\x02\x00\xcb\x00\x01\x86\xa0\x00\x00\x07\xd0\x02\x03\x00\xcb\x00\x01\x86\xa0\x00\x00\x07\xd0\x02\x03\x00\xcb\x00\x01\x86\xa0\x00\x00\x07\xd0\x02\x04\x00\xcb\x00\x01\x86\xa0\x00\x00\x07\xd0\x02\x04\x00\xcb\x00\x01\x86\xa0\x00\x00\x07\xd0",
-        4,
-        3,
-        4,
-    );
-    case(
-        b"rounds short",
-        b"\x01\x04\x02\x01\x00\xcb\x00\x01\x86\xa0\x00\x00\x07\xd0\x02\x01\x00\xcb\x00\x01\x86\xa0\x00\x00\x07\xd0\x02\x02\x00\xcb\x00\x01\x86\xa0\x00\x00\x07\xd0\x02\x02\x00\xcb\x00\x01\x86\xa0\x00\x00\x07\xd0\x02\x03\x00\xcb\x00\x01\x86\xa0\x00\x00\x07\xd0\x02\x03\x00\xcb\x00\x01\x86\xa0\x00\x00\x07\xd0\x02\x04\x00\xcb\x00\x01\x86\xa0\x00\x00\x07\xd0\x02\x04\x00\xcb\x00\x01\x86\xa0\x00\x00\x07\xd0",
-        4,
-        4,
-        0,
-    );
-    // 13 comes before 8, and 3 before 13.
-    case(
-        b"short and late",
-        b"\x01\x04\x02\x01\x00\xcb\x00\x01\x86\xa0\x00\x00\x07\xcf\x02\x01\x00\xcb\x00\x01\x86\xa0\x00\x00\x07\xcf\x02\x02\x00\xcb\x00\x01\x86\xa0\x00\x00\x07\xcf\x02\x02\x00\xcb\x00\x01\x86\xa0\x00\x00\x07\xcf\x02\x03\x00\xcb\x00\x01\x86\xa0\x00\x00\x07\xcf\x02\x03\x00\xcb\x00\x01\x86\xa0\x00\x00\x07\xcf\x02\x04\x00\xcb\x00\x01\x86\xa0\x00\x00\x07\xcf\x02\x04\x00\xcb\x00\x01\x86\xa0\x00\x00\x07\xcf",
-        4,
-        4,
-        3,
-    );
+    four(b"room for 4", 2000, 4, 4, 4);
+    four(b"bound short", 2000, 3, 4, 4);
+    four(b"refined short", 2000, 4, 3, 4);
+    four(b"rounds short", 2000, 4, 4, 0);
+    // 13 comes before 8.
+    four(b"short and late", 1999, 4, 4, 3);
+}
+
+fn others() {
+    // Another bus: 3 at 0, whatever is lent.
     case(
         b"a ring",
         b"\x03\x03\x00\x00\x01\x2c\x00\x00\x01\xf4\x04\x01\x00\x00\x01\x90\x00\x00\x20\xd0",
@@ -236,22 +326,12 @@ fn rooms() {
         5,
     );
     case(
-        b"a ring, no room",
-        b"\x03\x03\x00\x00\x01\x2c\x00\x00\x01\xf4\x04\x01\x00\x00\x01\x90\x00\x00\x20\xd0",
-        0,
-        0,
-        0,
-    );
-    case(
-        b"WorldFIP",
+        b"WorldFIP, no room",
         b"\x05\x00\x00\x01\x90\x06\x00\x11\x00\x00\x03\xe8",
-        5,
-        5,
-        5,
+        0,
+        0,
+        0,
     );
-}
-
-fn unread() {
     // The reading's own refusals come first.
     case(b"no stream", b"\x01\x04", 5, 5, 5);
     case(b"WorldFIP, no variable", b"\x05\x00\x00\x01\x90", 5, 5, 5);
@@ -260,8 +340,8 @@ fn unread() {
 
 fn main() {
     page();
+    deadlines();
     searches();
     rooms();
-    unread();
-    large();
+    others();
 }

@@ -1,5 +1,5 @@
 -- One row of the builder, and the earliest miss, as the code finds them. Assumes nothing.
-use mathlib.Core.Path.{_≡_, refl, sym, ap, _∙_, subst}
+use mathlib.Core.Path.{_≡_, sym, _∙_, subst}
 use mathlib.Core.Bool.{true, false}
 use mathlib.Core.List.{List}
 use Prim.Native.Nat.{ℕ, suc, _+_, _^_, _≤_, _<_}
@@ -12,13 +12,12 @@ use lib.ListN.{length, getD, set}
 use lib.Seq.{getD-set-same, getD-set-other}
 use borrow.Author.Tests.{lt-ltb, le-ltb, le-leb, lt-leb}
 use Rattle.common.proofs.Firsts.{first-hit, first-none}
-use Rattle.bits.specs.Sets.{lowest, left, served}
+use Rattle.bits.specs.Sets.{lowest, served}
 use Rattle.bits.proofs.Picks.{lowest-picks, served-rest}
 use Rattle.table.specs.Table.{Asked}
 use Rattle.table.specs.Build.{new, byRank, pending, ready, row, late, missAt, missRow}
 use Rattle.table.proofs.Steps.{rank-picking, ready-below}
-use Rattle.worldfip.specs.Held.{requests, given, missing}
-use Rattle.worldfip.proofs.Turns.{requests-new}
+use Rattle.worldfip.specs.Held.{missing}
 
 -- ---- One row
 

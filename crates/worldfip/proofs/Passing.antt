@@ -2,7 +2,7 @@
 -- Assumes nothing.
 use mathlib.Core.Path.{_≡_, refl, sym, ap, _∙_, fun-ext}
 use mathlib.Core.List.{List}
-use Prim.Native.Nat.{ℕ, zero, suc, _+_, _-_, _≤_, _<_}
+use Prim.Native.Nat.{ℕ, suc, _+_, _-_, _≤_, _<_}
 use native.Mathlib.Numerals.{add-one}
 use native.Mathlib.Omega.{arith}
 use native.Mathlib.Decide.{decLt}
@@ -13,20 +13,20 @@ use Rattle.common.specs.Sums.{when}
 use Rattle.common.specs.Checks.{Check, Verdict, verdict}
 use Rattle.common.specs.Checks.Verdict.{Passed, Refused}
 use Rattle.format.specs.declared.Met.{Met}
-use Rattle.format.specs.declared.Record.{Record}
 use Rattle.format.specs.Kinds.{nothing, metAt}
-use Rattle.format.proofs.Ranges.{ExchangeRanges, VariableRanges, exchange-ranges, variable-ranges}
+use Rattle.format.proofs.Ranges.{VariableRanges, exchange-ranges, variable-ranges}
 use Rattle.sheet.specs.Sheets.{Sheet, sheetOf}
-use Rattle.sheet.specs.Whole.{Outcome, placeOf, recordsOf, reading, told}
-use Rattle.sheet.specs.Whole.Outcome.{Read, Not}
+use Rattle.sheet.specs.Whole.{sheetIn, Outcome, placeOf, reading}
+use Rattle.sheet.specs.Whole.Outcome.{Read}
 use Rattle.sheet.specs.declared.Reading.the-variants as answer
 use Rattle.sheet.proofs.Walk.{length-streams}
 use Rattle.sheet.proofs.Known.{Known, reading-read}
-use Rattle.table.specs.Traffic.{Variable, Traffic, Declared, plain, periodOf, ahead, rankOf, variableOf, identifierAt, microcycle, slots, inRows, rows, periodAt, askedOf, missingOf}
+use Rattle.table.specs.Traffic.{Traffic, Declared, plain, periodOf, ahead, rankOf, variableOf, identifierAt, microcycle, slots, inRows, rows, periodAt, askedOf, missingOf}
 use Rattle.table.proofs.Plain.{plainOf, plain-declared, plain-variable}
 use Rattle.worldfip.specs.declared.answer.Plan.the-variants as plan
 use Rattle.worldfip.specs.Answer.{variableBy, variableAt, trafficOf, tableChecks, planChecks, planBy, runBy, planOf, runOf, identifierOf}
-use Rattle.worldfip.specs.Held.{numbered, held, tablePlan, tableRun, sheetIn, Ready, Gathered}
+use Rattle.worldfip.specs.Held.{numbered, held, Sheeted, Placed, Ranked, tablePlan, tableRun, Ready, Gathered}
+use Rattle.worldfip.proofs.Tied.{variable-is}
 
 -- ---- A sheet that reads without refusal declares traffic within the ranges
 
@@ -44,37 +44,9 @@ module _ (s : List ℕ) (S : Sheet) (known : Known s S) (bus : S .head .kind ≡
         period-in = λ i lo hi. (let r = in-range (i - 1) (omega arith) in (r .period .least, r .period .most));
       }
 
--- ---- From the reader's answer
-
--- the answer `Accepted head n first`: the first record and n streams behind it are the whole sheet
-pub record Taken (s : List ℕ) (head : Record) (n first : ℕ) : Type 0 where
-  pub reads : reading s ≡ Read (sheetIn s n)
-  pub begins : head ≡ sheetIn s n .head
-  pub starts : first ≡ placeOf s 1
-
-pub taken : (s : List ℕ) (h : Record) (n f : ℕ) → told s (reading s) ≡ answer.Accepted h n f → Taken s h n f
-unfolding sheetIn
-taken s h n f e = split (reading s) refl e
-  where
-    split : (o : Outcome) → reading s ≡ o → told s o ≡ answer.Accepted h n f → Taken s h n f
-    split (Read S) q a =
-        let eh : h ≡ S .head = cc in
-        let en : length (S .streams) ≡ n = cc in
-        let ef : f ≡ placeOf s 1 = cc in
-        let w : S ≡ sheetIn s n = rw (← en) (reading-read s S q .says) in
-        record { reads = q ∙ ap Read w; begins = eh ∙ ap (λ (x : Sheet). x .head) w; starts = ef }
-    split (Not no' p) q a = let z : _≡_ {A = ℕ} 0 1 = cc in absurd (omega arith)
-
-pub not-taken : (s : List ℕ) (x p : ℕ) → told s (reading s) ≡ answer.Refused x p → reading s ≡ Not x p
-not-taken s x p e = split (reading s) refl e
-  where
-    split : (o : Outcome) → reading s ≡ o → told s o ≡ answer.Refused x p → reading s ≡ Not x p
-    split (Read S) q a = let z : _≡_ {A = ℕ} 0 1 = cc in absurd (omega arith)
-    split (Not y r) q a = let ex : y ≡ x = cc in let ep : r ≡ p = cc in cc
-
 -- ---- Record after record
 
-module _ (s : List ℕ) (first n : ℕ) (ready : Ready s first n) where
+module _ {s : List ℕ} {first n : ℕ} (ready : Ready s first n) where
   known : Known s (sheetIn s n)
   known = reading-read s (sheetIn s n) (ready .reads)
 
@@ -168,13 +140,13 @@ module _ (S : Sheet) (other : S .head .kind ≡ 5 → ⊥) where
   unfolding identifierOf
   other-name r = simp (ne-eqb (S .head .kind) 5 other)
 
-module _ (s : List ℕ) (first n e : ℕ) (ready : Ready s first n) (head : e ≡ sheetIn s n .head .a) (names periods : List ℕ)
+module _ {s : List ℕ} {first n e : ℕ} {names periods : List ℕ} (ready : Ready s first n) (head : e ≡ sheetIn s n .head .a)
     (g : Gathered (trafficOf (sheetIn s n)) names periods) where
   pub held-is : held periods n e ≡ plainOf (trafficOf (sheetIn s n))
   unfolding held trafficOf
   held-is =
       ap (λ (x : ℕ). held periods n x) head
-      ∙ (ap (λ (x : ℕ). held periods x (sheetIn s n .head .a)) (sym (ready-number s first n ready))
+      ∙ (ap (λ (x : ℕ). held periods x (sheetIn s n .head .a)) (sym (ready-number ready))
       ∙ ap (plain (trafficOf (sheetIn s n) .exchange) (trafficOf (sheetIn s n) .number)) (fun-ext each))
     where
       each : (i : ℕ) → numbered periods i ≡ periodOf (trafficOf (sheetIn s n)) i
@@ -182,8 +154,12 @@ module _ (s : List ℕ) (first n e : ℕ) (ready : Ready s first n) (head : e �
           let p : i - 1 + 1 - 1 ≡ i - 1 = omega arith in
           g .periods-are (i - 1) ∙ ap (λ (x : ℕ). getD (sheetIn s n .streams) x nothing .b) p
 
-  pub held-declared : Declared (held periods n e)
-  held-declared = rw held-is (plain-declared (trafficOf (sheetIn s n)) (ready-declared s first n ready))
+  pub sheeted : Sheeted periods n e
+  sheeted =
+      record {
+        there = omega (arith, g .periods-long, ready-number ready, ready-declared ready .number-in);
+        declares = rw held-is (plain-declared (trafficOf (sheetIn s n)) (ready-declared ready));
+      }
 
   -- the answer to the periods is the answer to the sheet
   pub plan-is : (room : ℕ) → tablePlan (held periods n e) room ≡ planOf (reading s) room
@@ -197,24 +173,23 @@ module _ (s : List ℕ) (first n e : ℕ) (ready : Ready s first n) (head : e �
       ∙ (plain-run (trafficOf (sheetIn s n)) old ∙ (sym (this-run (sheetIn s n) (ready .bus) old) ∙ ap (λ (o : Outcome). runOf o old) (sym (ready .reads))))
 
   -- the places by rank of the periods are those of the sheet's variables
-  pub variable-of : (r : ℕ) → variableOf (held periods n e) r ≡ variableOf (trafficOf (sheetIn s n)) r
+  variable-of : (r : ℕ) → variableOf (held periods n e) r ≡ variableOf (trafficOf (sheetIn s n)) r
   variable-of r = ap (λ (T : Traffic). variableOf T r) held-is ∙ plain-variable (trafficOf (sheetIn s n)) r
 
   -- and so are the identifiers by rank
-  pub name-is : (v q : List ℕ) → ((r : ℕ) → r < n → getD v r 0 + 1 ≡ variableOf (held periods n e) r)
-      → ((r : ℕ) → getD q r 0 ≡ when (ltb r n) (getD names (getD v r 0) 0)) → (r : ℕ) → getD q r 0 ≡ identifierOf (reading s) r
+  pub name-is : {v q : List ℕ} → Placed periods n v → Ranked (λ i. getD names i 0) v n q → (r : ℕ) → getD q r 0 ≡ identifierOf (reading s) r
   unfolding identifierAt
-  name-is v q ev eq r =
-      eq r ∙ (go (decLt r n) ∙ (sym (this-name (sheetIn s n) (ready .bus) r) ∙ ap (λ (o : Outcome). identifierOf o r) (sym (ready .reads))))
+  name-is {v} {q} P Q r =
+      Q .are r ∙ (go (decLt r n) ∙ (sym (this-name (sheetIn s n) (ready .bus) r) ∙ ap (λ (o : Outcome). identifierOf o r) (sym (ready .reads))))
     where
       T : Traffic
       T = trafficOf (sheetIn s n)
 
       number : T .number ≡ n
-      number = ready-number s first n ready
+      number = ready-number ready
 
       go : Dec (r < n) → when (ltb r n) (getD names (getD v r 0) 0) ≡ when (ltb r (T .number)) (T .variable (variableOf T r) .identifier)
       go (yes l) =
           simp (lt-ltb r n l, lt-ltb r (T .number) (omega (arith, number)))
-          (g .names-are (getD v r 0) ∙ ap (λ (i : ℕ). T .variable i .identifier) (ev r l ∙ variable-of r))
+          (g .names-are (getD v r 0) ∙ ap (λ (i : ℕ). T .variable i .identifier) (variable-is sheeted P r l ∙ variable-of r))
       go (no l) = simp (le-ltb r n (omega (arith, l)), le-ltb r (T .number) (omega (arith, l, number)))

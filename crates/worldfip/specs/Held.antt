@@ -1,19 +1,18 @@
 -- What the code holds of a sheet, in arrays that count from 0. Assumes nothing.
 use mathlib.Core.Path.{_≡_}
 use mathlib.Core.List.{List}
-use Prim.Native.Nat.{ℕ, suc, _+_, _-_, _/_, _%_, _≤_, _<_}
+use Prim.Native.Nat.{ℕ, _+_, _-_, _/_, _%_, _≤_, _<_}
 use lib.ListN.{length, getD}
-use lib.Dec.{eqb, leb}
+use lib.Dec.{eqb, ltb, leb}
 use Rattle.common.specs.Sums.{when}
 use Rattle.common.specs.Checks.{verdict}
 use Rattle.common.specs.Runs.{filled}
-use Rattle.sheet.specs.Sheets.{sheetOf, Sheet}
-use Rattle.sheet.specs.Whole.{Outcome, placeOf, recordsOf, reading}
+use Rattle.sheet.specs.Whole.{sheetIn, placeOf, reading}
 use Rattle.sheet.specs.Whole.Outcome.{Read}
 use Rattle.bits.specs.Sets.{setOf}
 use Rattle.table.specs.Table.{Asked}
 use Rattle.table.specs.Build.{byRank, late, missRow}
-use Rattle.table.specs.Traffic.{Traffic, plain, microcycle, slots, rows}
+use Rattle.table.specs.Traffic.{Traffic, Declared, plain, variableOf, microcycle, slots, rows}
 use Rattle.worldfip.specs.declared.answer.Plan.{Plan}
 use Rattle.worldfip.specs.Answer.{tableChecks, planBy, runBy}
 
@@ -26,6 +25,11 @@ unfoldable pub held : List ℕ → ℕ → ℕ → Traffic
 unfolding plain numbered
 held ps n e = plain e n (numbered ps)
 
+-- these arrays hold a sheet's periods, within the page's ranges
+pub record Sheeted (ps : List ℕ) (n e : ℕ) : Type 0 where
+  pub there : n ≤ length ps
+  pub declares : Declared (held ps n e)
+
 -- what the planner answers of these periods, and what the lent run holds then, past refusal 3
 unfoldable pub tablePlan : Traffic → ℕ → Plan
 unfolding verdict tableChecks microcycle slots rows
@@ -35,12 +39,36 @@ unfoldable pub tableRun : Traffic → List ℕ → List ℕ
 unfolding verdict tableChecks filled rows
 tableRun T old = runBy (verdict (tableChecks T (length old))) T old
 
+-- 10, 11 and 13 are not given: c is the microcycle, and there are so many rows, at most 4,096, with room for them
+pub record Past (T : Traffic) (c n room : ℕ) : Type 0 where
+  pub micro : c ≡ microcycle T
+  pub some : slots T ≡ 0 → ⊥
+  pub counted : n ≡ rows T
+  pub few : n ≤ 4096
+  pub fits : n ≤ room
+
 -- at most 64 periods, none shorter than c, which is not 0
 pub record Whole (ps : List ℕ) (n c : ℕ) : Type 0 where
   pub few : n ≤ 64
   pub there : n ≤ length ps
   pub some : 0 < c
   pub long : (i : ℕ) → 1 ≤ i → i ≤ n → 0 < numbered ps i / c
+
+-- ---- By rank
+
+-- v holds the places of n variables: at rank r that of the variable of rank r
+pub record Placed (ps : List ℕ) (n : ℕ) (v : List ℕ) : Type 0 where
+  pub long : length v ≡ 64
+  pub are : (r : ℕ) → r < n → getD v r 0 + 1 ≡ variableOf (held ps n 0) r
+
+-- places below n
+pub record Within (v : List ℕ) (n : ℕ) : Type 0 where
+  pub long : length v ≡ 64
+  pub below : (r : ℕ) → r < n → getD v r 0 < n
+
+-- q holds f of these places, by rank; 0 past the last rank
+pub record Ranked (f : ℕ → ℕ) (v : List ℕ) (n : ℕ) (q : List ℕ) : Type 0 where
+  pub are : (r : ℕ) → getD q r 0 ≡ when (ltb r n) (f (getD v r 0))
 
 -- periods in rows by rank, none of them 0, and a 0 behind the last
 pub record Usable (q : List ℕ) (n : ℕ) : Type 0 where
@@ -70,11 +98,6 @@ unfolding missRow late
 missing A = when (leb (missRow A byRank) (A .rows)) (late A byRank (missRow A byRank))
 
 -- ---- From the bytes of a sheet to these arrays
-
--- what the first record and n variables behind it say
-unfoldable pub sheetIn : List ℕ → ℕ → Sheet
-unfolding sheetOf recordsOf
-sheetIn s n = sheetOf (recordsOf s (suc n))
 
 -- these bytes are a WorldFIP sheet of n variables, and the first of them stands at a place
 pub record Ready (s : List ℕ) (first n : ℕ) : Type 0 where

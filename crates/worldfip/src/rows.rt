@@ -18,10 +18,10 @@ fn mark(p: usize, rows: usize, x: u64, t: &mut [u64])
     requires { ⌜ (0 < p) × (p < 4294967296) × (rows < length (now t)) × (rows ≤ 4096) ⌝ }
     ensures { λ _. ⌜ ((m : ℕ) → m ≤ rows → getD (now (t .exit)) m 0 ≡ bitOr (getD (now (t .entry)) m 0) (when (eqb (m % p) 0) x)) ⌝ }
 {
-    let mut m: usize = 0;
-    while m <= rows {
-        t[m] = t[m] | x;
-        m += p;
+    let mut at: usize = 0;
+    while at <= rows {
+        t[at] = t[at] | x;
+        at += p;
     }
 }
 

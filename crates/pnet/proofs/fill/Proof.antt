@@ -20,8 +20,8 @@ abbrev μ-loop : tie.MeasureT-loop
 loop-holds : tie.Need-loop-holds Inv-loop μ-loop
 loop-holds c = (search needs, filling-none _ _, filling-none _ _, filling-none _ _)
 
-add-r : tie.Need-add-r Inv-loop μ-loop
-add-r c = omega (arith, c .before .before .before .before .before .pre .0 .1 .few)
+add-k : tie.Need-add-k Inv-loop μ-loop
+add-k c = omega (arith, c .before .before .before .before .before .pre .0 .1 .few)
 
 mul-r : tie.Need-mul-r Inv-loop μ-loop
 mul-r c = omega (arith, c .before .before .before .before .before .pre .0 .1 .few)
@@ -35,9 +35,6 @@ mul-r-2 c =
     let p = c .before .before .before .before .before .before .pre .0 in
     let k = c .before .before .loop .i + 1 in
     omega (arith, bound-is (a .counts .now) (a .holds .now) (a .n) k (a .turn) (p .0), bound-small (a .counts .now) (a .holds .now) (a .spacings .now) (a .n) k (p .1) (omega arith) (omega arith))
-
-add-search : tie.Need-add-search Inv-loop μ-loop
-add-search c = search needs
 
 search-requires : tie.Need-search-requires Inv-loop μ-loop
 search-requires c κs =
@@ -104,11 +101,10 @@ fill-spec =
     Inv-loop
     μ-loop
     loop-holds
-    add-r
+    add-k
     mul-r
     element-copy-out-r
     mul-r-2
-    add-search
     search-requires
     mul-bound
     slice-write-bound

@@ -8,9 +8,8 @@ use borrow.Author.Needs.{needs}
 use lib.ListN.{getD}
 use Rattle.common.specs.Runs.{tab}
 use Rattle.common.proofs.Runs.{getD-tab}
-use Rattle.sheet.specs.Whole.{placeOf}
+use Rattle.sheet.specs.Whole.{sheetIn, placeOf}
 use Rattle.ring.specs.Ring.{Ring, ringOf, count, messages, rotation, Declared}
-use Rattle.profibus.specs.Planned.{sheetIn}
 use Rattle.profibus.proofs.Passing.{Stepped, ready-declared, ready-number, stepped}
 use Rattle.ring.specs.Target.{Limited}
 use Rattle.ring.proofs.Sizes.{messages-most}

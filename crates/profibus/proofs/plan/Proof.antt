@@ -2,13 +2,15 @@
 use Prim.Native.Nat.{ℕ, _*_, _≤_}
 use mathlib.Core.Path.{_≡_, refl, sym, ap, _∙_}
 use native.Mathlib.Omega.{arith}
+use Rattle.sheet.proofs.Taken.{Taken, taken, not-taken}
+use Rattle.sheet.specs.Whole.{sheetIn}
 use Rattle.format.specs.declared.Record.{Record}
 use Rattle.ring.specs.Ring.{ringOf, messages}
 use Rattle.ring.proofs.Rule.{messages-of-one}
 use Rattle.ring.proofs.Sizes.{messages-most}
-use Rattle.profibus.specs.Planned.{planOf, sheetIn, Ready}
+use Rattle.profibus.specs.Planned.{planOf, Ready}
 use Rattle.profibus.proofs.Answers.{plan-other-bus}
-use Rattle.profibus.proofs.Passing.{Taken, taken, not-taken, ready-declared, ready-counts}
+use Rattle.profibus.proofs.Passing.{ready-declared, ready-counts}
 use borrow.Author.Needs.{needs}
 use Rattle.profibus.proofs.plan.Statement.{statement}
 use Rattle.profibus.proofs.plan.Tie as tie

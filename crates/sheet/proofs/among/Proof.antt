@@ -1,3 +1,4 @@
+-- `sheet::among` meets its contract. The loop's invariant: x is none of the first i identifiers. Assumes nothing.
 use Prim.Native.Nat.{_≤_, _-_}
 use mathlib.Core.Path.{_≡_, refl, sym}
 use mathlib.Core.Bool.{false}

@@ -1,3 +1,4 @@
+-- `sheet::begins` meets its contract: its tests are those of the definition. Assumes nothing.
 use mathlib.Core.Path.{refl}
 use Rattle.sheet.specs.Sheets.{fits}
 use Rattle.sheet.proofs.begins.Statement.{statement}

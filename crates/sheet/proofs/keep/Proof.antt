@@ -1,3 +1,4 @@
+-- `sheet::keep` meets its contract: a stream that passed has its place in the arrays. Assumes nothing.
 use native.Mathlib.Omega.{arith}
 use borrow.Author.Needs.{needs}
 use borrow.Author.Tests.{eq-eqb, ne-eqb}

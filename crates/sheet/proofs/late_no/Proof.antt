@@ -1,3 +1,4 @@
+-- `sheet::late_no` meets its contract, a law of `Kept` for each answer. Assumes nothing.
 use mathlib.Core.Path.{_∙_, sym}
 use native.Mathlib.Omega.{arith}
 use borrow.Author.Needs.{needs}

@@ -1,3 +1,4 @@
+-- `sheet::own_no` meets its contract, a law of `Judged` for each answer. Assumes nothing.
 use mathlib.Core.Path.{_∙_, sym}
 use borrow.Author.Needs.{needs}
 use borrow.Author.Tests.{not-true, not-false}

@@ -1,3 +1,4 @@
+-- `sheet::read_counting` meets its contract: the first record by itself, and the streams by `read_streams`. Assumes nothing.
 use native.Mathlib.Omega.{arith}
 use borrow.Author.Needs.{needs}
 use Rattle.sheet.proofs.Behind.{told-empty, refused-keeps, refused-first, begun-first}

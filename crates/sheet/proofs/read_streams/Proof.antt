@@ -1,3 +1,5 @@
+-- `sheet::read_streams` meets its contract. The loop's invariant is `Behind`: the records so far passed, and the arrays keep them.
+-- The measure is what is left of the sheet. Assumes nothing.
 use Prim.Native.Nat.{_-_}
 use native.Mathlib.Omega.{arith}
 use borrow.Author.Needs.{needs}

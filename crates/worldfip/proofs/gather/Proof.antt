@@ -1,16 +1,15 @@
 -- `worldfip::gather` meets its contract. The invariant: the first i variables are kept, with 0 behind them, and the next record stands at
 -- `at`. Assumes nothing.
 use borrow.Author.Needs.{needs}
-use mathlib.Core.Path.{_≡_, refl, sym, ap, _∙_}
+use mathlib.Core.Path.{_≡_, refl, ap}
 use Prim.Native.Nat.{ℕ, suc, _+_, _-_, _≤_, _<_}
 use native.Mathlib.Omega.{arith}
 use lib.Dec.{ltb}
 use lib.ListN.{length, getD, length-set}
 use Rattle.common.specs.Sums.{when}
-use Rattle.sheet.specs.Whole.{placeOf}
+use Rattle.sheet.specs.Whole.{sheetIn, placeOf}
 use Rattle.table.specs.Traffic.{Variable}
 use Rattle.worldfip.specs.Answer.{trafficOf}
-use Rattle.worldfip.specs.Held.{sheetIn}
 use Rattle.worldfip.proofs.Turns.{front-none, front-more, front-all}
 use Rattle.worldfip.proofs.Passing.{ready-declared, ready-number, Stepped, stepped, none-behind}
 use Rattle.worldfip.proofs.gather.Statement.{statement}
@@ -29,15 +28,12 @@ abbrev μ-loop : tie.MeasureT-loop
 μ-loop s first n names₀ periods₀ at₀ i₀ names periods at i = n - i
 
 -- the record that was met is the next variable
-step : (c : tie.After-struct-known Inv-loop μ-loop) → Stepped (c .before .before .before .before .before .before .args .s .now) (c .before .before .before .before .before .before .args .first) (c .before .before .before .before .before .before .args .n) (c .before .before .before .before .before .before .pre) (c .before .before .before .before .loop .i) (c .before .before .record-at .result)
-step c =
-    stepped (c .before .before .before .before .before .before .args .s .now) (c .before .before .before .before .before .before .args .first) (c .before .before .before .before .before .before .args .n) (c .before .before .before .before .before .before .pre) (c .before .before .before .before .loop .i) (c .before .before .before .before .loop .at) (c .before .before .record-at .result) (omega arith) (c .before .before .before .before .loop .inv .3) (c .before .before .record-at .ensures)
+step : (c : tie.After-struct-known Inv-loop μ-loop) → Stepped (c .before .before .before .before .before .before .pre) (c .before .before .before .before .loop .i) (c .before .before .record-at .result)
+step c = stepped (c .before .before .before .before .before .before .pre) (c .before .before .before .before .loop .i) (c .before .before .before .before .loop .at) (c .before .before .record-at .result) (omega arith) (c .before .before .before .before .loop .inv .3) (c .before .before .record-at .ensures)
 
 -- and there is room for it
 few : (c : tie.After-struct-known Inv-loop μ-loop) → c .before .before .before .before .loop .i < 64
-few c =
-    let s = c .before .before .before .before .before .before in
-    omega (arith, ready-declared (s .args .s .now) (s .args .first) (s .args .n) (s .pre) .number-in, ready-number (s .args .s .now) (s .args .first) (s .args .n) (s .pre))
+few c = omega (arith, ready-declared (c .before .before .before .before .before .before .pre) .number-in, ready-number (c .before .before .before .before .before .before .pre))
 
 loop-holds : tie.Need-loop-holds Inv-loop μ-loop
 loop-holds c = (search needs, refl, refl, c .before .pre .starts, front-none _ 64, front-none _ 64)
@@ -84,7 +80,7 @@ returns c =
     let l = c .before .loop in
     let s = c .before .before .before in
     let e : l .i ≡ s .args .n = omega arith in
-    let none = none-behind (s .args .s .now) (s .args .first) (s .args .n) (s .pre) in
+    let none = none-behind (s .pre) in
     record {
       names-long = l .inv .1;
       periods-long = l .inv .2;

@@ -2,14 +2,15 @@
 use mathlib.Core.Path.{_≡_, sym, ap, _∙_}
 use native.Mathlib.Omega.{arith}
 use borrow.Author.Needs.{needs}
+use Rattle.sheet.proofs.Taken.{Taken, taken, not-taken}
 use Rattle.common.proofs.Runs.{tab-places}
 use Rattle.format.specs.declared.Record.{Record}
-use Rattle.sheet.specs.Whole.{Outcome, reading}
+use Rattle.sheet.specs.Whole.{sheetIn, Outcome, reading}
 use Rattle.worldfip.specs.Answer.{identifierOf}
-use Rattle.worldfip.specs.Held.{sheetIn, Ready}
+use Rattle.worldfip.specs.Held.{Ready}
 use Rattle.worldfip.proofs.Turns.{zero-run}
-use Rattle.worldfip.proofs.Tied.{variable-is, place-within}
-use Rattle.worldfip.proofs.Passing.{Taken, taken, not-taken, other-name, held-declared, name-is, ready-declared, ready-number}
+use Rattle.worldfip.proofs.Tied.{few, places-within}
+use Rattle.worldfip.proofs.Passing.{sheeted, other-name, name-is}
 use Rattle.worldfip.proofs.identifiers.Statement.{statement}
 use Rattle.worldfip.proofs.identifiers.Tie as tie
 
@@ -25,6 +26,10 @@ ready : (c : tie.Else1) → Ready (c .before .before .before .before .before .be
 ready c =
     let t = took (c .before .before .before) in
     record { reads = t .reads; bus = ap (λ (r : Record). r .kind) (sym (t .begins)) ∙ c .if1 .left; starts = t .starts }
+
+-- with its E
+exchange : (c : tie.After-head) → c .head .given .0 .0 .a ≡ sheetIn (c .before .before .before .before .args .s .now) (c .head .given .0 .1 .0) .head .a
+exchange c = ap (λ (r : Record). r .a) (took c .begins)
 
 read-requires : tie.Need-read-requires
 read-requires c κs = search needs
@@ -50,11 +55,8 @@ slice-aggregate-by-rank c = search needs
 
 by-rank-requires : tie.Need-by-rank-requires
 by-rank-requires c κs =
-    let h = c .before .before .before .before .before .before .before .head .given .0 in
-    let s = c .before .before .before .before .before .before .before .before .before .before .before .args .s .now in
-    let n = ready-number s (h .1 .1 .0) (h .1 .0) (ready (c .before .before .before .before)) in
-    let d = ready-declared s (h .1 .1 .0) (h .1 .0) (ready (c .before .before .before .before)) in
-    (omega (arith, c .before .before .before .gather .ensures .periods-long, n, d .number-in), omega (arith, n, d .number-in))
+    let p = sheeted (ready (c .before .before .before .before)) (exchange (c .before .before .before .before .before .before .before)) (c .before .before .before .gather .ensures) in
+    (p .there, few p)
 
 slice-aggregate-names-by-rank : tie.Need-slice-aggregate-names-by-rank
 slice-aggregate-names-by-rank c = search needs
@@ -64,16 +66,9 @@ slice-aggregate-names-by-rank-2 c = search needs
 
 names-by-rank-requires : tie.Need-names-by-rank-requires
 names-by-rank-requires c κs =
-    let h = c .before .before .before .before .before .before .before .before .before .before .head .given .0 in
-    let s = c .before .before .before .before .before .before .before .before .before .before .before .before .before .before .args .s .now in
-    let e = c .before .before .before .before .before .before .before in
     let g = c .before .before .before .before .before .before .gather .ensures in
-    let n = ready-number s (h .1 .1 .0) (h .1 .0) (ready e) in
-    let d = ready-declared s (h .1 .1 .0) (h .1 .0) (ready e) in
-    let k = held-declared s (h .1 .1 .0) (h .1 .0) (h .0 .a) (ready e) (ap (λ (r : Record). r .a) (took (c .before .before .before .before .before .before .before .before .before .before) .begins)) _ _ g in (
-      (omega (arith, n, d .number-in), omega (arith, g .names-long, n, d .number-in)),
-      (c .before .before .by-rank .ensures .0, place-within (c .before .before .before .before .before .before .gather .result .periods) (h .1 .0) (h .0 .a) (omega (arith, g .periods-long, n, d .number-in)) k (c .before .before .by-rank .result) (c .before .before .by-rank .ensures .1)),
-    )
+    let p = sheeted (ready (c .before .before .before .before .before .before .before)) (exchange (c .before .before .before .before .before .before .before .before .before .before)) g in
+    ((few p, omega (arith, few p, g .names-long)), places-within p (c .before .before .by-rank .ensures))
 
 returns-2 : tie.Need-returns-2
 unfolding identifierOf
@@ -84,17 +79,9 @@ returns-2 c =
 
 returns-3 : tie.Need-returns-3
 returns-3 c =
-    let h = c .before .before .before .before .before .before .before .before .before .before .before .head .given .0 in
-    let s = c .before .before .before .before .before .before .before .before .before .before .before .before .before .before .before .args .s .now in
-    let e = c .before .before .before .before .before .before .before .before in
-    let g = c .before .before .before .before .before .before .before .gather .ensures in
-    let a = ap (λ (r : Record). r .a) (took (c .before .before .before .before .before .before .before .before .before .before .before) .begins) in
-    let n = ready-number s (h .1 .1 .0) (h .1 .0) (ready e) in
-    let d = ready-declared s (h .1 .1 .0) (h .1 .0) (ready e) in
-    let k = held-declared s (h .1 .1 .0) (h .1 .0) (h .0 .a) (ready e) a _ _ g in
-    let v = variable-is (c .before .before .before .before .before .before .before .gather .result .periods) (h .1 .0) (h .0 .a) (omega (arith, g .periods-long, n, d .number-in)) k (c .before .before .before .by-rank .result) (c .before .before .before .by-rank .ensures .1) in
-    let f = name-is s (h .1 .1 .0) (h .1 .0) (h .0 .a) (ready e) a _ _ g (c .before .before .before .by-rank .result) (c .names-by-rank .result) v (c .names-by-rank .ensures .1) in
-    tab-places (identifierOf (reading s)) (c .names-by-rank .result) 64 (c .names-by-rank .ensures .0) (λ r l. f r)
+    let q = c .names-by-rank .ensures in
+    let is = name-is (ready (c .before .before .before .before .before .before .before .before)) (exchange (c .before .before .before .before .before .before .before .before .before .before .before)) (c .before .before .before .before .before .before .before .gather .ensures) (c .before .before .before .by-rank .ensures) (q .1) in
+    tab-places (identifierOf (reading (c .before .before .before .before .before .before .before .before .before .before .before .before .before .before .before .args .s .now))) (c .names-by-rank .result) 64 (q .0) (λ r l. is r)
 
 pub identifiers-spec : {M : Type 1} → statement M
 identifiers-spec =

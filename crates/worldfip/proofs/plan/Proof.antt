@@ -1,13 +1,13 @@
 -- `worldfip::plan` meets its contract: what the reader took is the sheet's traffic, and what it refused stays refused. Assumes nothing.
 use mathlib.Core.Path.{_≡_, sym, ap, _∙_}
-use native.Mathlib.Omega.{arith}
 use borrow.Author.Needs.{needs}
 use lib.ListN.{length}
+use Rattle.sheet.proofs.Taken.{Taken, taken, not-taken}
 use Rattle.format.specs.declared.Record.{Record}
-use Rattle.sheet.specs.Whole.{Outcome}
+use Rattle.sheet.specs.Whole.{sheetIn, Outcome}
 use Rattle.worldfip.specs.Answer.{planOf, runOf}
-use Rattle.worldfip.specs.Held.{sheetIn, Ready}
-use Rattle.worldfip.proofs.Passing.{Taken, taken, not-taken, held-declared, plan-is, run-is, other-bus, other-run, ready-declared, ready-number}
+use Rattle.worldfip.specs.Held.{Ready}
+use Rattle.worldfip.proofs.Passing.{sheeted, plan-is, run-is, other-bus, other-run}
 use Rattle.worldfip.proofs.plan.Statement.{statement}
 use Rattle.worldfip.proofs.plan.Tie as tie
 
@@ -23,6 +23,10 @@ ready : (c : tie.Else1) → Ready (c .before .before .before .before .before .be
 ready c =
     let t = took (c .before .before .before) in
     record { reads = t .reads; bus = ap (λ (r : Record). r .kind) (sym (t .begins)) ∙ c .if1 .left; starts = t .starts }
+
+-- with its E
+exchange : (c : tie.After-head) → c .head .given .0 .0 .a ≡ sheetIn (c .before .before .before .before .before .args .s .now) (c .head .given .0 .1 .0) .head .a
+exchange c = ap (λ (r : Record). r .a) (took c .begins)
 
 read-requires : tie.Need-read-requires
 read-requires c κs = search needs
@@ -48,16 +52,7 @@ slice-aggregate-table : tie.Need-slice-aggregate-table
 slice-aggregate-table c = search needs
 
 table-requires : tie.Need-table-requires
-table-requires c κs =
-    let e = c .before .before .before .before in
-    let h = c .before .before .before .before .before .before .before .head .given .0 in
-    let s = c .before .before .before .before .before .before .before .before .before .before .before .before .args .s .now in
-    let g = c .before .before .before .gather .ensures in
-    let n = ready-number s (h .1 .1 .0) (h .1 .0) (ready e) in
-    let d = ready-declared s (h .1 .1 .0) (h .1 .0) (ready e) in (
-      omega (arith, g .periods-long, n, d .number-in),
-      held-declared s (h .1 .1 .0) (h .1 .0) (h .0 .a) (ready e) (ap (λ (r : Record). r .a) (took (c .before .before .before .before .before .before .before) .begins)) _ _ g,
-    )
+table-requires c κs = sheeted (ready (c .before .before .before .before)) (exchange (c .before .before .before .before .before .before .before)) (c .before .before .before .gather .ensures)
 
 returns-2 : tie.Need-returns-2
 unfolding planOf runOf
@@ -71,15 +66,12 @@ same-length c = search needs
 
 returns-3 : tie.Need-returns-3
 returns-3 c =
-    let e = c .before .before .before .before .before .before .before in
-    let h = c .before .before .before .before .before .before .before .before .before .before .head .given .0 in
     let s = c .before .before .before .before .before .before .before .before .before .before .before .before .before .before .before .args in
+    let r = ready (c .before .before .before .before .before .before .before) in
+    let x = exchange (c .before .before .before .before .before .before .before .before .before .before) in
     let g = c .before .before .before .before .before .before .gather .ensures in
-    let a = ap (λ (r : Record). r .a) (took (c .before .before .before .before .before .before .before .before .before .before) .begins) in
-    let t = c .before .before .table .ensures in (
-      t .0 ∙ plan-is (s .s .now) (h .1 .1 .0) (h .1 .0) (h .0 .a) (ready e) a _ _ g (length (s .rows .now)),
-      t .1 ∙ run-is (s .s .now) (h .1 .1 .0) (h .1 .0) (h .0 .a) (ready e) a _ _ g (s .rows .now),
-    )
+    let t = c .before .before .table .ensures in
+    (t .0 ∙ plan-is r x g (length (s .rows .now)), t .1 ∙ run-is r x g (s .rows .now))
 
 pub plan-spec : {M : Type 1} → statement M
 plan-spec =

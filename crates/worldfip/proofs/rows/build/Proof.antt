@@ -1,7 +1,7 @@
 -- `worldfip::rows::build` meets its contract. The invariant at row m: what is pending, nobody missed before, the rows below m are built, and the
 -- requests of the others stand. Assumes nothing.
 use borrow.Author.Needs.{needs}
-use mathlib.Core.Path.{_≡_, refl, sym, ap, _∙_}
+use mathlib.Core.Path.{_≡_, refl, _∙_}
 use mathlib.Core.Bool.{false}
 use Prim.Native.Nat.{ℕ, _+_, _-_, _≤_, _<_}
 use native.Mathlib.Omega.{arith}

@@ -1,16 +1,18 @@
--- `write_large` is safe and ends: i counts to 800. Assumes nothing.
+-- `write_even` is safe and ends: i counts the streams. Assumes nothing.
 use mathlib.Core.Path.{_≡_}
 use Prim.Native.Nat.{_≤_, _-_}
+use native.Mathlib.Nat.{mod-le}
+use native.Mathlib.Omega.{arith}
 use borrow.Author.Needs.{needs}
 use lib.ListN.{length}
-use Rattle.try_pnet.proofs.write_large.Statement.{statement}
-use Rattle.try_pnet.proofs.write_large.Tie as tie
+use Rattle.try_pnet.proofs.write_even.Statement.{statement}
+use Rattle.try_pnet.proofs.write_even.Tie as tie
 
 abbrev Inv-loop : tie.InvT-loop
-Inv-loop buf₀ at₀ i₀ buf at i = (i ≤ 800) × (length buf ≡ length buf₀)
+Inv-loop buf₀ n streams cycle spacing deadline at₀ i₀ buf at i = (i ≤ streams) × (length buf ≡ length buf₀)
 
 abbrev μ-loop : tie.MeasureT-loop
-μ-loop buf₀ at₀ i₀ buf at i = 800 - i
+μ-loop buf₀ n streams cycle spacing deadline at₀ i₀ buf at i = streams - i
 
 put-requires : tie.Need-put-requires Inv-loop μ-loop
 put-requires c κs = search needs
@@ -18,8 +20,12 @@ put-requires c κs = search needs
 loop-holds : tie.Need-loop-holds Inv-loop μ-loop
 loop-holds c = search needs
 
-add-t11 : tie.Need-add-t11 Inv-loop μ-loop
-add-t11 c = search needs
+rem-put : tie.Need-rem-put Inv-loop μ-loop
+rem-put c = search needs
+
+add-put : tie.Need-add-put Inv-loop μ-loop
+add-put c =
+    omega (arith, mod-le (c .before .before .loop .i) (c .before .before .before .before .before .before .before .before .args .n))
 
 put-requires-2 : tie.Need-put-requires-2 Inv-loop μ-loop
 put-requires-2 c κs = search needs
@@ -39,15 +45,16 @@ same-length c = search needs
 returns : tie.Need-returns Inv-loop μ-loop
 returns c = search needs
 
-pub write-large-spec : {M : Type 1} → statement M
-write-large-spec =
+pub write-even-spec : {M : Type 1} → statement M
+write-even-spec =
     tie.close
     (tie.spec
     Inv-loop
     μ-loop
     put-requires
     loop-holds
-    add-t11
+    rem-put
+    add-put
     put-requires-2
     add-i
     loop-less

@@ -1,0 +1,73 @@
+-- Demand 1. The functions of this project have no `requires`: each answers for every byte sequence and every lent memory, and what it
+-- answers is a definition's value. Here stand the sentences of the demand over those definitions. Assumes nothing.
+use Prim.Native.Nat.{ℕ, _^_, _<_}
+use mathlib.Core.Path.{_≡_, refl, sym, ap, _∙_}
+use mathlib.Core.List.{List}
+use mathlib.Core.Logic.{_⊎_, inl, inr, _↔_}
+use native.Mathlib.Omega.{arith}
+use lib.ListN.{length, take}
+use Rattle.common.specs.Checks.{Verdict, verdict}
+use Rattle.common.specs.Checks.Verdict.{Passed, Refused}
+use Rattle.format.specs.declared.Record.{Record}
+use Rattle.format.specs.declared.Put.the-variants as put
+use Rattle.format.specs.Writing.{putAnswer, putBytes}
+use Rattle.format.proofs.Writing.{refused-keeps}
+use Rattle.sheet.specs.Sheets.{Sheet}
+use Rattle.sheet.specs.Whole.{Outcome, reading, countsTold}
+use Rattle.sheet.specs.Whole.Outcome.{Read, Not}
+use Rattle.sheet.specs.Refusals.{Given}
+use Rattle.sheet.specs.Lengths.{enough}
+use Rattle.sheet.proofs.Refusals.{refused-exactly}
+use Rattle.sheet.proofs.Lengths.{reading-prefix}
+use Rattle.segment.specs.Segment.{Segment}
+use Rattle.pnet.specs.Planned.{planned, runOf}
+use Rattle.worldfip.specs.Answer as fip
+use Rattle.worldfip.specs.declared.answer.Plan.the-variants as plan
+
+-- ---- 'Every byte sequence offered as a sheet gets an answer.'
+
+pub every-sequence-is-read-or-refused : (s : List ℕ) → ((S : Sheet) × (reading s ≡ Read S)) ⊎ ((n : ℕ) × (p : ℕ) × (reading s ≡ Not n p))
+every-sequence-is-read-or-refused s = split (reading s) refl
+  where
+    split : (o : Outcome) → reading s ≡ o → ((S : Sheet) × (reading s ≡ Read S)) ⊎ ((n : ℕ) × (p : ℕ) × (reading s ≡ Not n p))
+    split (Read S) e = inl (S, e)
+    split (Not n p) e = inr (n, p, e)
+
+-- however long it is, its first 9,614 bytes settle the answer
+pub a-prefix-settles-the-answer : (s : List ℕ) → reading s ≡ reading (take enough s)
+a-prefix-settles-the-answer = reading-prefix
+
+-- ---- 'A bad sheet is refused by number, with the place that the refusal list fixes.'
+
+-- `Given` is the list, line by line, with the order of the page
+pub refused-as-listed : (s : List ℕ) (n p : ℕ) → (reading s ≡ Not n p) ↔ Given s n p
+refused-as-listed = refused-exactly
+
+-- ---- 'A refused call changes no byte of memory lent for results.'
+
+-- the P-NET planner's three runs, whatever figure each is for
+pub pnet-refusal-keeps-every-run : (s : List ℕ) (la lb lc n p : ℕ) → planned s la lb lc ≡ Not n p → (figure : Segment → ℕ → ℕ) (old : List ℕ)
+    → runOf (planned s la lb lc) figure old ≡ old
+pnet-refusal-keeps-every-run s la lb lc n p e figure old = rw e
+
+-- the WorldFIP planner's rows, also where the table is only known to fail at its end
+pub worldfip-refusal-keeps-the-rows : (s old : List ℕ) (n p : ℕ) → fip.planOf (reading s) (length old) ≡ plan.Refused n p → fip.runOf (reading s) old ≡ old
+unfolding fip.planOf fip.runOf
+worldfip-refusal-keeps-the-rows s old n p e = split (reading s) e
+  where
+    by : (S : Sheet) (v : Verdict) → fip.planBy v (fip.trafficOf S) ≡ plan.Refused n p → fip.runBy v (fip.trafficOf S) old ≡ old
+    by S Passed q = let z : _≡_ {A = ℕ} 0 1 = cc in absurd (omega arith)
+    by S (Refused m k) q = refl
+
+    split : (o : Outcome) → fip.planOf o (length old) ≡ plan.Refused n p → fip.runOf o old ≡ old
+    split (Read S) q = by S (verdict (fip.planChecks S (length old))) q
+    split (Not m k) q = refl
+
+-- the counts that reading hands over
+pub reading-refusal-keeps-the-counts : (s old : List ℕ) (n p : ℕ) → reading s ≡ Not n p → countsTold (reading s) old ≡ old
+unfolding countsTold
+reading-refusal-keeps-the-counts s old n p e = rw e
+
+-- the writer's buffer
+pub writing-refusal-keeps-the-buffer : (b : List ℕ) (at : ℕ) (r : Record) (n p : ℕ) → putAnswer (length b) at r ≡ put.Refused n p → putBytes b at r ≡ b
+writing-refusal-keeps-the-buffer = refused-keeps

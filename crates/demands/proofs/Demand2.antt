@@ -1,0 +1,101 @@
+-- Demand 2. The accepted numbers are those of the published rules, a timing refusal is given exactly if the published condition is
+-- broken, and sheets read and written come back equal. Assumes nothing.
+use Prim.Native.Nat.{ℕ, suc, _+_, _-_, _*_, _≤_, _<_}
+use mathlib.Core.Path.{_≡_, refl, sym, ap, _∙_}
+use mathlib.Core.List.{List}
+use mathlib.Core.Logic.{_↔_}
+use lib.ListN.{length, getD, take}
+use Rattle.format.specs.declared.Record.{Record}
+use Rattle.sheet.specs.Sheets.{Sheet, sheetOf}
+use Rattle.sheet.specs.Whole.{reading}
+use Rattle.sheet.specs.Whole.Outcome.{Read, Not}
+use Rattle.sheet.specs.Records.{recordsIn, Right, Writes}
+use Rattle.sheet.proofs.Known.{reading-read}
+use Rattle.sheet.proofs.Writes.{writes-read, read-writes}
+use Rattle.segment.specs.Segment.{Segment, count, turn, bound}
+use Rattle.segment.specs.Refined.{valueOf, right, rounds, refined}
+use Rattle.segment.proofs.Figures as figures
+use Rattle.pnet.specs.Planned.{planned}
+use Rattle.pnet.specs.Refusals as late
+use Rattle.pnet.proofs.Refusals as pnet
+use Rattle.ring.specs.Ring.{Ring}
+use Rattle.ring.specs.Target.{AllPass, Limited}
+use Rattle.ring.proofs.Answer as ring
+use Rattle.profibus.specs.Planned.{planOf, Answers}
+use Rattle.profibus.specs.declared.answer.Plan.{Plan}
+use Rattle.profibus.proofs.Answers as profibus
+use Rattle.table.specs.Table.{Table}
+use Rattle.table.specs.Traffic.{Traffic, Declared, rows, askedOf, rowOf, missOf}
+use Rattle.table.proofs.Promises as promises
+use Rattle.worldfip.specs.Answer as table
+use Rattle.worldfip.specs.Refusals as fip
+use Rattle.worldfip.specs.declared.answer.Plan as tablePlan
+use Rattle.worldfip.proofs.Refusals as worldfip
+
+-- ---- 'P-NET bounds and the least refined solution'
+
+pub bound-is-s-times-V : (S : Segment) (k : ℕ) → bound S k ≡ count S k * turn S
+unfolding bound turn
+bound-is-s-times-V S k = refl
+
+module _ (S : Segment) (k : ℕ) (from : 1 ≤ k) (to : k ≤ S .masters) where
+  pub refined-solves : refined S k ≡ right S k (refined S k)
+  refined-solves = figures.refined-solves S k from to
+
+  pub no-smaller-number-solves : (w : ℕ) → w ≡ right S k w → refined S k ≤ w
+  no-smaller-number-solves = figures.refined-least S k from to
+
+  pub refined-at-most-bound : refined S k ≤ bound S k
+  refined-at-most-bound = figures.refined-at-most-bound S k from to
+
+  pub rounds-first-to-stand : (valueOf (right S k) (rounds S k) ≡ valueOf (right S k) (suc (rounds S k)))
+      × ((j : ℕ) → j < rounds S k → valueOf (right S k) j ≡ valueOf (right S k) (suc j) → ⊥)
+  rounds-first-to-stand = (figures.rounds-first S k from to .still, figures.rounds-first S k from to .first)
+
+  pub rounds-at-most : rounds S k ≤ 1 + (S .masters - 1) * count S k
+  rounds-at-most = figures.rounds-at-most S k from to
+
+-- ---- 'the largest PROFIBUS target rotation time'
+
+-- `Answers` is the page's sentence: all streams pass at TTR, and the named stream is the first that fails at TTR + 1; or 9 for the first
+-- that fails at L. The planner answers so, and nobody can answer otherwise.
+module _ (s : List ℕ) (S : Sheet) (reads : reading s ≡ Read S) where
+  pub profibus-answers-as-published : Answers S (planOf (reading s))
+  profibus-answers-as-published = rw reads (profibus.plan-answers s S (reading-read s S reads))
+
+  pub no-other-answer : {p : Plan} → Answers S p → p ≡ planOf (reading s)
+  no-other-answer a = rw reads (profibus.answers-plan s S (reading-read s S reads) a)
+
+pub no-larger-target-passes : (R : Ring) (ttr i : ℕ) → Limited R ttr i → (u : ℕ) → AllPass R u → u ≤ ttr
+no-larger-target-passes = ring.largest
+
+-- ---- 'the WorldFIP table row by row'
+
+-- the planner's contract fixes every row as `rowOf`; where nobody misses, those rows are a table: at most the slots in a row, and each
+-- variable in one row of each of its periods
+pub rows-are-a-table : (T : Traffic) → Declared T → rows T < missOf T → Table (askedOf T) (rowOf T)
+rows-are-a-table T declared = promises.table-built T declared
+
+-- `fip.Answers` is the page's list, 3, 10, 11, 13, 12 in this order, each with its condition and place, or the table
+module _ (s : List ℕ) (S : Sheet) (reads : reading s ≡ Read S) (room : ℕ) where
+  pub worldfip-answers-as-published : fip.Answers S room (table.planOf (reading s) room)
+  worldfip-answers-as-published = rw reads (worldfip.plan-answers s S (reading-read s S reads) room)
+
+  pub no-other-table : (p : tablePlan.Plan) → fip.Answers S room p → p ≡ table.planOf (reading s) room
+  no-other-table p a = rw reads (worldfip.answers-only s S (reading-read s S reads) room p a)
+
+-- ---- 'A timing refusal is given exactly if the published condition is broken and no refusal earlier in that page's order applies.'
+
+pub pnet-refused-exactly : (s : List ℕ) (la lb lc n p : ℕ) → (planned s la lb lc ≡ Not n p) ↔ late.Given s la lb lc n p
+pnet-refused-exactly = pnet.refused-exactly
+
+-- ---- 'Sheets read and written come back equal.'
+
+-- records that make a right sheet, written one after the other, read back as the same records
+pub written-comes-back : {b b' : List ℕ} {end : ℕ} {rs : List Record} → Right rs → Writes b 0 rs b' end → reading (take end b') ≡ Read (sheetOf rs)
+written-comes-back = writes-read
+
+-- the records of an accepted sheet, written in order into a buffer of its length, give its bytes
+pub read-comes-back : (s : List ℕ) (S : Sheet) → ((i : ℕ) → getD s i 0 < 256) → reading s ≡ Read S → (b : List ℕ) → length b ≡ length s
+    → Writes b 0 (recordsIn S) s (length s)
+read-comes-back = read-writes

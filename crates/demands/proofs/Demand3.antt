@@ -1,0 +1,65 @@
+-- Demand 3 from the bytes of a sheet: where the planner accepts a sheet, the number that stands in the lent run for R at master k's
+-- place is kept to by every run of the bus, and no lower one would be. `planned` is what the planner answers, and `runOf` what a lent
+-- run then holds: both are the words of its contract. The bus, its runs and the promise are those of crates/pnet_run.
+-- Assumes nothing.
+use Prim.Native.Nat.{ℕ, _+_, _-_, _≤_, _<_}
+use mathlib.Core.Path.{_≡_, ap, _∙_}
+use mathlib.Core.List.{List}
+use native.Mathlib.Omega.{arith}
+use borrow.Author.Tests.{le-ltb}
+use lib.ListN.{length, getD}
+use Rattle.common.proofs.Runs.{filled-at}
+use Rattle.sheet.specs.Sheets.{Sheet}
+use Rattle.sheet.specs.Whole.Outcome.{Read}
+use Rattle.sheet.proofs.Known.{reading-read}
+use Rattle.segment.specs.Segment.{segmentOf, count, bound, late}
+use Rattle.segment.specs.Limits.{Declared}
+use Rattle.segment.proofs.Declares.{declared}
+use Rattle.pnet.specs.Planned.{planned, atPlace, runOf}
+use Rattle.pnet.specs.Refusals as refusals
+use Rattle.pnet.proofs.Refusals.{accepted-exactly}
+use Rattle.pnet_run.specs.Run.{Request, Answer, Queues, Token, Run}
+use Rattle.pnet_run.specs.Promise.{Spaced, Answered, Safe, Reached, Accepted, Even}
+use Rattle.pnet_run.proofs.Demand.{accepted-if-none-is-late, each-request-is-answered-within-the-bound, some-run-takes-exactly-the-bound, no-lower-figure-would-be-true}
+
+-- the bytes s, and the three lent runs before the call; the planner accepts the sheet H that the bytes say
+module _ (s bounds refined rounds : List ℕ) (H : Sheet) (accepts : planned s (length bounds) (length refined) (length rounds) ≡ Read H) where
+  passed : refusals.Accepted s (length bounds) (length refined) (length rounds) H
+  passed = accepted-exactly s (length bounds) (length refined) (length rounds) H .0 accepts
+
+  in-range : Declared (segmentOf H)
+  in-range = declared s H (reading-read s H (passed .on-bus .reads)) (passed .on-bus .pnet)
+
+  -- 'an accepted P-NET sheet': what the planner accepts is one
+  pub accepted-as-demanded : Accepted (segmentOf H)
+  unfolding late
+  accepted-as-demanded =
+      accepted-if-none-is-late (segmentOf H) in-range
+      (λ i from to. le-ltb (segmentOf H .stream i .deadline) (bound (segmentOf H) (segmentOf H .stream i .master)) (passed .passes i from to .in-time))
+
+  -- k is one of its masters
+  module _ (k : ℕ) (from : 1 ≤ k) (to : k ≤ H .head .a) where
+    -- what the run for R holds at master k's place after the call
+    unfoldable pub written : ℕ
+    written = getD (runOf (planned s (length bounds) (length refined) (length rounds)) bound bounds) (k - 1) 0
+
+    pub written-is-bound : written ≡ bound (segmentOf H) k
+    unfolding written
+    written-is-bound =
+        let place : k - 1 < H .head .a = omega arith in
+        let next : k - 1 + 1 ≡ k = omega arith in
+        rw accepts (filled-at (atPlace (bound (segmentOf H))) (H .head .a) (k - 1) bounds place ∙ ap (bound (segmentOf H)) next)
+
+    -- 'each of that master's requests is answered within its bound, however often the other masters ask'
+    pub each-request-is-answered-within-the-written-bound : {now : ℕ} {token : Token} {queues : Queues} {came : List Request} {went : List Answer}
+        → Run (segmentOf H) now token queues came went → Spaced (segmentOf H) k came → Answered written (segmentOf H) k now token came went
+    each-request-is-answered-within-the-written-bound run spaced =
+        rw written-is-bound (each-request-is-answered-within-the-bound H accepted-as-demanded k run spaced)
+
+    -- 'some such run takes exactly the bound'
+    pub some-run-takes-exactly-the-written-bound : 1 ≤ count (segmentOf H) k → Even (segmentOf H) k → Reached written (segmentOf H) k
+    some-run-takes-exactly-the-written-bound some even = rw written-is-bound (some-run-takes-exactly-the-bound H in-range k some even)
+
+    -- 'no lower figure would be true'
+    pub no-lower-figure-than-the-written-would-be-true : 1 ≤ count (segmentOf H) k → Even (segmentOf H) k → (figure : ℕ) → Safe figure (segmentOf H) k → written ≤ figure
+    no-lower-figure-than-the-written-would-be-true some even figure safe = rw written-is-bound (no-lower-figure-would-be-true H in-range k some even figure safe)

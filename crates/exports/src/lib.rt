@@ -1,0 +1,65 @@
+// The planners under plain names, for programs in other languages to link. Each answers one number: a figure where the sheet is
+// accepted, else 2^32 and the refusal's number.
+ghost use mathlib.Core.Path.{_≡_};
+ghost use lib.ListN.{length};
+ghost use Rattle.sheet.specs.Whole.{reading};
+ghost use Rattle.segment.specs.Segment;
+ghost use Rattle.segment.specs.Refined;
+ghost use Rattle.pnet.specs.Planned;
+ghost use Rattle.profibus.specs.Planned as Ring;
+ghost use Rattle.worldfip.specs.Answer;
+ghost use Rattle.exports.specs.Numbers.{pnetNumber, profibusNumber, worldfipNumber};
+
+const REFUSED: u64 = 4294967296;
+
+// The masters of a P-NET segment; R, W and rounds go to the three runs.
+#[no_mangle]
+pub extern "C" fn planner_pnet(
+    s: &[u8],
+    bound: &mut [u32],
+    refined: &mut [u32],
+    rounds: &mut [u32],
+) -> u64
+    ensures { λ r. ⌜ r ≡ pnetNumber (Planned.planOf (Planned.planned (now (s .entry)) (length (now (bound .entry))) (length (now (refined .entry))) (length (now (rounds .entry))))) ⌝ }
+    ensures { λ _. ⌜ now (bound .exit) ≡ Planned.runOf (Planned.planned (now (s .entry)) (length (now (bound .entry))) (length (now (refined .entry))) (length (now (rounds .entry)))) Segment.bound (now (bound .entry)) ⌝ }
+    ensures { λ _. ⌜ now (refined .exit) ≡ Planned.runOf (Planned.planned (now (s .entry)) (length (now (bound .entry))) (length (now (refined .entry))) (length (now (rounds .entry)))) Refined.refined (now (refined .entry)) ⌝ }
+    ensures { λ _. ⌜ now (rounds .exit) ≡ Planned.runOf (Planned.planned (now (s .entry)) (length (now (bound .entry))) (length (now (refined .entry))) (length (now (rounds .entry)))) Refined.rounds (now (rounds .entry)) ⌝ }
+{
+    match pnet::plan(s, bound, refined, rounds) {
+        pnet::Plan::Accepted {
+            masters,
+            streams: _,
+        } => masters as u64,
+        pnet::Plan::Refused { no, place: _ } => REFUSED + no as u64,
+    }
+}
+
+// TTR of a PROFIBUS ring, in bp of that ring.
+#[no_mangle]
+pub extern "C" fn planner_profibus(s: &[u8]) -> u64
+    ensures { λ r. ⌜ r ≡ profibusNumber (Ring.planOf (reading (now (s .entry)))) ⌝ }
+{
+    match profibus::plan(s) {
+        profibus::Plan::Target {
+            rotation,
+            stream: _,
+        } => rotation.0 as u64,
+        profibus::Plan::Refused { no, place: _ } => REFUSED + no as u64,
+    }
+}
+
+// The rows of a WorldFIP table, which go to the run.
+#[no_mangle]
+pub extern "C" fn planner_worldfip(s: &[u8], rows: &mut [u64]) -> u64
+    ensures { λ r. ⌜ r ≡ worldfipNumber (Answer.planOf (reading (now (s .entry))) (length (now (rows .entry)))) ⌝ }
+    ensures { λ _. ⌜ now (rows .exit) ≡ Answer.runOf (reading (now (s .entry))) (now (rows .entry)) ⌝ }
+{
+    match worldfip::plan(s, rows) {
+        worldfip::Plan::Accepted {
+            microcycle: _,
+            slots: _,
+            rows: count,
+        } => count as u64,
+        worldfip::Plan::Refused { no, place: _ } => REFUSED + no as u64,
+    }
+}

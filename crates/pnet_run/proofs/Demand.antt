@@ -1,0 +1,88 @@
+-- Demand 3, sentence by sentence. The bus and its runs are in specs/Run, the words of the promise in specs/Promise, and the bound R
+-- is the planner's, s times V, of crates/segment. Assumes nothing.
+use Prim.Native.Nat.{ℕ, _≤_}
+use mathlib.Core.Path.{_≡_}
+use mathlib.Core.Bool.{false}
+use mathlib.Core.List.{List}
+use native.Mathlib.Omega.{arith}
+use borrow.Author.Tests.{ltb-false}
+use Rattle.sheet.specs.Sheets.{Sheet}
+use Rattle.segment.specs.Segment.{Segment, segmentOf, count, hold, bound, late}
+use Rattle.segment.specs.Limits.{Declared}
+use Rattle.pnet_run.specs.Run.{Belongs, Request, Answer, answer, Queues, Token, Run}
+use Rattle.pnet_run.specs.Promise.{Spaced, Answered, Safe, Reached, Accepted, Even}
+use Rattle.pnet_run.proofs.Charges.{belongs-count, in-ring, hold-covers, some-cycle}
+use Rattle.pnet_run.proofs.Bound.{answered-by}
+use Rattle.pnet_run.proofs.Exact.{exact}
+use Rattle.pnet_run.proofs.Progress.{Later, goes-on}
+
+-- ---- 'Take an accepted P-NET sheet'
+
+-- A sheet is accepted if reading found its fields in range and refusal 8, 'P-NET bound above a deadline', is given for no stream.
+
+pub accepted-if-none-is-late : (S : Segment) → Declared S → ((i : ℕ) → 1 ≤ i → i ≤ S .number → late S i ≡ false) → Accepted S
+unfolding late
+accepted-if-none-is-late S declared passes = record {
+  declared = declared;
+  passes = λ m i d. omega (arith, rw (d .own) at (ltb-false (S .stream i .deadline) (bound S (S .stream i .master)) (passes i (d .from-one) (d .to-last))));
+}
+
+-- ---- 'any fault-free run of the virtual token bus from empty queues, with one message a visit and first-come queues. If a master's
+-- requests keep their declared spacing and no message is longer than declared, each of that master's requests is answered within
+-- its bound, however often the other masters ask.'
+
+-- Every `Run` is such a run, cut at any instant: empty queues, one message a visit, first-come queues and messages of 1 to C bp
+-- are how `Run` is defined. What the sentence supposes of the master's requests is `Spaced`, of that master alone; nothing is supposed of the
+-- others. `Answered` says that no request of the master was completed later than its arrival plus the bound, and that each was
+-- completed by then if the run lasts that long.
+
+pub each-request-is-answered-within-the-bound : (sheet : Sheet) → Accepted (segmentOf sheet) → (k : ℕ)
+    → {now : ℕ} {token : Token} {queues : Queues} {came : List Request} {went : List Answer}
+    → Run (segmentOf sheet) now token queues came went → Spaced (segmentOf sheet) k came
+    → Answered (bound (segmentOf sheet) k) (segmentOf sheet) k now token came went
+unfolding bound
+each-request-is-answered-within-the-bound sheet accepted k {now} {token} {queues} {came} {went} run spaced = record {
+  in-time = λ a j own. by (a .to .of) own .in-time a j own;
+  none-left = λ r j own lasts. by (r .of) own .none-left r j own lasts;
+}
+  where
+    S : Segment
+    S = segmentOf sheet
+
+    by : (i : ℕ) → Belongs S k i → Answered (bound S k) S k now token came went
+    by i d =
+        let own = in-ring (accepted .declared) d in
+        answered-by S (hold S) k (own .0) (own .1) (hold-covers S) (λ j. S .stream j .spacing)
+        (λ j e. omega (arith, accepted .declared .ranges j (e .from-one) (e .to-last) .deadline-to, accepted .passes k j e)) run spaced
+
+-- ---- 'For a master with streams, where each master's own streams are equally long and every other master is silent or has at least
+-- as many streams, some such run takes exactly the bound'
+
+-- The supposition is `Even`. In the run that is found every master keeps its spacing, not only master k: each stream asks once.
+-- The sheet need not even be accepted for this; its fields are in range.
+
+pub some-run-takes-exactly-the-bound : (sheet : Sheet) → Declared (segmentOf sheet) → (k : ℕ) → 1 ≤ count (segmentOf sheet) k
+    → Even (segmentOf sheet) k → Reached (bound (segmentOf sheet) k) (segmentOf sheet) k
+some-run-takes-exactly-the-bound sheet declared k some even =
+    let own = in-ring declared (belongs-count (segmentOf sheet) k some .1) in
+    exact (segmentOf sheet) k (own .0) (own .1) declared even some
+
+-- ---- 'no lower figure would be true'
+
+-- A figure within which the master's requests are answered in every run is at least the bound.
+
+pub no-lower-figure-would-be-true : (sheet : Sheet) → Declared (segmentOf sheet) → (k : ℕ) → 1 ≤ count (segmentOf sheet) k
+    → Even (segmentOf sheet) k → (figure : ℕ) → Safe figure (segmentOf sheet) k → bound (segmentOf sheet) k ≤ figure
+no-lower-figure-would-be-true sheet declared k some even figure safe =
+    let x = some-run-takes-exactly-the-bound sheet declared k some even in
+    omega (arith, safe .ever (x .run) (x .spaced k) .in-time (answer (x .slow) _) (x .exact) (x .own))
+
+-- ---- What keeps the demand from being empty
+
+-- A run never gets stuck: from every stage it goes on to a later instant, with no further arrival. So the runs of the demand last as
+-- long as one likes.
+
+pub no-run-is-stuck : (sheet : Sheet) → Declared (segmentOf sheet)
+    → {now : ℕ} {token : Token} {queues : Queues} {came : List Request} {went : List Answer}
+    → Run (segmentOf sheet) now token queues came went → Later (segmentOf sheet) now came
+no-run-is-stuck sheet declared {token = token} run = goes-on (segmentOf sheet) (λ m i b. some-cycle declared b) token run

@@ -1,0 +1,11 @@
+pub mod Queues
+pub mod Ring
+pub mod Charges
+pub mod Waiting
+pub mod Bound
+pub mod Picked
+pub mod Slowest
+pub mod Exact
+pub mod Progress
+pub mod Literal
+pub mod Demand

@@ -1,0 +1,5 @@
+pub mod Waits
+pub mod Visits
+pub mod Sound
+pub mod Runs
+pub mod Responses

@@ -1,0 +1,2 @@
+pub mod Simulated
+pub mod Told

@@ -1,0 +1,12 @@
+-- Page 01, 'Sheets worked by hand': the table of the cases marked (p) is right, by one test that the checker computes. Assumes nothing.
+use mathlib.Core.Path.{_≡_, refl}
+use mathlib.Core.Bool.{true}
+use Rattle.table.specs.Build.{byRank, row, missRow}
+use Rattle.table.specs.Traffic.{askedOf}
+use Rattle.profibus.specs.Planned as ring
+use Rattle.worldfip.specs.Answer as fip
+use Rattle.worked.specs.Cases.{cases, all-right}
+
+pub every-case-is-right : all-right cases ≡ true
+unfolding cases all-right ring.planOf fip.planOf fip.runOf askedOf byRank row missRow
+every-case-is-right = refl
