@@ -1,23 +1,27 @@
--- What holds of the report of any bytes: reading's refusals are reported alike whichever planner is picked, 13 never shows, and the first
--- `enough` bytes decide the report. Assumes nothing.
+-- What holds of the report of any bytes: an accepted sheet is planned by its own bus, reading's refusals are reported alike whichever
+-- planner is picked, 13 never shows, and the first `enough` bytes decide the report. Assumes nothing.
 use mathlib.Core.Path.{_≡_, refl, sym, ap, _∙_}
 use mathlib.Core.List.{List}
 use mathlib.Core.Bool.{Bool, true, false, cond, not, _||_}
-use Prim.Native.Nat.{ℕ, _≤_}
+use Prim.Native.Nat.{ℕ, _+_, _≤_, _<_}
 use native.Mathlib.Omega.{arith}
 use lib.Dec.{eqb, ltb, leb}
 use lib.ListN.{length, getD, take}
-use lib.Seq.{getD-take}
-use borrow.Author.Tests.{eqb-true, not-false, le-ltb}
+use lib.Seq.{take-all}
+use borrow.Author.Tests.{eqb-true, not-false, lt-ltb, le-ltb}
 use Rattle.common.specs.Checks.{verdict, Verdict}
 use Rattle.common.specs.Checks.Verdict.{Passed, Refused}
-use Rattle.sheet.specs.Sheets.{Sheet}
-use Rattle.sheet.specs.Whole.{Outcome, orElse, reading}
+use Rattle.reader.specs.Walk.{byteChecks, foundAt}
+use Rattle.sheet.specs.Sheets.{Sheet, sheetOf}
+use Rattle.sheet.specs.Whole.{Outcome, orElse, placeOf, reading}
 use Rattle.sheet.specs.Whole.Outcome.{Read, Not}
 use Rattle.sheet.specs.Lengths.{enough}
-use Rattle.sheet.proofs.Lengths.{enough-is, reading-prefix}
+use Rattle.sheet.proofs.Lengths.{longest-sheet-is, enough-is, length-at-most, reading-prefix}
 use Rattle.sheet.proofs.Refusals.{given-then, numbers-given}
-use Rattle.sheet.proofs.Known.{reading-read}
+use Rattle.sheet.proofs.Known.{reading-whole, reading-read}
+use Rattle.sheet.proofs.Walk.{head-at}
+use Rattle.format.specs.declared.Record.{Record}
+use Rattle.format.specs.Kinds.{sizeOf, decode}
 use Rattle.format.proofs.Ranges.{segment-ranges}
 use Rattle.segment.specs.Segment.{segmentOf}
 use Rattle.pnet.specs.Planned.{firstLate, planChecks, plannedBy, planned}
@@ -26,21 +30,32 @@ use Rattle.table.specs.Traffic.{Traffic, slots, rows, missOf, missingOf}
 use Rattle.worldfip.specs.Answer as fip
 use Rattle.worldfip.specs.declared.answer.Plan.the-variants as answer
 use Rattle.report.specs.Lines.{refusalText}
-use Rattle.report.specs.Whole.{segmentReport, ringReport, tableReport, reportOf}
+use Rattle.report.specs.Whole.{segmentReport, ringReport, tableReport, firstKind, reportOf}
 
--- the report is made from the first byte and the reading
+-- the report is made from that kind and the reading
 reportBy : ℕ → Outcome → List ℕ
 reportBy k o = cond (eqb k 3) (ringReport (planOf o)) (cond (eqb k 5) (tableReport o) (segmentReport (plannedBy o 32 32 32)))
 
-report-by : (s : List ℕ) → reportOf s ≡ reportBy (getD s 0 0) (reading s)
+report-by : (s : List ℕ) → reportOf s ≡ reportBy (firstKind s) (reading s)
 unfolding reportOf reportBy planned
 report-by s = refl
+
+-- ---- An accepted sheet has its own bus's report
+
+pub own-bus : (s : List ℕ) (S : Sheet) → reading s ≡ Read S → firstKind s ≡ S .head .kind
+unfolding firstKind foundAt byteChecks verdict sheetOf placeOf decode
+own-bus s S e =
+    let r = reading-whole s S e in
+    let inside : 0 < length s = r .upto .inside 0 (omega arith) in
+    let p = r .upto .passed 0 (omega arith) in
+    let found : firstKind s ≡ getD s 0 0 = simp (lt-ltb 0 (length s) inside, p .is-known, le-ltb (length s) (0 + sizeOf (getD s 0 0)) (p .is-whole)) in
+    found ∙ ap (λ (R : Record). R .kind) (sym (ap (λ (H : Sheet). H .head) (r .says) ∙ head-at s (r .m)))
 
 -- ---- Reading's refusals
 
 pub refused-alike : (s : List ℕ) (n p : ℕ) → reading s ≡ Not n p → reportOf s ≡ refusalText n p
 unfolding reportBy ringReport tableReport segmentReport planOf
-refused-alike s n p e = report-by s ∙ (ap (reportBy (getD s 0 0)) e ∙ split (eqb (getD s 0 0) 3) (eqb (getD s 0 0) 5))
+refused-alike s n p e = report-by s ∙ (ap (reportBy (firstKind s)) e ∙ split (eqb (firstKind s) 3) (eqb (firstKind s) 5))
   where
     split : (a b : Bool) → cond a (refusalText n p) (cond b (refusalText n p) (refusalText n p)) ≡ refusalText n p
     split true b = refl
@@ -50,9 +65,11 @@ refused-alike s n p e = report-by s ∙ (ap (reportBy (getD s 0 0)) e ∙ split 
 -- ---- A bounded buffer serves
 
 pub report-prefix : (s : List ℕ) → reportOf s ≡ reportOf (take enough s)
-report-prefix s =
-    let first : getD (take enough s) 0 0 ≡ getD s 0 0 = getD-take enough s 0 0 (omega (arith, enough-is)) in
-    report-by s ∙ (ap (reportBy (getD s 0 0)) (reading-prefix s) ∙ (ap (λ (k : ℕ). reportBy k (reading (take enough s))) (sym first) ∙ sym (report-by (take enough s))))
+report-prefix s = by (reading s) refl
+  where
+    by : (o : Outcome) → reading s ≡ o → reportOf s ≡ reportOf (take enough s)
+    by (Not n p) e = refused-alike s n p e ∙ sym (refused-alike (take enough s) n p (sym (reading-prefix s) ∙ e))
+    by (Read S) e = ap reportOf (sym (take-all enough s (omega (arith, length-at-most s S e, longest-sheet-is, enough-is))))
 
 -- ---- 13 never shows
 

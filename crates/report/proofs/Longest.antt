@@ -25,7 +25,7 @@ use Rattle.profibus.specs.declared.answer.Plan.the-variants as ring
 use Rattle.table.specs.Traffic.{microcycle, slots, rows, rowOf, variableOf, identifierAt}
 use Rattle.worldfip.specs.Answer.{variableAt, trafficOf, planChecks}
 use Rattle.report.specs.declared.Reported.the-variants as answer
-use Rattle.report.specs.Whole.{mostText, segmentReport, ringReport, tableOf, tableBy, tableReport, reportOf, answerOf}
+use Rattle.report.specs.Whole.{mostText, segmentReport, ringReport, tableOf, tableBy, tableReport, firstKind, reportOf, answerOf}
 use Rattle.units.specs.Units.{us}
 use Rattle.report.proofs.Lengths.{Small, masters-most, ring-most, table-most, refusal-most}
 use Rattle.report.proofs.Segments.{masters-few}
@@ -85,7 +85,7 @@ table-longest s (Read S) e = by (verdict (planChecks S 4096)) refl
 
 pub no-report-longer : (s : List ℕ) → length (reportOf s) ≤ mostText
 unfolding reportOf
-no-report-longer s = split (eqb (getD s 0 0) 3) (eqb (getD s 0 0) 5)
+no-report-longer s = split (eqb (firstKind s) 3) (eqb (firstKind s) 5)
   where
     split : (a b : Bool) → length (cond a (ringReport (planOf (reading s))) (cond b (tableReport (reading s)) (segmentReport (planned s 32 32 32)))) ≤ mostText
     split true b = ring-longest (planOf (reading s))

@@ -7,6 +7,7 @@ use Rattle.common.specs.Sums.{upto, greatest, up, firstOf}
 use Rattle.format.specs.Kinds.{kinds, fieldsOf, widths, sizeOf, known, fieldAt, decode, limit, within, ranged, inRange}
 use Rattle.format.specs.Numbers.{be}
 use Rattle.units.specs.Units.{microsUp}
+use Rattle.reader.specs.Walk.{byteChecks, foundAt}
 use Rattle.sheet.specs.Sheets.{streamsOf, headOf, sheetOf, fits, countOf, mostInAll, hasMaster, overLimit, metBefore}
 use Rattle.sheet.specs.Whole.{placeOf, recordsOf, recordChecks, endChecks, judge, ended, readFrom, reading}
 use Rattle.segment.specs.Segment.{segmentOf, streamAt, owns, count, longest, hold, turnBy, boundBy, turn, bound, late}
@@ -14,7 +15,7 @@ use Rattle.segment.specs.Refined.{saving, rightBy, valueOf, stands, roundsOf, m
 use Rattle.pnet.specs.Planned.{firstLate, planChecks, planned}
 use Rattle.report.specs.Text.{word, _·_, places, holds, widthOf, decimal, texts}
 use Rattle.report.specs.Lines.{inBp, inUs, inBoth, nameOf, figuresOf, masterLine}
-use Rattle.report.specs.Whole.{masterOf, mastersOf, segmentReport, reportOf}
+use Rattle.report.specs.Whole.{masterOf, mastersOf, segmentReport, firstKind, reportOf}
 
 -- N = 2; master 1 has two streams, master 2 one; all C = 203, T = D = 100,000
 unfoldable pub third : List ℕ
@@ -29,5 +30,5 @@ pub third-case : reportOf third
     ≡ word "P-NET segment\n"
     · word "M01 bound 1000 bp 13021 us refined 760 bp 9896 us 2 rounds\n"
     · word "M02 bound 500 bp 6511 us refined 500 bp 6511 us 2 rounds\n"
-unfolding third reportOf segmentReport mastersOf masterOf texts masterLine nameOf figuresOf inBoth inBp inUs microsUp up decimal places widthOf holds firstOf planned planChecks verdict firstLate late segmentOf streamAt owns count longest hold turnBy boundBy turn bound saving rightBy valueOf stands roundsOf mostRounds asked right rounds refined upto greatest reading readFrom ended judge recordChecks endChecks recordsOf placeOf streamsOf headOf sheetOf fits countOf mostInAll hasMaster overLimit metBefore kinds fieldsOf widths sizeOf known fieldAt decode limit within ranged inRange be
+unfolding third reportOf firstKind foundAt byteChecks segmentReport mastersOf masterOf texts masterLine nameOf figuresOf inBoth inBp inUs microsUp up decimal places widthOf holds firstOf planned planChecks verdict firstLate late segmentOf streamAt owns count longest hold turnBy boundBy turn bound saving rightBy valueOf stands roundsOf mostRounds asked right rounds refined upto greatest reading readFrom ended judge recordChecks endChecks recordsOf placeOf streamsOf headOf sheetOf fits countOf mostInAll hasMaster overLimit metBefore kinds fieldsOf widths sizeOf known fieldAt decode limit within ranged inRange be
 third-case = refl

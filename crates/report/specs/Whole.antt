@@ -3,10 +3,13 @@ use Prim.Native.Nat.{ℕ, _+_}
 use mathlib.Core.List.{List, [], _++_}
 use mathlib.Core.Bool.{cond}
 use lib.Dec.{eqb, ltb}
-use lib.ListN.{length, getD, drop}
+use lib.ListN.{length, drop}
 use Rattle.common.specs.Checks.{Verdict, verdict}
 use Rattle.common.specs.Checks.Verdict.{Passed, Refused}
 use Rattle.units.specs.Units.{bp, us}
+use Rattle.reader.specs.Walk.{foundAt}
+use Rattle.reader.specs.declared.Found.{Found}
+use Rattle.reader.specs.declared.Found.the-variants as found
 use Rattle.sheet.specs.Whole.{Outcome, reading}
 use Rattle.sheet.specs.Whole.Outcome.{Read, Not}
 use Rattle.segment.specs.Segment.{Segment, segmentOf, count, bound}
@@ -64,12 +67,22 @@ tableReport (Not n p) = refusalText n p
 
 -- ---- Any sheet
 
--- the first byte picks the planner: 3 PROFIBUS, 5 WorldFIP, else P-NET. Where it is none of 1, 3 and 5, reading refuses, and every planner
+-- the kind of the record that stands at the first byte; 0 where none does
+abbrev pub kindOf : Found → ℕ
+kindOf (found.One r next) = r .kind
+kindOf (found.Refused n p) = 0
+kindOf found.End = 0
+
+unfoldable pub firstKind : List ℕ → ℕ
+unfolding foundAt
+firstKind s = kindOf (foundAt s 0)
+
+-- it picks the planner: 3 PROFIBUS, 5 WorldFIP, else P-NET. Where it is none of 1, 3 and 5, reading refuses, and every planner
 -- reports that alike
 unfoldable pub reportOf : List ℕ → List ℕ
 reportOf s =
-    cond (eqb (getD s 0 0) 3) (ringReport (planOf (reading s)))
-    (cond (eqb (getD s 0 0) 5) (tableReport (reading s)) (segmentReport (planned s 32 32 32)))
+    cond (eqb (firstKind s) 3) (ringReport (planOf (reading s)))
+    (cond (eqb (firstKind s) 5) (tableReport (reading s)) (segmentReport (planned s 32 32 32)))
 
 -- the answer for a lent run of so many bytes: how many the report takes, or no room for every report
 unfoldable pub answerOf : List ℕ → ℕ → Reported

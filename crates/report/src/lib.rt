@@ -19,7 +19,7 @@ ghost use Rattle.units.specs.Units.{us};
 ghost use Rattle.pnet.specs.Planned.{planned};
 ghost use Rattle.report.specs.Text.{Zeros, Wrote, item};
 ghost use Rattle.report.specs.Lines.{segmentText, tableText};
-ghost use Rattle.report.specs.Whole.{mostText, segmentReport, ringReport, tableReport, reportOf, answerOf, runOf};
+ghost use Rattle.report.specs.Whole.{mostText, segmentReport, ringReport, tableReport, firstKind, reportOf, answerOf, runOf};
 
 // The first bytes of a sheet decide its report: a buffer of so many serves, however long the sheet is.
 pub const ENOUGH: usize = 9_614;
@@ -123,9 +123,9 @@ fn table_report(s: &[u8], out: &mut [u8]) -> usize
     }
 }
 
-// The report of a sheet whose first byte is given: it picks the planner.
+// The report of a sheet whose first record has this kind: it picks the planner.
 fn put_report(s: &[u8], first: u8, out: &mut [u8]) -> usize
-    requires { ⌜ (first ≡ item (now s) 0) × (mostText ≤ length (now out)) ⌝ }
+    requires { ⌜ (first ≡ firstKind (now s)) × (mostText ≤ length (now out)) ⌝ }
     ensures { λ r. ⌜ Wrote (now (out .entry)) 0 (reportOf (now (s .entry))) (now (out .exit)) r ⌝ }
 {
     if first == 3 {
@@ -137,10 +137,14 @@ fn put_report(s: &[u8], first: u8, out: &mut [u8]) -> usize
     segment_report(s, out)
 }
 
-fn first_byte(s: &[u8]) -> u8
-    ensures { λ r. ⌜ r ≡ item (now (s .entry)) 0 ⌝ }
+fn first_kind(s: &[u8]) -> u8
+    ensures { λ r. ⌜ r ≡ firstKind (now (s .entry)) ⌝ }
 {
-    if s.len() == 0 { 0 } else { s[0] }
+    match reader::first(s) {
+        reader::Found::One { record, next: _ } => record.kind,
+        reader::Found::Refused { no: _, place: _ } => 0,
+        reader::Found::End => 0,
+    }
 }
 
 // Writes the report of a sheet at the start of the lent run; later bytes keep what they had.
@@ -151,5 +155,5 @@ pub fn report(s: &[u8], out: &mut [u8]) -> Reported
     if out.len() < MOST_TEXT {
         return Reported::NoRoom;
     }
-    Reported::Written(put_report(s, first_byte(s), out))
+    Reported::Written(put_report(s, first_kind(s), out))
 }

@@ -1,32 +1,31 @@
--- `report::put_report` picks the planner by the first byte. Assumes nothing.
+-- `report::put_report` picks the planner by the kind of the first record. Assumes nothing.
 use mathlib.Core.List.{List}
 use mathlib.Core.Path.{_≡_, sym, _∙_}
 use Prim.Native.Nat.{ℕ}
 use borrow.Author.Needs.{needs}
 use borrow.Author.Tests.{eq-eqb, ne-eqb}
 use denote.Ref.{now}
-use lib.ListN.{getD}
 use Rattle.sheet.specs.Whole.{reading}
 use Rattle.pnet.specs.Planned.{planned}
-use Rattle.report.specs.Whole.{segmentReport, ringReport, tableReport, reportOf}
+use Rattle.report.specs.Whole.{segmentReport, ringReport, tableReport, firstKind, reportOf}
 use Rattle.profibus.specs.Planned.{planOf}
 use Rattle.report.proofs.put_report.Statement.{statement}
 use Rattle.report.proofs.put_report.Tie as tie
 
--- ---- The report by the first byte
+-- ---- The report by that kind
 
 module _ (s : List ℕ) where
-  profibus : getD s 0 0 ≡ 3 → reportOf s ≡ ringReport (planOf (reading s))
+  profibus : firstKind s ≡ 3 → reportOf s ≡ ringReport (planOf (reading s))
   unfolding reportOf
-  profibus e = simp (eq-eqb (getD s 0 0) 3 e)
+  profibus e = simp (eq-eqb (firstKind s) 3 e)
 
-  worldfip : (getD s 0 0 ≡ 3 → ⊥) → getD s 0 0 ≡ 5 → reportOf s ≡ tableReport (reading s)
+  worldfip : (firstKind s ≡ 3 → ⊥) → firstKind s ≡ 5 → reportOf s ≡ tableReport (reading s)
   unfolding reportOf
-  worldfip n e = simp (ne-eqb (getD s 0 0) 3 n, eq-eqb (getD s 0 0) 5 e)
+  worldfip n e = simp (ne-eqb (firstKind s) 3 n, eq-eqb (firstKind s) 5 e)
 
-  pnet : (getD s 0 0 ≡ 3 → ⊥) → (getD s 0 0 ≡ 5 → ⊥) → reportOf s ≡ segmentReport (planned s 32 32 32)
+  pnet : (firstKind s ≡ 3 → ⊥) → (firstKind s ≡ 5 → ⊥) → reportOf s ≡ segmentReport (planned s 32 32 32)
   unfolding reportOf
-  pnet n m = simp (ne-eqb (getD s 0 0) 3 n, ne-eqb (getD s 0 0) 5 m)
+  pnet n m = simp (ne-eqb (firstKind s) 3 n, ne-eqb (firstKind s) 5 m)
 
 -- ---- The needs
 
