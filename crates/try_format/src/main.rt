@@ -111,20 +111,30 @@ fn say_word(n: u64) {
 }
 
 fn say_place(at: usize, room: usize) {
-    say(b"at");
+    say(b"at byte");
     say_word(at as u64);
     say(b" of");
     say_word(room as u64);
     say(b":");
 }
 
+// The unit of a record's times, by its bus.
+fn say_unit(kind: u8) {
+    if kind < 5 {
+        say(b", times in bp: ");
+    } else {
+        say(b", times in us: ");
+    }
+}
+
 fn say_record(r: Record) {
+    say(b" kind");
     say_word(r.kind as u64);
     say_word(r.a as u64);
     say_word(r.b as u64);
     say_word(r.c as u64);
     say_word(r.d as u64);
-    say(b": ");
+    say_unit(r.kind);
 }
 
 fn same(r: Record, q: Record) -> bool {

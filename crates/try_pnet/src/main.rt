@@ -24,6 +24,7 @@ fn say_plan(p: Plan) {
             say(b" streams");
         }
         Plan::Refused { no, place } => {
+            say(b"refused ");
             say_number(no as u64);
             say(b" at ");
             say_number(place as u64);
@@ -37,7 +38,6 @@ fn say_figure(x: u32) {
 }
 
 fn say_run(run: &[u32]) {
-    say(b";");
     let mut i: usize = 0;
     while i < run.len() {
         say_figure(run[i]);
@@ -49,8 +49,11 @@ fn say_case(name: &[u8], s: &[u8], bound: &mut [u32], refined: &mut [u32], round
     say(name);
     say(b": ");
     say_plan(pnet::plan(s, bound, refined, rounds));
+    say(b"; R in bp");
     say_run(bound);
+    say(b"; W in bp");
     say_run(refined);
+    say(b"; rounds");
     say_run(rounds);
     say(b"\n");
 }
@@ -138,11 +141,11 @@ fn few(name: &[u8], n: u32, figures: &[u32], room: usize)
 
 fn page() {
     // Page 01, 'Sheets worked by hand': V 1,000, so R 2,000.
-    four(b"D 2000", 2000, 5, 5, 5);
-    four(b"D 1999", 1999, 5, 5, 5);
+    four(b"D 2000 bp", 2000, 5, 5, 5);
+    four(b"D 1999 bp", 1999, 5, 5, 5);
     // The next case of the page: W 760 and 500.
     few(
-        b"T 100000",
+        b"T 100000 bp",
         2,
         &[
             1,
@@ -166,7 +169,7 @@ fn page() {
 fn deadlines() {
     // V and every R 600: streams 3 and 4 are late, and the first of them is named.
     few(
-        b"D 599 of streams 3 and 4",
+        b"D 599 bp of streams 3 and 4",
         4,
         &[
             1,
@@ -189,7 +192,7 @@ fn deadlines() {
         5,
     );
     few(
-        b"D 600",
+        b"D 600 bp",
         4,
         &[
             1,
@@ -216,7 +219,7 @@ fn deadlines() {
 fn searches() {
     // W 760 and W 1,000 both solve it; the least is asked.
     few(
-        b"T 900",
+        b"T 900 bp",
         2,
         &[
             1,
@@ -236,7 +239,7 @@ fn searches() {
     );
     // Values 0, 240, 420, 510, 600.
     few(
-        b"T 150",
+        b"T 150 bp",
         2,
         &[
             1,
@@ -264,7 +267,7 @@ fn searches() {
     );
     // Values 0, 240, 420, 510.
     few(
-        b"T 200",
+        b"T 200 bp",
         2,
         &[
             1,

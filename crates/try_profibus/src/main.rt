@@ -12,11 +12,11 @@ fn answer(name: &[u8], s: &[u8]) {
         Plan::Target { rotation, stream } => {
             write(b": TTR ");
             io::print_decimal(STDOUT_FILENO, rotation.0 as u64);
-            write(b" by ");
+            write(b" bp limited by stream ");
             io::print_decimal(STDOUT_FILENO, stream as u64);
         }
         Plan::Refused { no, place } => {
-            write(b": ");
+            write(b": refused ");
             io::print_decimal(STDOUT_FILENO, no as u64);
             write(b" at ");
             io::print_decimal(STDOUT_FILENO, place as u64);
@@ -46,7 +46,7 @@ fn main() {
         b"\x03\x01\x00\x00\x00\x01\x00\x00\x03\xe8\x04\x01\x00\x00\x03\xe8\x00\x00\x00\x01",
     );
     answer(
-        b"both fail at 486",
+        b"both fail at 486 bp",
         b"\x03\x01\x00\x00\x00\x64\x00\x00\x00\x0a\x04\x01\x00\x00\x00\x0a\x00\x00\x03\xe9\x04\x01\x00\x00\x00\x0a\x00\x00\x03\xe8",
     );
     // 1·(100 + 10) + 10 is 120.

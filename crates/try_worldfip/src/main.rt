@@ -25,12 +25,13 @@ fn say_plan(p: Plan) {
         } => {
             say(b"microcycle ");
             say_number(microcycle as u64);
-            say(b" slots ");
+            say(b" us, slots ");
             say_number(slots as u64);
-            say(b" rows ");
+            say(b", rows ");
             say_number(rows as u64);
         }
         Plan::Refused { no, place } => {
+            say(b"refused ");
             say_number(no as u64);
             say(b" at ");
             say_number(place as u64);
@@ -188,7 +189,7 @@ fn page() {
         6,
     );
     ask(
-        b"the third at 2,000",
+        b"the third at 2,000 us",
         b"\x05\x00\x00\x01\x90\x06\x00\x11\x00\x00\x03\xe8\x06\x00\x12\x00\x00\x07\xd0\x06\x00\x13\x00\x00\x07\xd0\x06\x00\x14\x00\x00\x0f\xa0",
         6,
     );

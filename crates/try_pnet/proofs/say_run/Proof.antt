@@ -11,12 +11,6 @@ Inv-loop run i₀ i = i ≤ length run
 abbrev μ-loop : tie.MeasureT-loop
 μ-loop run i₀ i = length run - i
 
-slice-aggregate-say : tie.Need-slice-aggregate-say Inv-loop μ-loop
-slice-aggregate-say c = search needs
-
-say-requires : tie.Need-say-requires Inv-loop μ-loop
-say-requires c κs = search needs
-
 loop-holds : tie.Need-loop-holds Inv-loop μ-loop
 loop-holds c = search needs
 
@@ -47,8 +41,6 @@ say-run-spec =
     (tie.spec
     Inv-loop
     μ-loop
-    slice-aggregate-say
-    say-requires
     loop-holds
     mul-say-figure
     shared-slice-read-say-figure
