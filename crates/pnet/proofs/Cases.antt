@@ -12,7 +12,8 @@ use Rattle.common.proofs.Checks.{Applies, Clear, refused-if, passed-if}
 use Rattle.common.proofs.Checks.Applies.{here, later}
 use Rattle.common.proofs.Checks.Clear.{none, and}
 use Rattle.sheet.specs.Sheets.{Sheet}
-use Rattle.sheet.specs.Whole.{Outcome, orElse, reading}
+use Rattle.sheet.specs.Whole.{sheetIn, Outcome, orElse, reading, Ready}
+use Rattle.sheet.proofs.Taken.{ready-streams}
 use Rattle.sheet.specs.Whole.Outcome.{Read, Not}
 use Rattle.common.specs.Runs.{filled}
 use Rattle.common.specs.Sums.{firstOf}
@@ -22,7 +23,7 @@ use Rattle.segment.specs.Refined.{refined, rounds}
 use Rattle.pnet.specs.declared.answer.Plan.{Plan}
 use Rattle.pnet.specs.declared.answer.Plan.the-variants as answer
 use Rattle.pnet.specs.Planned.{firstLate, planChecks, plannedBy, planned, planOf, atPlace, runOf}
-use Rattle.pnet.specs.Arrays.{sheetIn, segmentIn, Pnet, Gathered, turnIn, boundIn, lateIn, refinedIn, roundsIn, Kept}
+use Rattle.pnet.specs.Arrays.{segmentIn, Gathered, turnIn, boundIn, lateIn, refinedIn, roundsIn, Kept}
 use Rattle.pnet.proofs.Bytes.{declares, number-is}
 use Rattle.pnet.proofs.Tied.{kept, turn-tied, bound-tied, late-tied, rounds-tied, refined-tied}
 
@@ -91,55 +92,57 @@ module _ (s x y z : List ℕ) where
     (ap (λ (o : Outcome). runOf o bound x) (sym e), (ap (λ (o : Outcome). runOf o refined y) (sym e), ap (λ (o : Outcome). runOf o rounds z) (sym e))),
   )
 
-  module _ (e : planned s (length x) (length y) (length z) ≡ Read (sheetIn (reading s))) (n : ℕ) (masters : n ≡ segmentIn s .masters) where
-    run-read : (figure : Segment → ℕ → ℕ) (old run : List ℕ) → run ≡ filled (atPlace (figure (segmentIn s))) n old → run ≡ runOf (planned s (length x) (length y) (length z)) figure old
-    unfolding segmentIn segmentOf
+  module _ (m : ℕ) (e : planned s (length x) (length y) (length z) ≡ Read (sheetIn s m)) (n : ℕ) (masters : n ≡ segmentIn s m .masters) where
+    run-read : (figure : Segment → ℕ → ℕ) (old run : List ℕ) → run ≡ filled (atPlace (figure (segmentIn s m))) n old → run ≡ runOf (planned s (length x) (length y) (length z)) figure old
+    unfolding segmentOf
     run-read figure old run q =
-        (q ∙ ap (λ (k : ℕ). filled (atPlace (figure (segmentIn s))) k old) masters) ∙ ap (λ (o : Outcome). runOf o figure old) (sym e)
+        (q ∙ ap (λ (k : ℕ). filled (atPlace (figure (segmentIn s m))) k old) masters) ∙ ap (λ (o : Outcome). runOf o figure old) (sym e)
 
-    pub returned-read : (m : ℕ) → m ≡ segmentIn s .number → (a b c : List ℕ) → a ≡ filled (atPlace (bound (segmentIn s))) n x
-        → b ≡ filled (atPlace (refined (segmentIn s))) n y → c ≡ filled (atPlace (rounds (segmentIn s))) n z → Returned s x y z (answer.Accepted n m) a b c
-    unfolding segmentIn segmentOf
-    returned-read m number a b c ea eb ec =
-        let r : answer.Accepted n m ≡ planOf (Read (sheetIn (reading s))) = rw (masters, number) in
+    pub returned-read : m ≡ segmentIn s m .number → (a b c : List ℕ) → a ≡ filled (atPlace (bound (segmentIn s m))) n x
+        → b ≡ filled (atPlace (refined (segmentIn s m))) n y → c ≡ filled (atPlace (rounds (segmentIn s m))) n z → Returned s x y z (answer.Accepted n m) a b c
+    unfolding segmentOf
+    returned-read number a b c ea eb ec =
+        let r : answer.Accepted n m ≡ planOf (Read (sheetIn s m)) = ap (λ (x : ℕ). answer.Accepted x m) masters ∙ ap (answer.Accepted (sheetIn s m .head .a)) number in
         (r ∙ ap planOf (sym e), (run-read bound x a ea, (run-read refined y b eb, run-read rounds z c ec)))
 
 -- ---- Where the code ends with a segment's arrays
 
-module _ {s : List ℕ} {m first : ℕ} (p : Pnet s m first) {masters deadlines counts holds spacings : List ℕ}
-    (g : Gathered (segmentIn s) masters deadlines counts holds spacings) (n : ℕ) (en : n ≡ segmentIn s .masters) where
+module _ {s : List ℕ} {first m : ℕ} (p : Ready s 1 first m) {masters deadlines counts holds spacings : List ℕ}
+    (g : Gathered (segmentIn s m) masters deadlines counts holds spacings) (n : ℕ) (en : n ≡ segmentIn s m .masters) where
   pub kept-all : Kept n counts holds spacings
   kept-all = subst (λ (k : ℕ). Kept k counts holds spacings) (sym en) (kept (declares p) g)
 
   module _ (late v : ℕ) (ev : v ≡ turnIn holds n) (el : late ≡ firstOf (lateIn masters deadlines counts v) m 1) where
-    late-is-first : late ≡ firstLate (segmentIn s)
+    late-is-first : late ≡ firstLate (segmentIn s m)
     late-is-first =
-        let t : v ≡ turn (segmentIn s) = ev ∙ (ap (turnIn holds) en ∙ turn-tied (declares p) g) in
-        el ∙ (rw (t, number-is p) (late-tied (declares p) g))
+        let t : v ≡ turn (segmentIn s m) = ev ∙ (ap (turnIn holds) en ∙ turn-tied (declares p) g) in
+        el
+        ∙ (ap (λ (x : ℕ). firstOf (lateIn masters deadlines counts x) m 1) t
+        ∙ (ap (λ (k : ℕ). firstOf (lateIn masters deadlines counts (turn (segmentIn s m))) k 1) (number-is p) ∙ late-tied (declares p) g))
 
     module _ (x y z : List ℕ) (rx : n ≤ length x) (ry : n ≤ length y) (rz : n ≤ length z) where
       pub returned-late : late ≤ m → Returned s x y z (answer.Refused 8 late) x y z
-      unfolding segmentIn segmentOf
+      unfolding segmentOf
       returned-late l =
           let o =
-          planned-late s (length x) (length y) (length z) (sheetIn (reading s)) (p .reads) (p .kind) (omega (arith, en)) (omega (arith, en)) (omega (arith, en)) late late-is-first
-          (omega (arith, p .number)) in
+          planned-late s (length x) (length y) (length z) (sheetIn s m) (p .reads) (p .bus) (omega (arith, en)) (omega (arith, en)) (omega (arith, en)) late late-is-first
+          (omega (arith, ready-streams p)) in
           returned-refused s x y z 8 late o
 
-      filled-tied : (f h : ℕ → ℕ) (old run : List ℕ) → run ≡ filled (atPlace f) n old → ((k : ℕ) → 1 ≤ k → k ≤ segmentIn s .masters → f k ≡ h k) → run ≡ filled (atPlace h) n old
+      filled-tied : (f h : ℕ → ℕ) (old run : List ℕ) → run ≡ filled (atPlace f) n old → ((k : ℕ) → 1 ≤ k → k ≤ segmentIn s m .masters → f k ≡ h k) → run ≡ filled (atPlace h) n old
       filled-tied f h old run q e = q ∙ filled-same (atPlace f) (atPlace h) n old (λ i l. e (i + 1) (omega arith) (omega (arith, en)))
 
       pub returned-filled : m < late → (a b c : List ℕ) → a ≡ filled (atPlace (boundIn counts holds n)) n x
           → b ≡ filled (atPlace (refinedIn counts holds spacings n)) n y → c ≡ filled (atPlace (roundsIn counts holds spacings n)) n z
           → Returned s x y z (answer.Accepted n m) a b c
-      unfolding segmentIn segmentOf
+      unfolding segmentOf
       returned-filled l a b c ea eb ec =
           let d = declares p in
-          let S = segmentIn s in
+          let S = segmentIn s m in
           let o =
-          planned-read s (length x) (length y) (length z) (sheetIn (reading s)) (p .reads) (p .kind) (omega (arith, en)) (omega (arith, en)) (omega (arith, en))
-          (omega (arith, p .number, late-is-first)) in
-          returned-read s x y z o n en m (number-is p) a b c
+          planned-read s (length x) (length y) (length z) (sheetIn s m) (p .reads) (p .bus) (omega (arith, en)) (omega (arith, en)) (omega (arith, en))
+          (omega (arith, ready-streams p, late-is-first)) in
+          returned-read s x y z m o n en (number-is p) a b c
           (filled-tied (boundIn counts holds n) (bound S) x a ea (λ k lo hi. rw en (bound-tied d g k (omega (arith, d .masters-to)))))
           (filled-tied (refinedIn counts holds spacings n) (refined S) y b eb (λ k lo hi. rw en (refined-tied d g k lo hi)))
           (filled-tied (roundsIn counts holds spacings n) (rounds S) z c ec (λ k lo hi. rw en (rounds-tied d g k lo hi)))

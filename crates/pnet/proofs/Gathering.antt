@@ -16,7 +16,8 @@ use Rattle.format.specs.declared.Met.{Met}
 use Rattle.segment.specs.Segment.{Stream, Segment, owns, count, longest, hold}
 use Rattle.segment.specs.Limits.{Declared}
 use Rattle.segment.proofs.Holds.{longest-none, hold-none, hold-some}
-use Rattle.pnet.specs.Arrays.{at, part, Sized, Gathered, segmentIn, Pnet}
+use Rattle.sheet.specs.Whole.{Ready}
+use Rattle.pnet.specs.Arrays.{at, part, Sized, Gathered, segmentIn}
 use Rattle.pnet.proofs.Bytes.{Here, declares, number-is}
 
 -- ---- Nothing yet
@@ -205,33 +206,33 @@ pub record Small (i m cycle count : ℕ) : Type 0 where
   pub short : cycle ≤ 1548
   pub fewer-before : count < 80
 
-module _ {s : List ℕ} {n first : ℕ} (p : Pnet s n first) {i : ℕ} {masters deadlines counts holds spacings : List ℕ}
-    (g : Gathered (part (segmentIn s) i) masters deadlines counts holds spacings) where
-  module _ (l : i < n) (r : Met) (h : Here s i r) where
-    below : i < segmentIn s .number
+module _ {s : List ℕ} {first n : ℕ} (p : Ready s 1 first n) {i : ℕ} {masters deadlines counts holds spacings : List ℕ}
+    (g : Gathered (part (segmentIn s n) i) masters deadlines counts holds spacings) where
+  module _ (l : i < n) (r : Met) (h : Here s n i r) where
+    below : i < segmentIn s n .number
     below = omega (arith, number-is p)
 
-    of-master : r .found .a ≡ segmentIn s .stream (i + 1) .master
+    of-master : r .found .a ≡ segmentIn s n .stream (i + 1) .master
     of-master = ap (λ (x : Stream). x .master) (h .stream)
 
-    of-cycle : r .found .b ≡ segmentIn s .stream (i + 1) .cycle
+    of-cycle : r .found .b ≡ segmentIn s n .stream (i + 1) .cycle
     of-cycle = ap (λ (x : Stream). x .cycle) (h .stream)
 
     pub small : Small i (r .found .a) (r .found .b) (at counts (r .found .a))
     small =
         record {
-          inside = number-inside (segmentIn s) (declares p) i below (r .found .a) of-master;
-          master = master-inside (segmentIn s) (declares p) i below (r .found .a) of-master;
+          inside = number-inside (segmentIn s n) (declares p) i below (r .found .a) of-master;
+          master = master-inside (segmentIn s n) (declares p) i below (r .found .a) of-master;
           short = omega (arith, of-cycle, declares p .ranges (i + 1) (omega arith) (omega (arith, below)) .cycle-to);
-          fewer-before = fewer (segmentIn s) (declares p) i below (r .found .a) of-master g;
+          fewer-before = fewer (segmentIn s n) (declares p) i below (r .found .a) of-master g;
         }
 
     pub gathered-next : (hold : ℕ) → hold ≡ max (at holds (r .found .a)) (47 + r .found .b)
-        → Gathered (part (segmentIn s) (i + 1)) (set masters i (r .found .a)) (set deadlines i (r .found .d)) (set counts (r .found .a) (at counts (r .found .a) + 1))
+        → Gathered (part (segmentIn s n) (i + 1)) (set masters i (r .found .a)) (set deadlines i (r .found .d)) (set counts (r .found .a) (at counts (r .found .a) + 1))
         (set holds (r .found .a) hold) (set spacings (80 * r .found .a + at counts (r .found .a)) (r .found .c))
     gathered-next hold e =
-        gathered-more (segmentIn s) (declares p) i below (r .found .a) of-master g (r .found .b) (r .found .c) (r .found .d) hold of-cycle
+        gathered-more (segmentIn s n) (declares p) i below (r .found .a) of-master g (r .found .b) (r .found .c) (r .found .d) hold of-cycle
         (ap (λ (x : Stream). x .spacing) (h .stream)) (ap (λ (x : Stream). x .deadline) (h .stream)) e
 
-  pub gathered-all : i ≡ n → Gathered (segmentIn s) masters deadlines counts holds spacings
-  gathered-all e = subst (λ (m : ℕ). Gathered (part (segmentIn s) m) masters deadlines counts holds spacings) (e ∙ number-is p) g
+  pub gathered-all : i ≡ n → Gathered (segmentIn s n) masters deadlines counts holds spacings
+  gathered-all e = subst (λ (m : ℕ). Gathered (part (segmentIn s n) m) masters deadlines counts holds spacings) (e ∙ number-is p) g

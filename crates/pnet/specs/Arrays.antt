@@ -3,15 +3,12 @@
 -- Assumes nothing.
 use Prim.Native.Nat.{ℕ, _+_, _-_, _*_, _≤_, _<_}
 use mathlib.Core.Path.{_≡_}
-use mathlib.Core.List.{List, []}
+use mathlib.Core.List.{List}
 use mathlib.Core.Bool.{Bool}
 use lib.ListN.{length, getD}
 use lib.Dec.{ltb}
 use Rattle.common.specs.Sums.{when, upto, up}
-use Rattle.format.specs.Kinds.{nothing}
-use Rattle.sheet.specs.Sheets.{Sheet}
-use Rattle.sheet.specs.Whole.{Outcome, placeOf, reading}
-use Rattle.sheet.specs.Whole.Outcome.{Read, Not}
+use Rattle.sheet.specs.Whole.{sheetIn}
 use Rattle.segment.specs.Segment.{Segment, segmentOf, owns, count, hold}
 use Rattle.segment.specs.Refined.{saving, valueOf, roundsOf}
 
@@ -45,22 +42,9 @@ pub record Gathered (S : Segment) (masters deadlines counts holds spacings : Lis
 
 -- ---- Where they come from
 
--- the sheet that was read
-abbrev pub sheetIn : Outcome → Sheet
-sheetIn (Read H) = H
-sheetIn (Not n p) = record { head = nothing; streams = [] }
-
--- the segment that these bytes declare
-unfoldable pub segmentIn : List ℕ → Segment
-unfolding segmentOf reading
-segmentIn s = segmentOf (sheetIn (reading s))
-
--- they read as a P-NET sheet with n streams, the first of them at a place
-pub record Pnet (s : List ℕ) (n first : ℕ) : Type 0 where
-  pub reads : reading s ≡ Read (sheetIn (reading s))
-  pub kind : sheetIn (reading s) .head .kind ≡ 1
-  pub number : n ≡ length (sheetIn (reading s) .streams)
-  pub place : first ≡ placeOf s 1
+-- the segment that these bytes declare, with n streams
+abbrev pub segmentIn : List ℕ → ℕ → Segment
+segmentIn s n = segmentOf (sheetIn s n)
 
 -- ---- The figures, read off them
 

@@ -8,10 +8,11 @@ ghost use Prim.Native.Nat.{ℕ, _+_, _*_, _≤_, _<_, min, max};
 ghost use lib.ListN.{length};
 ghost use Rattle.common.specs.Runs.{filled};
 ghost use Rattle.common.specs.Sums.{firstOf};
+ghost use Rattle.sheet.specs.Whole.{Ready};
 ghost use Rattle.segment.specs.Segment;
 ghost use Rattle.segment.specs.Refined;
 ghost use Rattle.pnet.specs.Planned.{planned, planOf, atPlace, runOf};
-ghost use Rattle.pnet.specs.Arrays.{part, Gathered, segmentIn, Pnet};
+ghost use Rattle.pnet.specs.Arrays.{part, Gathered, segmentIn};
 ghost use Rattle.pnet.specs.Arrays.{at, askedIn, turnIn, boundIn, lateIn, savedIn, rightIn, roundsIn, refinedIn, Spaced, Served, Kept};
 
 // W of a master, and its rounds.
@@ -38,9 +39,9 @@ fn gather(
     holds: &mut [u32; 33],
     spacings: &mut [u32; 2640],
 )
-    requires { ⌜ Pnet (now s) n first ⌝ }
-    requires { ⌜ Gathered (part (segmentIn (now s)) 0) (now masters) (now deadlines) (now counts) (now holds) (now spacings) ⌝ }
-    ensures { λ _. ⌜ Gathered (segmentIn (now (s .entry))) (now (masters .exit)) (now (deadlines .exit)) (now (counts .exit)) (now (holds .exit)) (now (spacings .exit)) ⌝ }
+    requires { ⌜ Ready (now s) 1 first n ⌝ }
+    requires { ⌜ Gathered (part (segmentIn (now s) n) 0) (now masters) (now deadlines) (now counts) (now holds) (now spacings) ⌝ }
+    ensures { λ _. ⌜ Gathered (segmentIn (now (s .entry)) n) (now (masters .exit)) (now (deadlines .exit)) (now (counts .exit)) (now (holds .exit)) (now (spacings .exit)) ⌝ }
 {
     let mut at = first;
     let mut i: usize = 0;
@@ -223,7 +224,7 @@ fn plan_segment(
     refined: &mut [u32],
     rounds: &mut [u32],
 ) -> Plan
-    requires { ⌜ Pnet (now s) streams first × (n ≡ segmentIn (now s) .masters) ⌝ }
+    requires { ⌜ Ready (now s) 1 first streams × (n ≡ segmentIn (now s) streams .masters) ⌝ }
     requires { ⌜ (n ≤ length (now bound)) × (n ≤ length (now refined)) × (n ≤ length (now rounds)) ⌝ }
     ensures { λ r. ⌜ r ≡ planOf (planned (now (s .entry)) (length (now (bound .entry))) (length (now (refined .entry))) (length (now (rounds .entry)))) ⌝ }
     ensures { λ r. ⌜ now (bound .exit) ≡ runOf (planned (now (s .entry)) (length (now (bound .entry))) (length (now (refined .entry))) (length (now (rounds .entry)))) Segment.bound (now (bound .entry)) ⌝ }

@@ -2,7 +2,6 @@
 use mathlib.Core.Path.{_≡_, refl, sym, ap, _∙_}
 use mathlib.Core.List.{List}
 use Prim.Native.Nat.{ℕ, zero, suc, _+_, _-_, _≤_, _<_}
-use native.Mathlib.Numerals.{add-one}
 use native.Mathlib.Omega.{arith}
 use borrow.Author.Tests.{ne-eqb}
 use lib.ListN.{length}
@@ -12,14 +11,11 @@ use Rattle.format.specs.declared.Met.{Met}
 use Rattle.format.specs.declared.Record.{Record}
 use Rattle.format.specs.Kinds.{nothing, metAt}
 use Rattle.sheet.specs.Sheets.{Sheet, streamsOf, sheetOf}
-use Rattle.sheet.specs.Whole.{sheetIn, placeOf, recordsOf, reading, told, streamsOfMaster, countsTold, Outcome}
+use Rattle.sheet.specs.Whole.{sheetIn, placeOf, reading, streamsOfMaster, countsTold, Ready}
 use Rattle.sheet.specs.Whole.Outcome.{Read, Not}
-use Rattle.sheet.specs.declared.Reading.the-variants as answer
-use Rattle.sheet.proofs.Walk.{length-streams}
-use Rattle.sheet.proofs.Known.{Known, reading-read}
+use Rattle.sheet.proofs.Taken.{ready-known, ready-streams, stream-met}
 use Rattle.ring.specs.Ring.{Ring, Stream, streamOf, streamAt, ringOf, On, owns, count, Declared}
 use Rattle.ring.proofs.Declared.{declared, count-is}
-use Rattle.profibus.specs.Planned.{Ready}
 
 -- ---- Stream after stream
 
@@ -32,25 +28,21 @@ pub record Stepped (s : List ℕ) (R : Ring) (i : ℕ) (m : Met) : Type 0 where
   pub small : m .found .a < 33
   pub next : m .next ≡ placeOf s (suc i)
 
-module _ (s : List ℕ) (first n : ℕ) (ready : Ready s first n) where
-  known : Known s (sheetIn s n)
-  known = reading-read s (sheetIn s n) (ready .reads)
-
+module _ (s : List ℕ) (first n : ℕ) (ready : Ready s 3 first n) where
   pub ready-declared : Declared (ringOf (sheetIn s n))
-  ready-declared = declared s (sheetIn s n) known (ready .bus)
+  ready-declared = declared s (sheetIn s n) (ready-known ready) (ready .bus)
 
   pub ready-number : ringOf (sheetIn s n) .number ≡ n
-  unfolding ringOf sheetIn sheetOf
-  ready-number = length-streams s n
+  unfolding ringOf
+  ready-number = ready-streams ready
 
   pub stepped : (i at : ℕ) (m : Met) → i < n → at ≡ placeOf s (suc i) → m ≡ metAt s at → Stepped s (ringOf (sheetIn s n)) (i + 1) m
   unfolding ringOf streamAt
   stepped i at m l e q =
-      let l' : i < length (sheetIn s n .streams) = omega (arith, ready-number) in
-      let q' : m ≡ metAt s (placeOf s (suc i)) = q ∙ ap (metAt s) e in
+      let here = stream-met ready i at m l e q in
       let p : i + 1 - 1 ≡ i = omega arith in
       let on : On (ringOf (sheetIn s n)) (i + 1) = (omega arith, omega (arith, ready-number)) in
-      let e' : streamOf (m .found) ≡ ringOf (sheetIn s n) .stream (i + 1) = rw (p, ← (known .met i l'), q') in
+      let e' : streamOf (m .found) ≡ ringOf (sheetIn s n) .stream (i + 1) = rw (p, here .is) in
       let a = ap (λ (x : Stream). x .master) e' in
       record {
         on = on;
@@ -58,7 +50,7 @@ module _ (s : List ℕ) (first n : ℕ) (ready : Ready s first n) where
         cycle = ap (λ (x : Stream). x .cycle) e';
         deadline = ap (λ (x : Stream). x .deadline) e';
         small = omega (arith, a, ready-declared .master-in (i + 1) on, ready-declared .masters-in);
-        next = rw (add-one i, q') (known .next i l');
+        next = here .next;
       }
 
   -- the counts that reading hands over are each master's h

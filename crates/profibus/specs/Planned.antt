@@ -1,14 +1,14 @@
 -- Page 01, 'Numbered refusals': what the PROFIBUS planner answers to a sheet. Reading's refusals come first, then 3 for another bus's
 -- sheet, then 9. Assumes nothing.
-use Prim.Native.Nat.{ℕ, suc, _+_}
+use Prim.Native.Nat.{ℕ, _+_}
 use mathlib.Core.List.{List, [], _∷_}
 use mathlib.Core.Bool.{not}
 use mathlib.Core.Path.{_≡_}
 use lib.Dec.{eqb, leb}
 use Rattle.common.specs.Checks.{Check, check, Verdict, verdict}
 use Rattle.common.specs.Checks.Verdict.{Passed, Refused}
-use Rattle.sheet.specs.Sheets.{Sheet, sheetOf}
-use Rattle.sheet.specs.Whole.{sheetIn, Outcome, placeOf, recordsOf, reading}
+use Rattle.sheet.specs.Sheets.{Sheet}
+use Rattle.sheet.specs.Whole.{Outcome}
 use Rattle.sheet.specs.Whole.Outcome.{Read, Not}
 use Rattle.ring.specs.Ring.{Ring, ringOf}
 use Rattle.ring.specs.Target.{FirstFails, Limited, target, firstFailing}
@@ -42,11 +42,3 @@ pub data Answers (S : Sheet) : Plan → Type 0 where
   another-bus : (S .head .kind ≡ 3 → ⊥) → Answers S (plan.Refused 3 0)
   fails : (i : ℕ) → S .head .kind ≡ 3 → FirstFails (ringOf S) (ringOf S .latency) i → Answers S (plan.Refused 9 i)
   limited : (ttr i : ℕ) → S .head .kind ≡ 3 → Limited (ringOf S) ttr i → Answers S (plan.Target (record { 0 = ttr }) i)
-
--- ---- What the passes over the streams go by
-
--- these bytes are a PROFIBUS sheet of n streams, and the first of them stands at a place
-pub record Ready (s : List ℕ) (first n : ℕ) : Type 0 where
-  pub reads : reading s ≡ Read (sheetIn s n)
-  pub bus : sheetIn s n .head .kind ≡ 3
-  pub starts : first ≡ placeOf s 1

@@ -6,10 +6,10 @@ pub use answer::RingPeriods;
 use sheet::Reading;
 ghost use mathlib.Core.Path.{_≡_};
 ghost use Rattle.common.specs.Runs.{tab};
-ghost use Rattle.sheet.specs.Whole.{sheetIn, reading};
+ghost use Rattle.sheet.specs.Whole.{sheetIn, reading, Ready};
 ghost use Rattle.sheet.specs.Whole.Outcome.{Read};
 ghost use Rattle.ring.specs.Ring.{ringOf, count, messages};
-ghost use Rattle.profibus.specs.Planned.{planOf, Ready};
+ghost use Rattle.profibus.specs.Planned.{planOf};
 
 // The longest deadline of a sheet. No stream bears a rotation as long, since C is at least 1.
 const LONGEST: u64 = 1000000000;
@@ -24,7 +24,7 @@ fn largest_target(
     latency: u64,
     longest: u64,
 ) -> Plan
-    requires { ⌜ Ready (now s) first streams ⌝ }
+    requires { ⌜ Ready (now s) 3 first streams ⌝ }
     requires { ⌜ now counts ≡ tab (count (ringOf (sheetIn (now s) streams))) 33 ⌝ }
     requires { ⌜ (latency ≡ ringOf (sheetIn (now s) streams) .latency) × (longest ≡ messages (ringOf (sheetIn (now s) streams))) ⌝ }
     ensures { λ r. ⌜ r ≡ planOf (Read (sheetIn (now (s .entry)) streams)) ⌝ }

@@ -1,15 +1,20 @@
--- From the reader's answer to what was read, as the planners take it. Assumes nothing.
-use mathlib.Core.Path.{_≡_, refl, ap, _∙_}
+-- From the reader's answer to what was read, as the planners take it, and what they meet on their way from stream to stream.
+-- Assumes nothing.
+use mathlib.Core.Path.{_≡_, refl, sym, ap, _∙_}
 use mathlib.Core.List.{List}
-use Prim.Native.Nat.{ℕ}
+use Prim.Native.Nat.{ℕ, suc, _+_, _<_}
+use native.Mathlib.Numerals.{add-one}
 use native.Mathlib.Omega.{arith}
-use lib.ListN.{length}
+use lib.ListN.{length, getD}
+use Rattle.format.specs.declared.Met.{Met}
 use Rattle.format.specs.declared.Record.{Record}
-use Rattle.sheet.specs.Sheets.{Sheet}
-use Rattle.sheet.specs.Whole.{Outcome, placeOf, sheetIn, reading, told}
+use Rattle.format.specs.Kinds.{nothing, metAt}
+use Rattle.sheet.specs.Sheets.{Sheet, sheetOf}
+use Rattle.sheet.specs.Whole.{Outcome, placeOf, sheetIn, reading, told, Ready}
 use Rattle.sheet.specs.Whole.Outcome.{Read, Not}
 use Rattle.sheet.specs.declared.Reading.the-variants as answer
-use Rattle.sheet.proofs.Known.{reading-read}
+use Rattle.sheet.proofs.Walk.{length-streams}
+use Rattle.sheet.proofs.Known.{Known, reading-read}
 
 -- the answer `Accepted head n first`: the first record and n streams behind it are the whole sheet
 pub record Taken (s : List ℕ) (head : Record) (n first : ℕ) : Type 0 where
@@ -36,3 +41,31 @@ not-taken s x p e = split (reading s) refl e
     split : (o : Outcome) → reading s ≡ o → told s o ≡ answer.Refused x p → reading s ≡ Not x p
     split (Read S) q a = let z : _≡_ {A = ℕ} 0 1 = cc in absurd (omega arith)
     split (Not y r) q a = let ex : y ≡ x = cc in let ep : r ≡ p = cc in cc
+
+-- ---- Stream after stream
+
+-- the sheet of the bus that a planner is for
+pub taken-ready : {s : List ℕ} {h : Record} {n f kind : ℕ} → Taken s h n f → h .kind ≡ kind → Ready s kind f n
+taken-ready t k = record { reads = t .reads; bus = ap (λ (r : Record). r .kind) (sym (t .begins)) ∙ k; starts = t .starts }
+
+module _ {s : List ℕ} {kind first n : ℕ} (ready : Ready s kind first n) where
+  pub ready-known : Known s (sheetIn s n)
+  ready-known = reading-read s (sheetIn s n) (ready .reads)
+
+  pub ready-streams : length (sheetIn s n .streams) ≡ n
+  unfolding sheetIn sheetOf
+  ready-streams = length-streams s n
+
+  -- what is met at the place of stream i, counted from 0, is that stream, and behind it stands the next
+  pub record StreamMet (i : ℕ) (m : Met) : Type 0 where
+    pub is : m .found ≡ getD (sheetIn s n .streams) i nothing
+    pub next : m .next ≡ placeOf s (suc (i + 1))
+
+  pub stream-met : (i at : ℕ) (m : Met) → i < n → at ≡ placeOf s (suc i) → m ≡ metAt s at → StreamMet i m
+  stream-met i at m l e q =
+      let l' : i < length (sheetIn s n .streams) = omega (arith, ready-streams) in
+      let q' : m ≡ metAt s (placeOf s (suc i)) = q ∙ ap (metAt s) e in
+      record {
+        is = ap (λ (x : Met). x .found) q' ∙ ready-known .met i l';
+        next = ap (λ (x : Met). x .next) q' ∙ rw add-one (ready-known .next i l');
+      }

@@ -3,7 +3,6 @@
 use mathlib.Core.Path.{_≡_, refl, sym, ap, _∙_, fun-ext}
 use mathlib.Core.List.{List}
 use Prim.Native.Nat.{ℕ, suc, _+_, _-_, _≤_, _<_}
-use native.Mathlib.Numerals.{add-one}
 use native.Mathlib.Omega.{arith}
 use native.Mathlib.Decide.{decLt}
 use lib.Dec.{ltb}
@@ -15,17 +14,16 @@ use Rattle.common.specs.Checks.Verdict.{Passed, Refused}
 use Rattle.format.specs.declared.Met.{Met}
 use Rattle.format.specs.Kinds.{nothing, metAt}
 use Rattle.format.proofs.Ranges.{VariableRanges, exchange-ranges, variable-ranges}
-use Rattle.sheet.specs.Sheets.{Sheet, sheetOf}
-use Rattle.sheet.specs.Whole.{sheetIn, Outcome, placeOf, reading}
+use Rattle.sheet.specs.Sheets.{Sheet}
+use Rattle.sheet.specs.Whole.{sheetIn, Outcome, placeOf, reading, Ready}
 use Rattle.sheet.specs.Whole.Outcome.{Read}
-use Rattle.sheet.specs.declared.Reading.the-variants as answer
-use Rattle.sheet.proofs.Walk.{length-streams}
-use Rattle.sheet.proofs.Known.{Known, reading-read}
+use Rattle.sheet.proofs.Known.{Known}
+use Rattle.sheet.proofs.Taken.{ready-known, ready-streams, stream-met}
 use Rattle.table.specs.Traffic.{Traffic, Declared, plain, periodOf, ahead, rankOf, variableOf, identifierAt, microcycle, slots, inRows, rows, periodAt, askedOf, missingOf}
 use Rattle.table.proofs.Plain.{plainOf, plain-declared, plain-variable}
 use Rattle.worldfip.specs.declared.answer.Plan.the-variants as plan
 use Rattle.worldfip.specs.Answer.{variableBy, variableAt, trafficOf, tableChecks, planChecks, planBy, runBy, planOf, runOf, identifierOf}
-use Rattle.worldfip.specs.Held.{numbered, held, Sheeted, Placed, Ranked, tablePlan, tableRun, Ready, Gathered}
+use Rattle.worldfip.specs.Held.{numbered, held, Sheeted, Placed, Ranked, tablePlan, tableRun, Gathered}
 use Rattle.worldfip.proofs.Tied.{variable-is}
 
 -- ---- A sheet that reads without refusal declares traffic within the ranges
@@ -46,16 +44,13 @@ module _ (s : List ℕ) (S : Sheet) (known : Known s S) (bus : S .head .kind ≡
 
 -- ---- Record after record
 
-module _ {s : List ℕ} {first n : ℕ} (ready : Ready s first n) where
-  known : Known s (sheetIn s n)
-  known = reading-read s (sheetIn s n) (ready .reads)
-
+module _ {s : List ℕ} {first n : ℕ} (ready : Ready s 5 first n) where
   pub ready-declared : Declared (trafficOf (sheetIn s n))
-  ready-declared = declared s (sheetIn s n) known (ready .bus)
+  ready-declared = declared s (sheetIn s n) (ready-known ready) (ready .bus)
 
   pub ready-number : trafficOf (sheetIn s n) .number ≡ n
-  unfolding trafficOf sheetIn sheetOf
-  ready-number = length-streams s n
+  unfolding trafficOf
+  ready-number = ready-streams ready
 
   -- a record that was met is the next variable, and its identifier has two bytes; behind it stands the next record
   pub record Stepped (i : ℕ) (m : Met) : Type 0 where
@@ -67,14 +62,13 @@ module _ {s : List ℕ} {first n : ℕ} (ready : Ready s first n) where
   unfolding trafficOf variableAt
   stepped i at m l e q =
       let l' : i < length (sheetIn s n .streams) = omega (arith, ready-number) in
-      let q' : m ≡ metAt s (placeOf s (suc i)) = q ∙ ap (metAt s) e in
-      let f : m .found ≡ getD (sheetIn s n .streams) i nothing = ap (λ (x : Met). x .found) q' ∙ known .met i l' in
+      let here = stream-met ready i at m l e q in
       let p : i + 1 - 1 ≡ i = omega arith in
-      let b : m .found .a ≤ 65535 = rw f (in-range s (sheetIn s n) known (ready .bus) i l' .identifier .most) in
+      let b : m .found .a ≤ 65535 = rw (here .is) (in-range s (sheetIn s n) (ready-known ready) (ready .bus) i l' .identifier .most) in
       record {
-        variable = rw (p, ← f);
+        variable = rw (p, ← here .is);
         small = omega arith;
-        next = ap (λ (x : Met). x .next) q' ∙ rw add-one (known .next i l');
+        next = here .next;
       }
 
   -- behind the last, both fields are 0
@@ -140,7 +134,7 @@ module _ (S : Sheet) (other : S .head .kind ≡ 5 → ⊥) where
   unfolding identifierOf
   other-name r = simp (ne-eqb (S .head .kind) 5 other)
 
-module _ {s : List ℕ} {first n e : ℕ} {names periods : List ℕ} (ready : Ready s first n) (head : e ≡ sheetIn s n .head .a)
+module _ {s : List ℕ} {first n e : ℕ} {names periods : List ℕ} (ready : Ready s 5 first n) (head : e ≡ sheetIn s n .head .a)
     (g : Gathered (trafficOf (sheetIn s n)) names periods) where
   pub held-is : held periods n e ≡ plainOf (trafficOf (sheetIn s n))
   unfolding held trafficOf

@@ -7,8 +7,6 @@ use lib.Dec.{eqb, ltb, leb}
 use Rattle.common.specs.Sums.{when}
 use Rattle.common.specs.Checks.{verdict}
 use Rattle.common.specs.Runs.{filled}
-use Rattle.sheet.specs.Whole.{sheetIn, placeOf, reading}
-use Rattle.sheet.specs.Whole.Outcome.{Read}
 use Rattle.bits.specs.Sets.{setOf}
 use Rattle.table.specs.Table.{Asked}
 use Rattle.table.specs.Build.{byRank, late, missRow}
@@ -98,12 +96,6 @@ unfolding missRow late
 missing A = when (leb (missRow A byRank) (A .rows)) (late A byRank (missRow A byRank))
 
 -- ---- From the bytes of a sheet to these arrays
-
--- these bytes are a WorldFIP sheet of n variables, and the first of them stands at a place
-pub record Ready (s : List ℕ) (first n : ℕ) : Type 0 where
-  pub reads : reading s ≡ Read (sheetIn s n)
-  pub bus : sheetIn s n .head .kind ≡ 5
-  pub starts : first ≡ placeOf s 1
 
 -- identifiers and periods in sheet order; both are 0 behind the last
 pub record Gathered (T : Traffic) (names periods : List ℕ) : Type 0 where

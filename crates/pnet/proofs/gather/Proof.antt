@@ -13,19 +13,19 @@ use Rattle.pnet.proofs.gather.Tie as tie
 
 abbrev Inv-loop : tie.InvT-loop
 Inv-loop s first n masters₀ deadlines₀ counts₀ holds₀ spacings₀ at₀ i₀ masters deadlines counts holds spacings at i =
-    (i ≤ n) × (at ≡ placeOf s (suc i)) × Gathered (part (segmentIn s) i) masters deadlines counts holds spacings
+    (i ≤ n) × (at ≡ placeOf s (suc i)) × Gathered (part (segmentIn s n) i) masters deadlines counts holds spacings
 
 abbrev μ-loop : tie.MeasureT-loop
 μ-loop s first n masters₀ deadlines₀ counts₀ holds₀ spacings₀ at₀ i₀ masters deadlines counts holds spacings at i = n - i
 
 loop-holds : tie.Need-loop-holds Inv-loop μ-loop
-loop-holds c = (search needs, c .before .pre .0 .place, c .before .pre .1)
+loop-holds c = (search needs, c .before .pre .0 .starts, c .before .pre .1)
 
 record-at-requires : tie.Need-record-at-requires Inv-loop μ-loop
 record-at-requires c κs = search needs
 
 -- the record read is stream i + 1
-its : (c : tie.After-record-at Inv-loop μ-loop) → Here (c .before .before .before .before .args .s .now) (c .before .before .loop .i) (c .record-at .result)
+its : (c : tie.After-record-at Inv-loop μ-loop) → Here (c .before .before .before .before .args .s .now) (c .before .before .before .before .args .n) (c .before .before .loop .i) (c .record-at .result)
 its c =
     let l = c .before .before .loop in
     here (c .before .before .before .before .pre .0) (l .i) (l .at) (c .record-at .result) (omega arith) (l .inv .1) (c .record-at .ensures)

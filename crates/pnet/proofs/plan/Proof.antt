@@ -1,18 +1,25 @@
-use Prim.Native.Nat.{_≤_}
 -- `plan` meets its contract: the reading's own refusals, then 3, then 13, and what `plan_segment` says. Assumes nothing.
-use mathlib.Core.Path.{_≡_, sym, ap, _∙_}
+use Prim.Native.Nat.{_≤_}
+use mathlib.Core.Path.{sym, ap, _∙_}
 use mathlib.Core.Logic.{⊎-elim}
 use native.Mathlib.Omega.{arith}
 use borrow.Author.Tests.{ltb-true, ltb-false}
 use lib.ListN.{length}
 use Rattle.format.specs.declared.Record.{Record}
-use Rattle.sheet.specs.Whole.{reading}
-use Rattle.pnet.specs.Arrays.{sheetIn}
-use Rattle.pnet.proofs.Bytes.{told-read, told-unread, told-pnet}
+use Rattle.sheet.specs.Whole.{sheetIn}
+use Rattle.sheet.proofs.Taken.{Taken, taken, not-taken, taken-ready}
+use Rattle.segment.specs.Segment.{segmentOf}
 use Rattle.pnet.proofs.Cases.{planned-unread, planned-other, planned-short, returned-refused}
 use borrow.Author.Needs.{needs}
 use Rattle.pnet.proofs.plan.Statement.{statement}
 use Rattle.pnet.proofs.plan.Tie as tie
+
+-- what the reader took
+took : (c : tie.After-read3)
+    → Taken (c .before .before .before .before .before .before .before .args .s .now) (c .read3 .given .0 .0) (c .read3 .given .0 .1 .0) (c .read3 .given .0 .1 .1 .0)
+took c =
+    taken (c .before .before .before .before .before .before .before .args .s .now) (c .read3 .given .0 .0) (c .read3 .given .0 .1 .0) (c .read3 .given .0 .1 .1 .0)
+    (sym (c .before .before .read .ensures) ∙ c .read3 .given .1)
 
 read-requires : tie.Need-read-requires
 read-requires c κs = search needs
@@ -27,8 +34,8 @@ returns : tie.Need-returns
 returns c =
     let a = c .before .before .before .before .before .before .before .before .before .before .args in
     let x = c .before .before .before .read3 .given in
-    let t = told-read (a .s .now) (reading (a .s .now)) (x .0 .0) (x .0 .1 .0) (x .0 .1 .1 .0) (sym (x .1) ∙ c .before .before .before .before .before .read .ensures) in
-    let o = planned-other (a .s .now) (length (a .bound .now)) (length (a .refined .now)) (length (a .rounds .now)) (sheetIn (reading (a .s .now))) (t .reads) (λ k. c .if1 .taken (ap (λ (r : Record). r .kind) (sym (t .head)) ∙ k)) in
+    let t = took (c .before .before .before) in
+    let o = planned-other (a .s .now) (length (a .bound .now)) (length (a .refined .now)) (length (a .rounds .now)) (sheetIn (a .s .now) (x .0 .1 .0)) (t .reads) (λ k. c .if1 .taken (ap (λ (r : Record). r .kind) (t .begins) ∙ k)) in
     returned-refused (a .s .now) (a .bound .now) (a .refined .now) (a .rounds .now) 3 0 o
 
 cast-n : tie.Need-cast-n
@@ -38,25 +45,24 @@ returns-2 : tie.Need-returns-2
 returns-2 c =
     let a = c .before .before .before .before .before .before .before .before .before .before .before .before .args in
     let x = c .before .before .before .before .before .read3 .given in
-    let t = told-read (a .s .now) (reading (a .s .now)) (x .0 .0) (x .0 .1 .0) (x .0 .1 .1 .0) (sym (x .1) ∙ c .before .before .before .before .before .before .before .read .ensures) in
-    let kind = ap (λ (r : Record). r .kind) (t .head) ∙ c .before .before .if1 .left in
+    let t = took (c .before .before .before .before .before) in
+    let kind = ap (λ (r : Record). r .kind) (sym (t .begins)) ∙ c .before .before .if1 .left in
     let short : (x .0 .0 .a ≤ length (a .bound .now) → x .0 .0 .a ≤ length (a .refined .now) → x .0 .0 .a ≤ length (a .rounds .now) → ⊥) =
     λ l m r. ⊎-elim (λ w. omega (arith, ltb-true)) (⊎-elim (λ w. omega (arith, ltb-true)) (λ w. omega (arith, ltb-true))) (c .if2 .came) in
-    let o = planned-short (a .s .now) (length (a .bound .now)) (length (a .refined .now)) (length (a .rounds .now)) (sheetIn (reading (a .s .now))) (t .reads) kind (x .0 .0 .a) (ap (λ (r : Record). r .a) (sym (t .head))) short in
+    let o = planned-short (a .s .now) (length (a .bound .now)) (length (a .refined .now)) (length (a .rounds .now)) (sheetIn (a .s .now) (x .0 .1 .0)) (t .reads) kind (x .0 .0 .a) (ap (λ (r : Record). r .a) (t .begins)) short in
     returned-refused (a .s .now) (a .bound .now) (a .refined .now) (a .rounds .now) 13 (x .0 .0 .a) o
 
 plan-segment-requires : tie.Need-plan-segment-requires
+unfolding segmentOf
 plan-segment-requires c κs =
-    let a = c .before .before .before .before .before .before .before .before .before .before .before .before .before .before .before .before .before .args in
-    let x = c .before .before .before .before .before .before .before .before .before .before .read3 .given in
-    let t = told-read (a .s .now) (reading (a .s .now)) (x .0 .0) (x .0 .1 .0) (x .0 .1 .1 .0) (sym (x .1) ∙ c .before .before .before .before .before .before .before .before .before .before .before .before .read .ensures) in
-    (told-pnet (a .s .now) (x .0 .0) (x .0 .1 .0) (x .0 .1 .1 .0) t (c .before .before .before .before .before .before .before .if1 .left), (c .before .before .before .before .before .if2 .left, ltb-false _ _ (c .before .before .before .before .if3 .left), ltb-false _ _ (c .before .before .before .if4 .left)))
+    let t = took (c .before .before .before .before .before .before .before .before .before .before) in
+    ((taken-ready t (c .before .before .before .before .before .before .before .if1 .left), ap (λ (r : Record). r .a) (t .begins)), (c .before .before .before .before .before .if2 .left, ltb-false _ _ (c .before .before .before .before .if3 .left), ltb-false _ _ (c .before .before .before .if4 .left)))
 
 returns-3 : tie.Need-returns-3
 returns-3 c =
     let a = c .before .before .before .before .before .before .before .before .args in
     let x = c .before .read2 .given in
-    let o = planned-unread (a .s .now) (length (a .bound .now)) (length (a .refined .now)) (length (a .rounds .now)) (x .0 .0) (x .0 .1 .0) (told-unread (a .s .now) (reading (a .s .now)) (x .0 .0) (x .0 .1 .0) (sym (x .1) ∙ c .before .before .before .read .ensures)) in
+    let o = planned-unread (a .s .now) (length (a .bound .now)) (length (a .refined .now)) (length (a .rounds .now)) (x .0 .0) (x .0 .1 .0) (not-taken (a .s .now) (x .0 .0) (x .0 .1 .0) (sym (c .before .before .before .read .ensures) ∙ x .1)) in
     returned-refused (a .s .now) (a .bound .now) (a .refined .now) (a .rounds .now) (x .0 .0) (x .0 .1 .0) o
 
 same-length : tie.Need-same-length

@@ -12,7 +12,7 @@ use Rattle.pnet.proofs.plan_segment.Statement.{statement}
 use Rattle.pnet.proofs.plan_segment.Tie as tie
 
 gather-requires : tie.Need-gather-requires
-gather-requires c κs = (c .before .before .before .before .before .before .before .before .before .pre .0 .0, gathered-none (segmentIn (c .before .before .before .before .before .before .before .before .before .args .s .now)))
+gather-requires c κs = (c .before .before .before .before .before .before .before .before .before .pre .0 .0, gathered-none (segmentIn (c .before .before .before .before .before .before .before .before .before .args .s .now) (c .before .before .before .before .before .before .before .before .before .args .streams)))
 
 turn-of-requires : tie.Need-turn-of-requires
 turn-of-requires c κs =

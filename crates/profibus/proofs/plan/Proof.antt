@@ -2,13 +2,13 @@
 use Prim.Native.Nat.{ℕ, _*_, _≤_}
 use mathlib.Core.Path.{_≡_, refl, sym, ap, _∙_}
 use native.Mathlib.Omega.{arith}
-use Rattle.sheet.proofs.Taken.{Taken, taken, not-taken}
-use Rattle.sheet.specs.Whole.{sheetIn}
+use Rattle.sheet.proofs.Taken.{Taken, taken, not-taken, taken-ready}
+use Rattle.sheet.specs.Whole.{sheetIn, Ready}
 use Rattle.format.specs.declared.Record.{Record}
 use Rattle.ring.specs.Ring.{ringOf, messages}
 use Rattle.ring.proofs.Rule.{messages-of-one}
 use Rattle.ring.proofs.Sizes.{messages-most}
-use Rattle.profibus.specs.Planned.{planOf, Ready}
+use Rattle.profibus.specs.Planned.{planOf}
 use Rattle.profibus.proofs.Answers.{plan-other-bus}
 use Rattle.profibus.proofs.Passing.{ready-declared, ready-counts}
 use borrow.Author.Needs.{needs}
@@ -23,10 +23,8 @@ took c =
     (sym (c .before .before .read-counting .ensures .0) ∙ c .head .given .1)
 
 -- is a PROFIBUS sheet
-ready : (c : tie.Else1) → Ready (c .before .before .before .before .before .before .before .before .args .s .now) (c .before .before .before .head .given .0 .1 .1 .0) (c .before .before .before .head .given .0 .1 .0)
-ready c =
-    let t = took (c .before .before .before) in
-    record { reads = t .reads; bus = ap (λ (r : Record). r .kind) (sym (t .begins)) ∙ c .if1 .left; starts = t .starts }
+ready : (c : tie.Else1) → Ready (c .before .before .before .before .before .before .before .before .args .s .now) 3 (c .before .before .before .head .given .0 .1 .1 .0) (c .before .before .before .head .given .0 .1 .0)
+ready c = taken-ready (took (c .before .before .before)) (c .if1 .left)
 
 -- n·M of its first record is the ring's
 longest : (c : tie.Else1)

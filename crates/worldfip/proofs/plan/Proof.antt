@@ -2,11 +2,10 @@
 use mathlib.Core.Path.{_≡_, sym, ap, _∙_}
 use borrow.Author.Needs.{needs}
 use lib.ListN.{length}
-use Rattle.sheet.proofs.Taken.{Taken, taken, not-taken}
+use Rattle.sheet.proofs.Taken.{Taken, taken, not-taken, taken-ready}
 use Rattle.format.specs.declared.Record.{Record}
-use Rattle.sheet.specs.Whole.{sheetIn, Outcome}
+use Rattle.sheet.specs.Whole.{sheetIn, Outcome, Ready}
 use Rattle.worldfip.specs.Answer.{planOf, runOf}
-use Rattle.worldfip.specs.Held.{Ready}
 use Rattle.worldfip.proofs.Passing.{sheeted, plan-is, run-is, other-bus, other-run}
 use Rattle.worldfip.proofs.plan.Statement.{statement}
 use Rattle.worldfip.proofs.plan.Tie as tie
@@ -19,10 +18,8 @@ took c =
     (sym (c .before .before .read .ensures) ∙ c .head .given .1)
 
 -- is a WorldFIP sheet
-ready : (c : tie.Else1) → Ready (c .before .before .before .before .before .before .before .before .args .s .now) (c .before .before .before .head .given .0 .1 .1 .0) (c .before .before .before .head .given .0 .1 .0)
-ready c =
-    let t = took (c .before .before .before) in
-    record { reads = t .reads; bus = ap (λ (r : Record). r .kind) (sym (t .begins)) ∙ c .if1 .left; starts = t .starts }
+ready : (c : tie.Else1) → Ready (c .before .before .before .before .before .before .before .before .args .s .now) 5 (c .before .before .before .head .given .0 .1 .1 .0) (c .before .before .before .head .given .0 .1 .0)
+ready c = taken-ready (took (c .before .before .before)) (c .if1 .left)
 
 -- with its E
 exchange : (c : tie.After-head) → c .head .given .0 .0 .a ≡ sheetIn (c .before .before .before .before .before .args .s .now) (c .head .given .0 .1 .0) .head .a
