@@ -1,11 +1,11 @@
 -- Page 01, 'Numbered refusals': a refusal is given exactly if its condition holds and none before it in the order applies.
 -- Assumes nothing.
 use mathlib.Core.Path.{_≡_, refl}
-use mathlib.Core.Bool.{Bool, true, false, cond}
+use mathlib.Core.Bool.{Bool, true, false}
 use mathlib.Core.List.{List, [], _∷_}
 use Prim.Native.Nat.{ℕ}
 use native.Mathlib.Omega.{arith}
-use Rattle.common.specs.Checks.{Check, check, Verdict, verdict}
+use Rattle.common.specs.Checks.{Check, check, verdict}
 use Rattle.common.specs.Checks.Verdict.{Passed, Refused}
 
 -- number n with place p applies in this order: its condition holds, and that of no line before it

@@ -1,7 +1,6 @@
 -- Laws of sums that begin at 0. Assumes nothing.
 use mathlib.Core.Path.{_≡_, refl, ap}
 use Prim.Native.Nat.{ℕ, zero, suc, _+_, _<_}
-use native.Mathlib.Nat.{add-zero, add-suc}
 use native.Mathlib.Omega.{arith}
 use native.Mathlib.Decide.{ℕ-discrete}
 use Rattle.common.specs.Sums.{sum}
@@ -11,12 +10,6 @@ pub sum-front : (f : ℕ → ℕ) (n : ℕ) → sum f (suc n) ≡ f 0 + sum (λ 
 unfolding sum
 sum-front f zero = omega arith
 sum-front f (suc n) = omega (arith, sum-front f n)
-
--- the first a terms apart
-pub sum-split : (f : ℕ → ℕ) (a b : ℕ) → sum f (a + b) ≡ sum f a + sum (λ l. f (a + l)) b
-unfolding sum
-sum-split f a zero = rw add-zero (omega arith)
-sum-split f a (suc b) = rw add-suc (omega (arith, sum-split f a b))
 
 pub sum-same : (f g : ℕ → ℕ) (n : ℕ) → ((r : ℕ) → r < n → f r ≡ g r) → sum f n ≡ sum g n
 unfolding sum

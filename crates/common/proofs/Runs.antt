@@ -1,13 +1,13 @@
 -- Laws of a lent run that is filled by a function. Assumes nothing.
 use mathlib.Core.Path.{_≡_, refl, sym, ap, _∙_, subst}
 use mathlib.Core.List.{List, [], _∷_, _++_, append-assoc}
-use Prim.Native.Nat.{ℕ, zero, suc, _+_, _-_, _≤_, _<_}
+use Prim.Native.Nat.{ℕ, zero, suc, _+_, _≤_, _<_}
 use native.Mathlib.Nat.{not-suc-le-zero}
 use native.Mathlib.Decide.{ℕ-discrete}
 use native.Mathlib.Numerals.{add-one}
 use native.Mathlib.Omega.{arith}
 use lib.ListN.{length, getD, take, drop, set, length-append, length-drop, length-set, List·getD-append}
-use lib.Seq.{take-suc, take-all, drop-cons, set-at, getD-at, getD-set-same, getD-set-other, getD-append-seam, ext-getD}
+use lib.Seq.{take-suc, take-all, drop-cons, set-at, getD-append-seam}
 use Rattle.common.specs.Runs.{tab, filled}
 
 module _ (f : ℕ → ℕ) where
@@ -32,10 +32,10 @@ module _ (f : ℕ → ℕ) where
   length-filled n d h = rw (length-append, length-tab n, length-drop) (omega arith)
 
   -- what stands in a filled place
-  tab-at : (n j : ℕ) → j < n → getD (tab f n) j 0 ≡ f j
+  pub getD-tab : (n j : ℕ) → j < n → getD (tab f n) j 0 ≡ f j
   unfolding tab
-  tab-at zero j h = absurd (not-suc-le-zero h)
-  tab-at (suc n) j h = go (ℕ-discrete j n) (tab-at n j)
+  getD-tab zero j h = absurd (not-suc-le-zero h)
+  getD-tab (suc n) j h = go (ℕ-discrete j n) (getD-tab n j)
     where
       go : Dec (j ≡ n) → (j < n → getD (tab f n) j 0 ≡ f j) → getD (tab f n ++ (f n ∷ [])) j 0 ≡ f j
       go (yes e) ih = rw e (subst (λ (i : ℕ). getD (tab f n ++ (f n ∷ [])) i 0 ≡ f n) (length-tab n) (getD-append-seam (tab f n) (f n) [] 0))
@@ -43,36 +43,11 @@ module _ (f : ℕ → ℕ) where
 
   pub filled-at : (n j : ℕ) (d : List ℕ) → j < n → getD (filled f n d) j 0 ≡ f j
   unfolding filled
-  filled-at n j d h = List·getD-append (tab f n) (drop n d) 0 j (rw (length-tab n) h) ∙ tab-at n j h
+  filled-at n j d h = List·getD-append (tab f n) (drop n d) 0 j (rw (length-tab n) h) ∙ getD-tab n j h
 
 -- one store of a filled run, as a loop has it
 pub filled-step : (f : ℕ → ℕ) (d l : List ℕ) (n x : ℕ) → l ≡ filled f n d → x ≡ f n → n < length d → set l n x ≡ filled f (n + 1) d
 filled-step f d l n x e q h = rw (e, q) (filled-more f n d h)
-
--- ---- Each place by itself
-
-pub getD-tab : (f : ℕ → ℕ) (n k : ℕ) → k < n → getD (tab f n) k 0 ≡ f k
-unfolding tab
-getD-tab f zero k l = absurd (omega arith)
-getD-tab f (suc n) k l = last (ℕ-discrete k n) (getD-tab f n k)
-  where
-    last : Dec (k ≡ n) → (k < n → getD (tab f n) k 0 ≡ f k) → getD (tab f n ++ (f n ∷ [])) k 0 ≡ f k
-    last (yes e) ih = rw e (getD-at (tab f n) (f n) [] 0 n (length-tab f n))
-    last (no e) ih =
-        let m : k < length (tab f n) = omega (arith, e, length-tab f n) in
-        List·getD-append (tab f n) (f n ∷ []) 0 k m ∙ ih (omega (arith, e))
-
--- a store that makes of the run by f the run by g
-pub tab-set : (f g : ℕ → ℕ) (n k x : ℕ) → k < n → x ≡ g k → ((y : ℕ) → y < n → (y ≡ k → ⊥) → f y ≡ g y) → set (tab f n) k x ≡ tab g n
-tab-set f g n k x l e other =
-    ext-getD 0 (set (tab f n) k x) (tab g n) (rw (length-set, length-tab f n, length-tab g n))
-    (λ y h. let m : y < n = omega (arith, length-set (tab f n) k x, length-tab f n) in at y m (ℕ-discrete y k))
-  where
-    at : (y : ℕ) → y < n → Dec (y ≡ k) → getD (set (tab f n) k x) y 0 ≡ getD (tab g n) y 0
-    at y m (yes q) =
-        let i : k < length (tab f n) = omega (arith, length-tab f n) in
-        rw q (getD-set-same (tab f n) k x 0 i ∙ (e ∙ sym (getD-tab g n k l)))
-    at y m (no q) = getD-set-other (tab f n) k y x 0 q ∙ (getD-tab f n y m ∙ (other y m q ∙ sym (getD-tab g n y m)))
 
 -- figures that agree below n fill a run alike
 pub tab-same : (f g : ℕ → ℕ) (n : ℕ) → ((i : ℕ) → i < n → f i ≡ g i) → tab f n ≡ tab g n

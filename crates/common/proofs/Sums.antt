@@ -1,11 +1,11 @@
 -- Laws of sums and greatest figures over 1..n, and of quotients rounded up. Assumes nothing.
-use mathlib.Core.Path.{_≡_, refl, sym, ap, _∙_, subst}
+use mathlib.Core.Path.{_≡_, refl, sym, ap, _∙_}
 use mathlib.Core.Logic.{_≢_}
 use Prim.Native.Nat.{ℕ, zero, suc, _+_, _-_, _*_, _/_, _≤_, _<_, zero-le, max}
-use native.Mathlib.Nat.{mul-zero, mul-le-mul, mul-add, suc-mul, zero-div, div-zero, div-lt-iff-lt-mul, le-div-iff-mul-le, mul-comm}
+use native.Mathlib.Nat.{mul-zero, mul-le-mul, mul-add, suc-mul, div-zero, div-lt-iff-lt-mul}
 use native.Mathlib.Numerals.{add-one}
 use native.Mathlib.Omega.{arith}
-use native.Mathlib.Decide.{ℕ-discrete, le-ind}
+use native.Mathlib.Decide.{ℕ-discrete}
 use borrow.Author.Tests.{eq-eqb, ne-eqb}
 use lib.Dec.{eqb}
 use Rattle.common.specs.Sums.{when, upto, greatest, up}
@@ -104,11 +104,6 @@ unfolding greatest
 greatest-least f c zero le = zero-le
 greatest-least f c (suc n) le = omega (arith, greatest-least f c n (λ y lo hi. le y lo (omega arith)), le (suc n) (omega arith) (omega arith))
 
-pub greatest-same : (f g : ℕ → ℕ) (n : ℕ) → ((y : ℕ) → 1 ≤ y → y ≤ n → f y ≡ g y) → greatest f n ≡ greatest g n
-unfolding greatest
-greatest-same f g zero eq = refl
-greatest-same f g (suc n) eq = omega (arith, greatest-same f g n (λ y lo hi. eq y lo (omega arith)), eq (suc n) (omega arith) (omega arith))
-
 -- ---- Quotients rounded up
 
 -- n quotients cover x exactly if x/t rounded up is at most n
@@ -126,17 +121,7 @@ up-covers x t p =
     let a : x + (t - 1) < suc q * t = div-lt-iff-lt-mul p .0 (omega arith) in
     omega (arith, suc-mul q t)
 
-pub up-mono : (x y t : ℕ) → 0 < t → x ≤ y → up x t ≤ up y t
-up-mono x y t p h = up-at-most x t (up y t) p (omega (arith, up-covers y t p))
-
-pub up-zero : (t : ℕ) → 0 < t → up 0 t ≡ 0
-up-zero t p = omega (arith, up-at-most 0 t 0 p (omega arith))
-
--- ---- Longer sums, and sums that differ in one term
-
-pub upto-longer : (f : ℕ → ℕ) (m n : ℕ) → m ≤ n → upto f m ≤ upto f n
-unfolding upto
-upto-longer f m n l = le-ind (λ (x : ℕ). upto f m ≤ upto f x) (omega arith) (λ x k e. omega arith) n l
+-- ---- Sums that differ in one term
 
 pub upto-but-one : (f g : ℕ → ℕ) (n m : ℕ) → 1 ≤ m → m ≤ n → ((y : ℕ) → y ≢ m → f y ≡ g y) → upto f n + g m ≡ upto g n + f m
 unfolding upto
@@ -165,7 +150,7 @@ upto-only x k (suc n) lo hi = last (ℕ-discrete k (suc n)) (upto-only x k n lo)
 pub up-rises : (x y t : ℕ) → x ≤ y → up x t ≤ up y t
 unfolding up
 up-rises x y zero h = simp div-zero (omega arith)
-up-rises x y (suc t) h = up-mono x y (suc t) (omega arith) h
+up-rises x y (suc t) h = up-at-most x (suc t) (up y (suc t)) (omega arith) (omega (arith, up-covers y (suc t) (omega arith)))
 
 -- a part of a sum is at most the whole
 pub upto-part : (f : ℕ → ℕ) (m n : ℕ) → m ≤ n → upto f m ≤ upto f n

@@ -1,7 +1,7 @@
 -- Demand 1. The functions of this project have no `requires`: each answers for every byte sequence and every lent memory, and what it
 -- answers is a definition's value. Here stand the sentences of the demand over those definitions. Assumes nothing.
-use Prim.Native.Nat.{ℕ, _^_, _<_}
-use mathlib.Core.Path.{_≡_, refl, sym, ap, _∙_}
+use Prim.Native.Nat.{ℕ}
+use mathlib.Core.Path.{_≡_, refl}
 use mathlib.Core.List.{List}
 use mathlib.Core.Logic.{_⊎_, inl, inr, _↔_}
 use native.Mathlib.Omega.{arith}

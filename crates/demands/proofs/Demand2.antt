@@ -1,7 +1,7 @@
 -- Demand 2. The accepted numbers are those of the published rules, a timing refusal is given exactly if the published condition is
 -- broken, and sheets read and written come back equal. Assumes nothing.
 use Prim.Native.Nat.{ℕ, suc, _+_, _-_, _*_, _≤_, _<_}
-use mathlib.Core.Path.{_≡_, refl, sym, ap, _∙_}
+use mathlib.Core.Path.{_≡_, refl}
 use mathlib.Core.List.{List}
 use mathlib.Core.Logic.{_↔_}
 use lib.ListN.{length, getD, take}

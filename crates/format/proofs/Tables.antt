@@ -38,19 +38,6 @@ pub size-at-most : (k : ℕ) → sizeOf k ≤ 12
 unfolding sizeOf widths kinds
 size-at-most k = leb-true (1 + widths (fieldsOf k)) 12 (at-every-kind (λ fs. leb (1 + widths fs) 12) refl refl k)
 
--- a kind that is known has a field, and no field is empty
-abbrev filledLine : List Field → Bool
-filledLine [] = true
-filledLine (f ∷ fs) = leb 1 (f .width)
-
-pub size-at-least : (k : ℕ) → known k ≡ true → 2 ≤ sizeOf k
-unfolding sizeOf widths known kinds
-size-at-least k e = least (fieldsOf k) e (at-every-kind filledLine refl refl k)
-  where
-    least : (fs : List Field) → some fs ≡ true → filledLine fs ≡ true → 2 ≤ 1 + widths fs
-    least [] e p = let z : _≡_ {A = ℕ} 0 1 = cc in absurd (omega arith)
-    least (f ∷ fs) e p = omega (arith, leb-true 1 (f .width) p)
-
 pub fields-at-most : (k : ℕ) → length (fieldsOf k) ≤ 4
 unfolding kinds
 fields-at-most k = leb-true (length (fieldsOf k)) 4 (at-every-kind (λ fs. leb (length fs) 4) refl refl k)

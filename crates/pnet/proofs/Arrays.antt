@@ -1,18 +1,17 @@
 -- Laws of the figures that the code reads off its arrays. Assumes nothing.
-use mathlib.Core.Path.{_≡_, refl, sym, ap, _∙_, subst}
+use mathlib.Core.Path.{_≡_, refl, ap, _∙_}
 use mathlib.Core.List.{List}
-use Prim.Native.Nat.{ℕ, zero, suc, _+_, _-_, _*_, _≤_, _<_, min}
+use Prim.Native.Nat.{ℕ, _+_, _-_, _*_, _≤_, min}
 use native.Mathlib.Nat.{mul-le-mul}
 use native.Mathlib.Omega.{arith}
 use borrow.Author.Tests.{eq-eqb, ne-eqb}
-use lib.ListN.{getD}
 use lib.Dec.{ltb}
 use Rattle.common.specs.Sums.{upto, up}
 use Rattle.common.proofs.Sums.{upto-more, upto-part, upto-mono, upto-most, up-rises}
 use Rattle.segment.specs.Refined.{saving, valueOf, roundsOf}
 use Rattle.segment.proofs.Sequence.{Moving, moving-ends, settles-is-rounds}
 use Rattle.segment.proofs.Right.{rightOf, savings-at-most, right-value-at-most, right-moves-at-most}
-use Rattle.pnet.specs.Arrays.{at, askedIn, turnIn, boundIn, lateIn, savedIn, rightIn, roundsIn, refinedIn, Spaced, Served, Kept}
+use Rattle.pnet.specs.Arrays.{at, askedIn, turnIn, boundIn, lateIn, savedIn, rightIn, roundsIn, refinedIn, Kept}
 
 -- ---- a(y), stream by stream
 

@@ -1,14 +1,14 @@
 -- The P-NET planner's answer, case by case, from plain facts. Assumes nothing.
 use mathlib.Core.Path.{_≡_, refl, sym, ap, _∙_, subst}
 use mathlib.Core.Bool.{Bool, true, false, not, _||_}
-use mathlib.Core.List.{List, [], _∷_}
+use mathlib.Core.List.{List}
 use Prim.Native.Nat.{ℕ, _+_, _≤_, _<_}
 use native.Mathlib.Omega.{arith}
 use borrow.Author.Tests.{ltb-false, le-ltb, le-leb, lt-leb, eq-eqb, ne-eqb}
 use lib.ListN.{length}
-use lib.Dec.{ltb, leb, eqb}
-use Rattle.common.specs.Checks.{check, verdict, Verdict}
-use Rattle.common.proofs.Checks.{Applies, Clear, refused-if, passed-if}
+use lib.Dec.{ltb, eqb}
+use Rattle.common.specs.Checks.{verdict, Verdict}
+use Rattle.common.proofs.Checks.{Applies, refused-if, passed-if}
 use Rattle.common.proofs.Checks.Applies.{here, later}
 use Rattle.common.proofs.Checks.Clear.{none, and}
 use Rattle.sheet.specs.Sheets.{Sheet}

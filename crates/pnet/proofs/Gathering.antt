@@ -1,23 +1,22 @@
 -- The pass that gathers a segment's streams into arrays: nothing is gathered at first, and a store for each array gathers one stream
 -- more. Assumes nothing.
 use mathlib.Core.Path.{_≡_, refl, sym, ap, _∙_, subst}
-use mathlib.Core.Bool.{Bool, true, false, cond}
+use mathlib.Core.Bool.{true, false}
 use mathlib.Core.List.{List}
-use Prim.Native.Nat.{ℕ, zero, suc, _+_, _-_, _*_, _≤_, _<_, max}
+use Prim.Native.Nat.{ℕ, _+_, _-_, _*_, _≤_, _<_, max}
 use native.Mathlib.Omega.{arith}
 use native.Mathlib.Decide.{ℕ-discrete}
 use borrow.Author.Tests.{eq-eqb, ne-eqb}
-use lib.ListN.{length, getD, set, length-set, replicate, length-replicate, getD-replicate}
+use lib.ListN.{length, set, length-set, replicate, length-replicate, getD-replicate}
 use lib.Seq.{getD-set-same, getD-set-other}
-use lib.Dec.{eqb}
-use Rattle.common.specs.Sums.{when, upto, greatest}
+use Rattle.common.specs.Sums.{when, upto}
 use Rattle.common.proofs.Sums.{upto-more, upto-same, upto-part, greatest-more}
 use Rattle.format.specs.declared.Met.{Met}
 use Rattle.segment.specs.Segment.{Stream, Segment, owns, count, longest, hold}
 use Rattle.segment.specs.Limits.{Declared}
 use Rattle.segment.proofs.Holds.{longest-none, hold-none, hold-some}
 use Rattle.sheet.specs.Whole.{Ready}
-use Rattle.pnet.specs.Arrays.{at, part, Sized, Gathered, segmentIn}
+use Rattle.pnet.specs.Arrays.{at, part, Gathered, segmentIn}
 use Rattle.pnet.proofs.Bytes.{Here, declares, number-is}
 
 -- ---- Nothing yet

@@ -1,17 +1,16 @@
 -- The figures that are read off the arrays are those of the segment that they hold. Assumes nothing.
-use mathlib.Core.Path.{_≡_, refl, sym, ap, _∙_, subst, fun-ext}
+use mathlib.Core.Path.{_≡_, ap, _∙_, fun-ext}
 use mathlib.Core.Bool.{Bool, true, false}
 use mathlib.Core.List.{List}
-use Prim.Native.Nat.{ℕ, zero, suc, _+_, _-_, _*_, _≤_, _<_}
+use Prim.Native.Nat.{ℕ, _+_, _-_, _*_, _≤_, _<_}
 use native.Mathlib.Omega.{arith}
 use borrow.Author.Tests.{lt-ltb, le-ltb}
-use lib.ListN.{length}
 use lib.Dec.{ltb}
 use Rattle.common.specs.Sums.{when, upto, up, firstOf}
 use Rattle.common.proofs.Sums.{upto-same, upto-term, upto-most}
 use Rattle.common.proofs.Firsts.{first-same}
 use Rattle.segment.specs.Segment.{Segment, owns, count, hold, turnBy, boundBy, turn, bound, late}
-use Rattle.segment.specs.Refined.{saving, rightBy, valueOf, roundsOf, mostRounds, asked, right, rounds, refined}
+use Rattle.segment.specs.Refined.{saving, rightBy, mostRounds, asked, right, rounds, refined}
 use Rattle.segment.specs.Limits.{Declared}
 use Rattle.segment.proofs.Holds.{hold-at-least, hold-at-most}
 use Rattle.pnet.specs.Planned.{firstLate}

@@ -9,7 +9,7 @@ use native.Mathlib.Omega.{arith}
 use lib.Dec.{leb}
 use borrow.Author.Tests.{eq-eqb, ne-eqb, le-leb, lt-leb}
 use Rattle.common.specs.Sums.{upto}
-use Rattle.common.proofs.Sums.{upto-longer, upto-even}
+use Rattle.common.proofs.Sums.{upto-part, upto-even}
 use Rattle.pnet_run.specs.Run.{next}
 
 -- ---- The next master
@@ -36,7 +36,7 @@ module _ (h : ℕ → ℕ) where
   upto-and : (k m : ℕ) → k < m → upto h k + h m ≤ upto h m
   unfolding upto
   upto-and k zero l = absurd (not-suc-le-zero l)
-  upto-and k (suc m) l = omega (arith, upto-longer h k m (le-of-suc-le-suc l))
+  upto-and k (suc m) l = omega (arith, upto-part h k m (le-of-suc-le-suc l))
 
   module _ (n k : ℕ) where
     -- the charges of the masters behind m, up to k itself
@@ -66,9 +66,9 @@ module _ (h : ℕ → ℕ) where
         where
           go : Dec (m ≤ k) → Dec (m ≡ n) → gap m ≡ h (next n m) + gap (next n m)
           go (yes a) (yes e) = absurd (ne (omega arith))
-          go (yes a) (no e) = rw (next-more n m e) (omega (arith, gap-upto a, gap-upto {m = suc m} (omega arith), upto-longer h (suc m) k (omega arith)))
-          go (no a) (yes e) = rw (e, next-last n) (omega (arith, gap-over {m = n} (omega arith), gap-upto 1≤k, upto-longer h 1 k 1≤k, first))
-          go (no a) (no e) = rw (next-more n m e) (omega (arith, gap-over {m = m} (omega arith), gap-over {m = suc m} (omega arith), upto-longer h (suc m) n (omega arith)))
+          go (yes a) (no e) = rw (next-more n m e) (omega (arith, gap-upto a, gap-upto {m = suc m} (omega arith), upto-part h (suc m) k (omega arith)))
+          go (no a) (yes e) = rw (e, next-last n) (omega (arith, gap-over {m = n} (omega arith), gap-upto 1≤k, upto-part h 1 k 1≤k, first))
+          go (no a) (no e) = rw (next-more n m e) (omega (arith, gap-over {m = m} (omega arith), gap-over {m = suc m} (omega arith), upto-part h (suc m) n (omega arith)))
 
       -- from k all round to k
       pub gap-lap : h (next n k) + gap (next n k) ≡ upto h n
@@ -76,16 +76,16 @@ module _ (h : ℕ → ℕ) where
       gap-lap = go (ℕ-discrete k n)
         where
           go : Dec (k ≡ n) → h (next n k) + gap (next n k) ≡ upto h n
-          go (yes e) = rw (ap (next n) e, next-last n) (omega (arith, gap-upto 1≤k, upto-longer h 1 k 1≤k, first, ap (upto h) e))
-          go (no e) = rw (next-more n k e) (omega (arith, gap-over {m = suc k} (omega arith), upto-longer h (suc k) n (omega arith)))
+          go (yes e) = rw (ap (next n) e, next-last n) (omega (arith, gap-upto 1≤k, upto-part h 1 k 1≤k, first, ap (upto h) e))
+          go (no e) = rw (next-more n k e) (omega (arith, gap-over {m = suc k} (omega arith), upto-part h (suc k) n (omega arith)))
 
       -- no way round is longer than a whole turn, and each has k itself at its end
       pub gap-most : (m : ℕ) → 1 ≤ m → m ≤ n → h m + gap m ≤ upto h n
       gap-most m a b = go (decLe m k)
         where
           go : Dec (m ≤ k) → h m + gap m ≤ upto h n
-          go (yes l) = omega (arith, gap-upto l, upto-and 0 m a, upto-longer h m k l, upto-longer h k n k≤n)
-          go (no l) = omega (arith, gap-over {m = m} (omega arith), upto-and k m (omega arith), upto-longer h m n b)
+          go (yes l) = omega (arith, gap-upto l, upto-and 0 m a, upto-part h m k l, upto-part h k n k≤n)
+          go (no l) = omega (arith, gap-over {m = m} (omega arith), upto-and k m (omega arith), upto-part h m n b)
 
       pub gap-least : (m : ℕ) → m ≤ n → h k ≤ h m + gap m
       gap-least m b = go (ℕ-discrete m k) (decLe m k)
@@ -93,7 +93,7 @@ module _ (h : ℕ → ℕ) where
           go : Dec (m ≡ k) → Dec (m ≤ k) → h k ≤ h m + gap m
           go (yes e) d = omega (arith, ap h e)
           go (no e) (yes l) = omega (arith, gap-upto l, upto-and m k (omega arith))
-          go (no e) (no l) = omega (arith, gap-over {m = m} (omega arith), upto-and 0 k 1≤k, upto-longer h m n b)
+          go (no e) (no l) = omega (arith, gap-over {m = m} (omega arith), upto-and 0 k 1≤k, upto-part h m n b)
 
 -- ---- Counting masters
 

@@ -1,17 +1,15 @@
 -- The planner's answer, case by case: 3 exactly for another bus's sheet, 9 exactly if a stream fails at L, at the first such stream, and
 -- else the largest TTR with the stream that limits it. Assumes nothing.
-use mathlib.Core.Path.{_≡_, refl, sym, ap, _∙_}
-use mathlib.Core.Bool.{Bool, true, false, not}
-use mathlib.Core.List.{List, [], _∷_}
-use Prim.Native.Nat.{ℕ, suc, _+_, _≤_, _<_}
+use mathlib.Core.Path.{_≡_, sym}
+use mathlib.Core.List.{List}
+use Prim.Native.Nat.{ℕ, _+_, _≤_}
 use native.Mathlib.Decide.{ℕ-discrete, decLe}
 use native.Mathlib.Omega.{arith}
 use borrow.Author.Tests.{eq-eqb, ne-eqb, le-leb, lt-leb}
-use Rattle.common.specs.Checks.{Check, check, Verdict, verdict}
+use Rattle.common.specs.Checks.{verdict}
 use Rattle.sheet.specs.Sheets.{Sheet}
-use Rattle.sheet.specs.Whole.{Outcome}
-use Rattle.sheet.specs.Whole.Outcome.{Read, Not}
-use Rattle.ring.specs.Ring.{Ring, ringOf, Declared}
+use Rattle.sheet.specs.Whole.Outcome.{Read}
+use Rattle.ring.specs.Ring.{ringOf, Declared}
 use Rattle.ring.specs.Target.{AllPass, FirstFails, Limited, target, firstFailing}
 use Rattle.sheet.proofs.Known.{Known}
 use Rattle.ring.proofs.Rule.{all-pass-below}

@@ -1,20 +1,16 @@
 -- What a pass over the streams meets: stream after stream of the sheet's ring, and each master's count. Assumes nothing.
-use mathlib.Core.Path.{_≡_, refl, sym, ap, _∙_}
+use mathlib.Core.Path.{_≡_, sym, ap}
 use mathlib.Core.List.{List}
-use Prim.Native.Nat.{ℕ, zero, suc, _+_, _-_, _≤_, _<_}
+use Prim.Native.Nat.{ℕ, suc, _+_, _-_, _<_}
 use native.Mathlib.Omega.{arith}
 use borrow.Author.Tests.{ne-eqb}
-use lib.ListN.{length}
 use Rattle.common.specs.Runs.{tab}
 use Rattle.common.proofs.Runs.{tab-same}
 use Rattle.format.specs.declared.Met.{Met}
-use Rattle.format.specs.declared.Record.{Record}
-use Rattle.format.specs.Kinds.{nothing, metAt}
-use Rattle.sheet.specs.Sheets.{Sheet, streamsOf, sheetOf}
+use Rattle.format.specs.Kinds.{metAt}
 use Rattle.sheet.specs.Whole.{sheetIn, placeOf, reading, streamsOfMaster, countsTold, Ready}
-use Rattle.sheet.specs.Whole.Outcome.{Read, Not}
 use Rattle.sheet.proofs.Taken.{ready-known, ready-streams, stream-met}
-use Rattle.ring.specs.Ring.{Ring, Stream, streamOf, streamAt, ringOf, On, owns, count, Declared}
+use Rattle.ring.specs.Ring.{Ring, Stream, streamOf, streamAt, ringOf, On, count, Declared}
 use Rattle.ring.proofs.Declared.{declared, count-is}
 
 -- ---- Stream after stream

@@ -1,13 +1,13 @@
 -- The pass over a ring's streams: the longest rotation that all streams so far bear, and the first stream that bears no longer one.
 -- A stream that fails at that rotation takes its place, or fails at L as the first. Assumes nothing.
-use mathlib.Core.Path.{_≡_, refl, sym, ap, _∙_}
-use Prim.Native.Nat.{ℕ, suc, _+_, _-_, _*_, _/_, _≤_, _<_}
+use mathlib.Core.Path.{_≡_, refl}
+use Prim.Native.Nat.{ℕ, _+_, _-_, _*_, _/_, _≤_, _<_}
 use native.Mathlib.Nat.{le-refl, mul-le-mul, div-lt-iff-lt-mul, mul-comm}
-use native.Mathlib.Decide.{ℕ-discrete, decLe}
+use native.Mathlib.Decide.{ℕ-discrete}
 use native.Mathlib.Omega.{arith}
 use Rattle.ring.specs.Ring.{Ring, On, count, messages, rotation, needed, Declared}
 use Rattle.ring.specs.Target.{FirstFails, Limited, bears}
-use Rattle.ring.proofs.Rule.{passes-bears, bears-passes, counts-itself, some-messages, passing-bears, bearing-passes, not-bearing-fails}
+use Rattle.ring.proofs.Rule.{passes-bears, counts-itself, bearing-passes, not-bearing-fails}
 
 -- of streams 1..i: all bear the rotation `borne`, which the ring takes at L, and `at` is the first that bears no longer one
 pub record Tight (R : Ring) (i borne at : ℕ) : Type 0 where

@@ -1,18 +1,16 @@
 -- What a reader finds at a place, case by case, in the order of the code's tests. Assumes nothing.
-use mathlib.Core.Path.{_≡_, refl, sym, ap, _∙_}
-use mathlib.Core.Bool.{Bool, true, false, cond, not, _&&_}
-use mathlib.Core.List.{List, []}
+use mathlib.Core.Path.{_≡_, ap, _∙_}
+use mathlib.Core.Bool.{true, false}
+use mathlib.Core.List.{List}
 use Prim.Native.Nat.{ℕ, _+_, _≤_, _<_}
 use native.Mathlib.Omega.{arith}
 use native.Mathlib.Decide.{decLe}
 use borrow.Author.Tests.{lt-ltb, le-ltb, le-leb, lt-leb}
 use lib.ListN.{length, getD}
-use lib.Dec.{ltb, leb}
 use Rattle.common.specs.Checks.{verdict}
 use Rattle.format.specs.declared.Met.{Met}
-use Rattle.format.specs.Kinds.{known, sizeOf, decode, whole, metAt, nothing}
-use Rattle.reader.specs.Walk.{byteChecks, foundBy, foundAt}
-use Rattle.reader.specs.declared.Found.{Found}
+use Rattle.format.specs.Kinds.{known, sizeOf, decode, whole, metAt}
+use Rattle.reader.specs.Walk.{byteChecks, foundAt}
 use Rattle.reader.specs.declared.Found.the-variants as found
 
 module _ (s : List ℕ) (at : ℕ) where

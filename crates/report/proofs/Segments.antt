@@ -7,14 +7,12 @@ use native.Mathlib.Nat.{mul-le-mul, zero-mul}
 use native.Mathlib.Omega.{arith}
 use native.Mathlib.Decide.{ℕ-discrete}
 use lib.Dec.{eqb, ltb}
-use lib.ListN.{drop, List·getD-append}
 use borrow.Author.Tests.{ne-eqb, ltb-false}
-use Rattle.common.specs.Runs.{tab, filled}
 use Rattle.common.specs.Checks.{verdict, Verdict}
 use Rattle.common.specs.Checks.Verdict.{Passed, Refused}
 use Rattle.common.proofs.Checks.{Clear, passed-then}
 use Rattle.common.proofs.Checks.Clear.{and}
-use Rattle.common.proofs.Runs.{length-tab, getD-tab}
+use Rattle.common.proofs.Runs.{filled-at}
 use Rattle.common.proofs.Sums.{upto-term}
 use Rattle.sheet.specs.Sheets.{Sheet}
 use Rattle.sheet.specs.Whole.{Outcome, orElse, reading}
@@ -48,11 +46,6 @@ module _ (S : Segment) (k : ℕ) (lo : 1 ≤ k) (hi : k ≤ S .masters) where
           ne-eqb (bound S k) 0 (λ z. omega (arith, b)) ∙ sym (ne-eqb (count S k) 0 e)
 
 -- ---- From the runs to the segment
-
--- a place of a filled run
-pub filled-at : (f : ℕ → ℕ) (n : ℕ) (old : List ℕ) (i : ℕ) → i < n → item (filled f n old) i ≡ f i
-unfolding filled
-filled-at f n old i h = List·getD-append (tab f n) (drop n old) 0 i (omega (arith, length-tab f n)) ∙ getD-tab f n i h
 
 module _ (S : Segment) (R W M : ℕ → ℕ) (i : ℕ) (h : i < S .masters)
     (r : R i ≡ bound S (i + 1)) (w : W i ≡ refined S (i + 1)) (m : M i ≡ rounds S (i + 1)) where
@@ -96,9 +89,9 @@ segment-lines H R W M r w k er ew em =
     ap (λ (t : List ℕ). word "P-NET segment\n" ++ t)
     (texts-same (masterAt (item R) (item W) (item M)) (λ i. masterOf S (i + 1)) N
     (λ i h. master-same S (item R) (item W) (item M) i h
-    (ap (λ (l : List ℕ). item l i) er ∙ filled-at (atPlace (bound S)) N r i h)
-    (ap (λ (l : List ℕ). item l i) ew ∙ filled-at (atPlace (refined S)) N w i h)
-    (ap (λ (l : List ℕ). item l i) em ∙ filled-at (atPlace (rounds S)) N k i h)))
+    (ap (λ (l : List ℕ). item l i) er ∙ filled-at (atPlace (bound S)) N i r h)
+    (ap (λ (l : List ℕ). item l i) ew ∙ filled-at (atPlace (refined S)) N i w h)
+    (ap (λ (l : List ℕ). item l i) em ∙ filled-at (atPlace (rounds S)) N i k h)))
 
 -- the report of an accepted sheet, from the runs
 pub segment-of-runs : (s : List ℕ) (n m : ℕ) (R W M r w k : List ℕ) → answer.Accepted n m ≡ planOf (planned s 32 32 32)

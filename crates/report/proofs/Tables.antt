@@ -1,7 +1,7 @@
 -- A WorldFIP report: what the lent run and the identifiers of an accepted sheet give is the table that the sheet asks for. Assumes nothing.
 use mathlib.Core.Path.{_≡_, refl, ap, _∙_}
 use mathlib.Core.List.{List, _++_}
-use Prim.Native.Nat.{ℕ, _+_, _/_, _%_, _^_, _≤_, _<_}
+use Prim.Native.Nat.{ℕ, _/_, _%_, _^_, _≤_, _<_}
 use native.Mathlib.Omega.{arith}
 use lib.Dec.{eqb}
 use lib.ListN.{length}
@@ -11,7 +11,7 @@ use Rattle.common.specs.Checks.{verdict, Verdict}
 use Rattle.common.specs.Checks.Verdict.{Passed, Refused}
 use Rattle.common.proofs.Checks.{Clear, passed-then}
 use Rattle.common.proofs.Checks.Clear.{and}
-use Rattle.common.proofs.Runs.{getD-tab}
+use Rattle.common.proofs.Runs.{getD-tab, filled-at}
 use Rattle.units.specs.Units.{us}
 use Rattle.sheet.specs.Sheets.{Sheet}
 use Rattle.sheet.specs.Whole.{Outcome}
@@ -23,7 +23,6 @@ use Rattle.report.specs.Text.{item}
 use Rattle.report.specs.Lines.{nameText, nameAt, rowLine, rowAt, tableHead, tableText, refusalText}
 use Rattle.report.specs.Whole.{tableOf, tableBy, tableReport}
 use Rattle.report.proofs.Writing.{texts-same}
-use Rattle.report.proofs.Segments.{filled-at}
 
 -- identifiers that agree at the 64 ranks name a row alike
 row-same : (m row : ℕ) (f g : ℕ → ℕ) → ((r : ℕ) → r < 64 → f r ≡ g r) → rowLine m row f ≡ rowLine m row g
@@ -47,7 +46,7 @@ table-lines S R N old k er en =
     let T = trafficOf S in
     ap (λ (t : List ℕ). tableHead (us (microcycle T)) (slots T) (rows T) ++ t)
     (texts-same (rowAt (item R) (item N)) (rowAt (rowOf T) (identifierAt T)) (rows T)
-    (λ m h. ap (λ (x : ℕ). rowLine m x (item N)) (ap (λ (l : List ℕ). item l m) er ∙ filled-at (rowOf T) (rows T) old m h)
+    (λ m h. ap (λ (x : ℕ). rowLine m x (item N)) (ap (λ (l : List ℕ). item l m) er ∙ filled-at (rowOf T) (rows T) m old h)
     ∙ row-same m (rowOf T m) (item N) (identifierAt T)
     (λ r l. ap (λ (x : List ℕ). item x r) en ∙ (getD-tab (identifierOf (Read S)) 64 r l ∙ simp (eq-eqb (S .head .kind) 5 k)))))
 

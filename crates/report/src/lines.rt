@@ -6,7 +6,6 @@ use crate::text::put_word;
 use profibus::RingPeriods;
 use units::BitPeriods;
 use units::Micros;
-ghost use mathlib.Core.Path.{_≡_};
 ghost use mathlib.Core.List.{_++_};
 ghost use Prim.Native.Nat.{_≤_};
 ghost use lib.ListN.{length};

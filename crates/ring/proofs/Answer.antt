@@ -1,17 +1,16 @@
 -- The computed answer is the page's: the largest TTR at which all streams pass, the first stream that fails at TTR + 1, and refusal 9
 -- exactly if a stream fails at L, at the first such stream. Any two answers are equal. Assumes nothing.
-use mathlib.Core.Path.{_≡_, refl, sym, ap, _∙_, subst}
-use mathlib.Core.Bool.{Bool, true, false}
-use Prim.Native.Nat.{ℕ, zero, suc, _+_, _-_, _*_, _/_, _≤_, _<_, min}
+use mathlib.Core.Path.{_≡_, ap, _∙_}
+use mathlib.Core.Bool.{true, false}
+use Prim.Native.Nat.{ℕ, zero, suc, _+_, _-_, _≤_, _<_, min}
 use native.Mathlib.Nat.{le-refl}
 use native.Mathlib.Decide.{ℕ-discrete, decLe}
 use native.Mathlib.Omega.{arith}
 use borrow.Author.Tests.{lt-ltb, le-ltb, ltb-true, ltb-false}
-use Rattle.common.specs.Sums.{firstOf}
 use Rattle.common.proofs.Firsts.{First, first-is, first-hit, first-none}
-use Rattle.ring.specs.Ring.{Ring, On, messages, rotation, needed, fails, Declared}
+use Rattle.ring.specs.Ring.{Ring, messages, rotation, needed, fails, Declared}
 use Rattle.ring.specs.Target.{AllPass, FirstFails, Limited, bears, least, target, firstFailing}
-use Rattle.ring.proofs.Rule.{needed-mono, all-pass-below, some-messages, passing-bears, bearing-passes, not-bearing-fails}
+use Rattle.ring.proofs.Rule.{needed-mono, all-pass-below, passing-bears, bearing-passes}
 
 -- ---- Only one answer
 

@@ -1,8 +1,7 @@
 -- Page 01, 'Sheets worked by hand', the fourth case: TTR 2,500, limited by stream 1. Assumes nothing.
 use Prim.Native.Nat.{ℕ}
 use mathlib.Core.Path.{_≡_, refl}
-use mathlib.Core.Bool.{Bool, true, false}
-use mathlib.Core.List.{List, [], _∷_}
+use mathlib.Core.List.{[], _∷_}
 use Rattle.common.specs.Sums.{upto, firstOf}
 use Rattle.format.specs.declared.Record.{Record}
 use Rattle.ring.specs.Ring.{Ring, ringOf, streamAt, owns, count, messages, rotation, needed, fails}

@@ -1,13 +1,12 @@
 -- Laws of the passing rule: a stream that passes at a target passes at less, and it passes exactly if it bears the rotation.
 -- Assumes nothing.
 use mathlib.Core.Path.{_≡_, refl}
-use mathlib.Core.Bool.{Bool, true, false}
-use Prim.Native.Nat.{ℕ, suc, _+_, _-_, _*_, _/_, _≤_, _<_}
+use Prim.Native.Nat.{ℕ, _+_, _-_, _*_, _/_, _≤_, _<_}
 use native.Mathlib.Nat.{le-div-iff-mul-le, mul-le-mul, mul-le-mul-left, mul-comm}
 use native.Mathlib.Decide.{decLe}
 use native.Mathlib.Omega.{arith}
 use borrow.Author.Tests.{eq-eqb}
-use Rattle.common.specs.Sums.{when, upto}
+use Rattle.common.specs.Sums.{when}
 use Rattle.common.proofs.Sums.{upto-term, upto-even}
 use Rattle.sheet.specs.Sheets.{Sheet}
 use Rattle.ring.specs.Ring.{Ring, ringOf, On, owns, count, messages, rotation, needed, Declared}

@@ -2,16 +2,16 @@
 use mathlib.Core.Path.{_≡_, ap, _∙_}
 use mathlib.Core.Bool.{true}
 use mathlib.Core.List.{List}
-use Prim.Native.Nat.{ℕ, _+_, _-_, _≤_, _<_}
+use Prim.Native.Nat.{ℕ, _+_, _-_}
 use native.Mathlib.Omega.{arith}
-use lib.ListN.{length, getD}
+use lib.ListN.{getD}
 use Rattle.format.specs.declared.Record.{Record}
 use Rattle.format.specs.Kinds.{nothing, inRange}
 use Rattle.format.proofs.Ranges.{segment-ranges, pnet-stream-ranges}
 use Rattle.sheet.specs.Sheets.{Sheet, countOf}
 use Rattle.sheet.proofs.Counts.{counted-by-number}
 use Rattle.sheet.proofs.Known.{Known}
-use Rattle.segment.specs.Segment.{Stream, Segment, streamOf, streamAt, segmentOf, owns, count}
+use Rattle.segment.specs.Segment.{streamOf, streamAt, segmentOf, owns, count}
 use Rattle.segment.specs.Limits.{Ranged, Declared}
 
 -- a stream's ranges are those of its record

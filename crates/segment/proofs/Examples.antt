@@ -1,11 +1,10 @@
 -- Page 01, 'Sheets worked by hand', the third case: R 1,000 and 500; W 760 and 500; rounds 2 and 2. Assumes nothing.
 use Prim.Native.Nat.{ℕ}
 use mathlib.Core.Path.{_≡_, refl}
-use mathlib.Core.List.{List, [], _∷_}
+use mathlib.Core.List.{[], _∷_}
 use Rattle.common.specs.Sums.{upto, greatest, up, firstOf}
 use Rattle.format.specs.declared.Record.{Record}
-use Rattle.sheet.specs.Sheets.{Sheet}
-use Rattle.segment.specs.Segment.{Segment, segmentOf, streamAt, owns, count, longest, hold, turnBy, boundBy, turn, bound, late}
+use Rattle.segment.specs.Segment.{Segment, segmentOf, streamAt, owns, count, longest, hold, turnBy, boundBy, turn, bound}
 use Rattle.segment.specs.Refined.{saving, rightBy, valueOf, stands, roundsOf, mostRounds, asked, right, rounds, refined}
 
 abbrev stream : ℕ → Record

@@ -1,16 +1,15 @@
 -- Page 01, 'P-NET bounds', the refined figure: what W and its rounds are, for every segment and each of its masters. The first part
 -- holds for any charge h(y) of at least 10 and any count a(y) that never falls as W grows; the second puts H and the page's a(y) in.
 -- Assumes nothing.
-use mathlib.Core.Path.{_≡_, refl, sym, ap, _∙_, subst}
-use mathlib.Core.Bool.{Bool, true, false, cond}
-use Prim.Native.Nat.{ℕ, zero, suc, _+_, _-_, _*_, _≤_, _<_}
+use mathlib.Core.Path.{_≡_, ap}
+use mathlib.Core.Bool.{Bool, true, false}
+use Prim.Native.Nat.{ℕ, suc, _+_, _-_, _*_, _≤_}
 use native.Mathlib.Nat.{zero-mul}
 use native.Mathlib.Omega.{arith}
-use borrow.Author.Tests.{eq-eqb}
-use Rattle.common.specs.Sums.{when, upto, up, firstOf}
+use Rattle.common.specs.Sums.{when, upto, up}
 use Rattle.common.proofs.Sums.{upto-mono, up-rises}
 use Rattle.segment.specs.Segment.{Segment, owns, count, hold, turnBy, boundBy, bound}
-use Rattle.segment.specs.Refined.{rightBy, valueOf, stands, roundsOf, mostRounds, asked, right, rounds, refined}
+use Rattle.segment.specs.Refined.{rightBy, valueOf, roundsOf, mostRounds, asked, right, rounds, refined}
 use Rattle.segment.proofs.Sequence.{Settles, Least, value-rises, still-at-once}
 use Rattle.segment.proofs.Right.{rightOf, charge, right-is-charges, right-rises, right-at-most, right-least, right-rounds, right-rounds-at-most, right-value-at-most}
 use Rattle.segment.proofs.Holds.{hold-at-least}
@@ -97,10 +96,6 @@ module _ (S : Segment) (k : ℕ) where
     pub rounds-first : Settles (right S k) (rounds S k)
     unfolding rounds right
     rounds-first = rounds-first-by (hold S) (asked S) S k (λ y _ _. hold-at-least S y) (asked-rises S) lo hi
-
-    pub rounds-stand : stands (right S k) (rounds S k) ≡ true
-    unfolding stands
-    rounds-stand = eq-eqb _ _ (rounds-first .still)
 
     pub rounds-at-most : rounds S k ≤ 1 + (S .masters - 1) * count S k
     unfolding rounds right

@@ -1,15 +1,15 @@
 -- Page 01, 'P-NET bounds': laws of s, H, V and R that the planner and the bus's runs rest on. Assumes nothing.
-use mathlib.Core.Path.{_≡_, refl, sym, ap, _∙_, subst}
+use mathlib.Core.Path.{_≡_, refl}
 use mathlib.Core.Bool.{Bool, true, false, cond}
-use Prim.Native.Nat.{ℕ, zero, suc, _+_, _*_, _≤_, _<_}
+use Prim.Native.Nat.{ℕ, _+_, _≤_}
 use native.Mathlib.Nat.{mul-le-mul}
 use native.Mathlib.Omega.{arith}
 use borrow.Author.Tests.{eq-eqb, ne-eqb}
 use lib.Dec.{eqb}
-use Rattle.common.specs.Sums.{when, upto, greatest}
+use Rattle.common.specs.Sums.{when, upto}
 use Rattle.common.proofs.Sums.{upto-term, upto-most, greatest-most, greatest-least}
 use Rattle.segment.specs.Segment.{Segment, owns, count, longest, hold, turnBy, boundBy, turn, bound}
-use Rattle.segment.specs.Limits.{Ranged, Declared}
+use Rattle.segment.specs.Limits.{Declared}
 
 -- ---- A stream and its master
 

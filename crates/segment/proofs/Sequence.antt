@@ -1,6 +1,6 @@
 -- Page 01, 'P-NET bounds', the refined figure: the sequence that starts at 0 and puts a right side for W again and again rises, and
 -- where it first stands still is the least solution. For any right side that never falls. Assumes nothing.
-use mathlib.Core.Path.{_≡_, refl, sym, ap, _∙_, subst}
+use mathlib.Core.Path.{_≡_, refl, sym, ap, _∙_}
 use mathlib.Core.Bool.{Bool, true, false}
 use Prim.Native.Nat.{ℕ, zero, suc, _+_, _≤_, _<_, zero-le}
 use native.Mathlib.Decide.{ℕ-discrete}
@@ -8,7 +8,6 @@ use native.Mathlib.Numerals.{add-one}
 use native.Mathlib.Omega.{arith}
 use borrow.Author.Count.{below-more}
 use borrow.Author.Tests.{eq-eqb, eqb-true, eqb-false}
-use lib.Dec.{eqb}
 use Rattle.common.specs.Sums.{firstOf}
 use Rattle.common.proofs.Firsts.{First, first-is, first-hit}
 use Rattle.segment.specs.Refined.{valueOf, stands, roundsOf}

@@ -1,6 +1,6 @@
 -- Page 01, 'P-NET bounds': s, H, V, R, and what passes. V is a reserved word of the prover, so it is called `turn` here: the
 -- longest turn of the token. Assumes nothing.
-use Prim.Native.Nat.{ℕ, zero, suc, _+_, _-_, _*_, _≤_}
+use Prim.Native.Nat.{ℕ, _+_, _-_, _*_}
 use mathlib.Core.List.{List}
 use mathlib.Core.Bool.{Bool, cond}
 use lib.ListN.{length, getD}

@@ -16,7 +16,7 @@ use Rattle.common.specs.Checks.{check, Verdict, verdict}
 use Rattle.common.specs.Checks.Verdict.{Passed, Refused}
 use Rattle.format.specs.declared.Record.{Record}
 use Rattle.format.specs.declared.Met.{Met}
-use Rattle.format.specs.Kinds.{known, sizeOf, decode, inRange, whole, metAt, nothing}
+use Rattle.format.specs.Kinds.{known, sizeOf, decode, inRange, whole, metAt}
 use Rattle.format.proofs.Ranges.{segment-ranges, pnet-stream-ranges, ring-ranges, ring-stream-ranges}
 use Rattle.sheet.specs.Sheets.{Sheet, headOf, streamsOf, sheetOf, fits, hasMaster, mostInAll, countOf, overLimit, metBefore}
 use Rattle.sheet.specs.Whole.{placeOf, recordsOf, judge, ended, reading, told, streamsOfMaster, countsTold, Outcome}

@@ -9,12 +9,11 @@ use native.Mathlib.Omega.{arith}
 use borrow.Author.Tests.{ltb-true, ltb-false, leb-false, lt-leb, le-leb, le-ltb, eqb-true, eq-eqb, not-true, not-false}
 use lib.ListN.{length}
 use lib.Dec.{ltb, leb, eqb}
-use Rattle.common.specs.Checks.{verdict}
 use Rattle.common.specs.Checks.Verdict.{Refused}
 use Rattle.common.proofs.Checks.{Applies, refused-if, refused-then}
 use Rattle.common.proofs.Checks.Applies.{here, later}
 use Rattle.format.specs.declared.Record.{Record}
-use Rattle.format.specs.Kinds.{known, sizeOf, nothing}
+use Rattle.format.specs.Kinds.{known, sizeOf}
 use Rattle.format.proofs.Tables.{both-true, known-within, known-bounds}
 use Rattle.sheet.specs.Sheets.{Sheet, streamsOf, sheetOf, fits, countOf, mostInAll, hasMaster, overLimit, metBefore}
 use Rattle.sheet.specs.Whole.{placeOf, recordsOf, recordChecks, judge, ended, reading, Outcome}

@@ -11,7 +11,6 @@ use borrow.Author.Tests.{eqb-true}
 use lib.ListN.{length, getD, take, drop, length-append, length-take}
 use lib.Seq.{split-at, take-suc, take-length, take-add}
 use Rattle.format.specs.declared.Record.{Record}
-use Rattle.format.specs.declared.Put.the-variants as put
 use Rattle.format.specs.Kinds.{kinds, fieldsOf, limit, ranged, known, sizeOf, decode, encode, inRange, nothing}
 use Rattle.format.specs.Writing.{mostMasters, mostMessage}
 use Rattle.format.proofs.Ranges.{segment-ranges, ring-ranges, in-range-mono}

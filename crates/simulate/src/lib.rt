@@ -2,7 +2,7 @@
 // each reaction takes 7 bp and each message all of its C.
 ghost use mathlib.Core.Path.{_≡_};
 ghost use mathlib.Core.Bool.{true};
-ghost use Prim.Native.Nat.{ℕ, _+_, _≤_, _<_, _^_, max};
+ghost use Prim.Native.Nat.{_+_, _≤_, _<_, _^_, max};
 ghost use lib.ListN.{length};
 ghost use lib.Dec.{eqb};
 ghost use lib.ListN.{getD};

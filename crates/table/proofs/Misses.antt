@@ -2,8 +2,8 @@
 use mathlib.Core.Path.{_≡_}
 use Prim.Native.Nat.{ℕ, suc, _≤_, _<_}
 use native.Mathlib.Omega.{arith}
-use borrow.Author.Tests.{ltb-true, ltb-false, le-ltb}
-use Rattle.common.proofs.Firsts.{first-none, First, first-is}
+use borrow.Author.Tests.{ltb-true, ltb-false}
+use Rattle.common.proofs.Firsts.{First, first-is}
 use Rattle.table.specs.Table.{Asked}
 use Rattle.table.specs.Build.{Order, late, missAt, missRow, Accepts}
 
@@ -25,8 +25,3 @@ module _ (A : Asked) (o : Order) where
   pub none-accepts : A .rows < missRow A o → Accepts A o
   unfolding Accepts
   none-accepts l m h = quiet-before m (omega arith)
-
-  pub accepts-none : Accepts A o → A .rows < missRow A o
-  unfolding missRow missAt Accepts
-  accepts-none ok =
-      omega (arith, first-none (missAt A o) 0 (suc (A .rows)) (λ j lo hi. le-ltb 0 (late A o j) (omega (arith, ok j (omega arith)))))

@@ -1,7 +1,7 @@
 -- Identifiers play no part in ranks, microcycle, slots, rows and the table. Assumes nothing.
 use mathlib.Core.Path.{_≡_, refl}
 use Prim.Native.Nat.{ℕ}
-use Rattle.table.specs.Traffic.{Traffic, Declared, periodOf, plain, ahead, rankOf, variableOf, microcycle, slots, inRows, rows, periodAt, askedOf}
+use Rattle.table.specs.Traffic.{Traffic, Declared, periodOf, plain, ahead, rankOf, variableOf}
 
 -- T without its identifiers
 abbrev pub plainOf : Traffic → Traffic
@@ -15,7 +15,3 @@ module _ (T : Traffic) where
   pub plain-variable : (r : ℕ) → variableOf (plainOf T) r ≡ variableOf T r
   unfolding plain variableOf rankOf ahead
   plain-variable r = refl
-
-  pub plain-asked : askedOf (plainOf T) ≡ askedOf T
-  unfolding plain askedOf slots rows periodAt inRows microcycle variableOf rankOf ahead
-  plain-asked = refl

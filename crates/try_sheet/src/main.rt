@@ -5,7 +5,7 @@ use format::Record;
 use libc::STDIN_FILENO;
 use libc::STDOUT_FILENO;
 use sheet::Reading;
-ghost use Prim.Native.Nat.{_≤_, _<_};
+ghost use Prim.Native.Nat.{_<_};
 
 fn say(text: &[u8]) {
     io::write_all(STDOUT_FILENO, text);

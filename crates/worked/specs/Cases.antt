@@ -1,6 +1,6 @@
 -- Page 01, 'Sheets worked by hand': the cases marked (p), in one table. Each sheet goes through its bytes: it is written record by
 -- record, read and planned by the definitions that the planners' contracts cite. Assumes nothing.
-use Prim.Native.Nat.{ℕ, _+_}
+use Prim.Native.Nat.{ℕ}
 use mathlib.Core.List.{List, [], _∷_, _++_}
 use mathlib.Core.Bool.{Bool, true, false, _&&_}
 use lib.ListN.{length}
@@ -11,13 +11,12 @@ use Rattle.format.specs.declared.Record.{Record}
 use Rattle.sheet.specs.Whole.{Outcome, reading}
 use Rattle.sheet.specs.Whole.Outcome.{Read, Not}
 use Rattle.sheet.specs.Records.{bytesOf}
-use Rattle.segment.specs.Segment.{Segment, segmentOf, turn, bound}
+use Rattle.segment.specs.Segment.{segmentOf, turn, bound}
 use Rattle.segment.specs.Refined.{refined, rounds}
 use Rattle.pnet.specs.Planned.{planned, atPlace}
 use Rattle.profibus.specs.Planned as ring
 use Rattle.profibus.specs.declared.answer.Plan.{Plan}
 use Rattle.profibus.specs.declared.answer.Plan.the-variants as ringPlan
-use Rattle.table.specs.Traffic.{rowOf}
 use Rattle.worldfip.specs.Answer as fip
 use Rattle.worldfip.specs.declared.answer.Plan as fipPlan
 use Rattle.worldfip.specs.declared.answer.Plan.the-variants as fipAnswer

@@ -1,9 +1,8 @@
 -- `fill` meets its contract. The invariant: each run has its first i places filled. Assumes nothing.
-use mathlib.Core.Path.{_≡_, refl, sym, ap, _∙_}
-use Prim.Native.Nat.{ℕ, _+_, _-_, _*_, _≤_, _<_}
+use mathlib.Core.Path.{_≡_}
+use Prim.Native.Nat.{_+_, _-_, _≤_}
 use native.Mathlib.Omega.{arith}
 use borrow.Author.Needs.{needs}
-use lib.ListN.{length, length-set}
 use Rattle.common.proofs.Runs.{Filling, filling-none, filling-more, filling-done}
 use Rattle.pnet.specs.Planned.{atPlace}
 use Rattle.pnet.specs.Arrays.{boundIn, refinedIn, roundsIn}

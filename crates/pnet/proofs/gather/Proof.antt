@@ -1,10 +1,9 @@
 -- `gather` meets its contract. The invariant: the first i streams are gathered, and `at` is the place of the next. Assumes nothing.
-use mathlib.Core.Path.{_≡_, refl, sym, ap, _∙_}
-use Prim.Native.Nat.{ℕ, suc, _+_, _-_, _*_, _≤_, _<_}
+use mathlib.Core.Path.{_≡_}
+use Prim.Native.Nat.{suc, _-_, _≤_}
 use native.Mathlib.Omega.{arith}
 use borrow.Author.Needs.{needs}
 use Rattle.sheet.specs.Whole.{placeOf}
-use Rattle.segment.specs.Segment.{Segment}
 use Rattle.pnet.specs.Arrays.{at, part, Gathered, segmentIn}
 use Rattle.pnet.proofs.Bytes.{Here, here}
 use Rattle.pnet.proofs.Gathering.{Small, small, gathered-next, gathered-all}

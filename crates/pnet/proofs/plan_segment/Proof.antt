@@ -1,6 +1,5 @@
 -- `plan_segment` meets its contract: what is gathered is the segment's streams, so V, the first late stream and the figures are its own.
 -- Assumes nothing.
-use Prim.Native.Nat.{_≤_}
 use native.Mathlib.Omega.{arith}
 use Rattle.pnet.proofs.Bytes.{declares, number-is}
 use Rattle.pnet.proofs.Gathering.{gathered-none}

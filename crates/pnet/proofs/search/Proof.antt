@@ -1,9 +1,7 @@
 -- `search` meets its contract. The invariant: w is the value numbered `rounds`, and the sequence moved at every value before; it can do
 -- so at most 1 + (n - 1)·s times, which is the measure. Assumes nothing.
-use mathlib.Core.Path.{_≡_, refl, sym, ap, _∙_}
-use Prim.Native.Nat.{ℕ, _+_, _-_, _*_, _≤_, _<_}
+use Prim.Native.Nat.{_+_, _-_, _*_, _≤_}
 use native.Mathlib.Omega.{arith}
-use borrow.Author.Needs.{needs}
 use Rattle.segment.proofs.Sequence.{Moving, moving-none, moving-more}
 use Rattle.pnet.specs.Arrays.{at, rightIn}
 use Rattle.pnet.proofs.Arrays.{moving-small, moving-few, rounds-small, found}

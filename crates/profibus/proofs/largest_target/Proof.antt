@@ -1,15 +1,14 @@
 -- `profibus::largest_target` meets its contract. After i streams, `borne` is the longest rotation that streams 1..i bear, and `limiting`
 -- the first of them that bears no longer one. Assumes nothing.
-use Prim.Native.Nat.{ℕ, suc, _+_, _-_, _*_, _/_, _≤_, _<_}
-use mathlib.Core.Path.{_≡_, refl, sym, ap, _∙_}
+use Prim.Native.Nat.{ℕ, suc, _+_, _-_, _≤_}
+use mathlib.Core.Path.{_≡_, sym, ap, _∙_}
 use mathlib.Core.List.{List}
 use native.Mathlib.Omega.{arith}
 use borrow.Author.Needs.{needs}
 use lib.ListN.{getD}
-use Rattle.common.specs.Runs.{tab}
 use Rattle.common.proofs.Runs.{getD-tab}
 use Rattle.sheet.specs.Whole.{sheetIn, placeOf}
-use Rattle.ring.specs.Ring.{Ring, ringOf, count, messages, rotation, Declared}
+use Rattle.ring.specs.Ring.{Ring, ringOf, count, rotation, Declared}
 use Rattle.profibus.proofs.Passing.{Stepped, ready-declared, ready-number, stepped}
 use Rattle.ring.specs.Target.{Limited}
 use Rattle.ring.proofs.Sizes.{messages-most}
@@ -17,9 +16,6 @@ use Rattle.profibus.proofs.Answers.{plan-fails, plan-limited}
 use Rattle.profibus.proofs.Tight.{Tight, Next, some, fits, tight-none, tight-kept, tight-new, tight-fails, tight-limited}
 use Rattle.profibus.proofs.largest_target.Statement.{statement}
 use Rattle.profibus.proofs.largest_target.Tie as tie
-use Rattle.profibus.proofs.largest_target.Reads as reads
-use Rattle.profibus.proofs.largest_target.Lts as lts
-use Rattle.format.proofs.record_at.Reads as record-at-reads
 
 abbrev Inv-loop : tie.InvT-loop
 Inv-loop s first streams counts latency longest shortest borne₀ limiting₀ at₀ i₀ borne limiting at i =

@@ -1,6 +1,6 @@
 -- `profibus::plan` meets its contract: what the reader took is the ring's sheet, and what it refused stays refused. Assumes nothing.
-use Prim.Native.Nat.{ℕ, _*_, _≤_}
-use mathlib.Core.Path.{_≡_, refl, sym, ap, _∙_}
+use Prim.Native.Nat.{_*_}
+use mathlib.Core.Path.{_≡_, sym, ap, _∙_}
 use native.Mathlib.Omega.{arith}
 use Rattle.sheet.proofs.Taken.{Taken, taken, not-taken, taken-ready}
 use Rattle.sheet.specs.Whole.{sheetIn, Ready}
