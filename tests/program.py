@@ -1,0 +1,127 @@
+"""Hold a planner's help to the second opinion's table of kinds, and try what goes wrong around a sheet.
+
+    program.py PROGRAM...
+"""
+
+import os
+import re
+import subprocess
+import sys
+import tempfile
+
+sys.path.insert(0, os.path.dirname(os.path.abspath(__file__)))
+sys.dont_write_bytecode = True
+
+import second_opinion  # noqa: E402
+
+# one record of each kind, each field at a value that leaves room for the others'
+GOOD = {
+    1: (1,),
+    2: (1, 203, second_opinion.BILLION, 1),
+    3: (1, 300, 500),
+    4: (1, 400, 8400),
+    5: (400,),
+    6: (17, 1000),
+}
+# what a field's greatest value is called, where it stands in another field
+NAMED = {
+    "N": second_opinion.MASTERS_LIMIT,
+    "n": second_opinion.MASTERS_LIMIT,
+    "M": second_opinion.MESSAGE_LIMIT,
+    "T": second_opinion.BILLION,
+}
+KIND = re.compile(r" {3}(\d) +(\d+)  ([^:]+): (.*)")
+FIELD = re.compile(r"(.+) \((\d)\) (?:(any)|(\d+)\.\.(\w+)(?: (bp|us))?)$")
+UNTIMED = ("masters", "master", "identifier")
+
+
+def run(program, words, data=b""):
+    done = subprocess.run(
+        program + words, input=data, stdout=subprocess.PIPE, stderr=subprocess.PIPE, check=False
+    )
+    return done.stdout.decode("utf-8"), done.stderr.decode("utf-8")
+
+
+def limits(width, match):
+    if match.group(3):
+        return 0, 256**width - 1
+    most = match.group(5)
+    return int(match.group(4)), NAMED[most] if most in NAMED else int(most)
+
+
+def field_trouble(kind, place, text):
+    """What the help says wrongly of one field, or nothing."""
+    match = FIELD.match(text)
+    if not match:
+        return "not a name, its bytes and its range: %r" % text
+    width = int(match.group(2))
+    if width != second_opinion.WIDTHS[kind][place]:
+        return "%r has another number of bytes" % text
+    timed = match.group(1).split()[0] not in UNTIMED
+    if timed != (match.group(6) is not None):
+        return "%r: a time has a unit, and nothing else has" % text
+    if timed and match.group(6) != ("us" if kind > 4 else "bp"):
+        return "%r has the wrong unit" % text
+    least, most = limits(width, match)
+    for value, right in ((least - 1, False), (least, True), (most, True), (most + 1, False)):
+        fields = GOOD[kind][:place] + (value,) + GOOD[kind][place + 1 :]
+        if second_opinion.in_range(kind, fields) != right:
+            return "%r: %d is %s range" % (text, value, "in" if not right else "out of")
+    return None
+
+
+def help_troubles(text):
+    told = {}
+    for line in text.splitlines():
+        match = KIND.match(line)
+        if match:
+            told[int(match.group(1))] = (int(match.group(2)), match.group(4).split(", "))
+    if sorted(told) != sorted(second_opinion.WIDTHS):
+        yield "the kinds told are %s" % sorted(told)
+        return
+    for kind, (length, fields) in told.items():
+        if length != second_opinion.body_length(kind):
+            yield "kind %d has a body of %d bytes" % (kind, second_opinion.body_length(kind))
+        if len(fields) != len(second_opinion.WIDTHS[kind]):
+            yield "kind %d has %d fields" % (kind, len(second_opinion.WIDTHS[kind]))
+            continue
+        for place, field in enumerate(fields):
+            trouble = field_trouble(kind, place, field)
+            if trouble:
+                yield "kind %d: %s" % (kind, trouble)
+    for limit in ("800 streams", "80 for one master", "64 variables", "48 in 625 us", "4096 rows"):
+        if limit not in text:
+            yield "not told: %s" % limit
+    numbers = [int(n) for n in re.findall(r"(?:^|  ) *(\d+)  [a-z]", text, re.M)]
+    if sorted(numbers) != list(range(1, 13)):
+        yield "the refusals told are %s" % sorted(numbers)
+
+
+def complaint_troubles(program, words, part):
+    """Nothing to report: the reason is said on standard error, and standard output stays empty."""
+    out, err = run(program, words)
+    if out or part not in err:
+        yield "%s: wrote %r, and said %r" % (words, out, err)
+
+
+def main(program):
+    if not program:
+        sys.exit(__doc__)
+    troubles = []
+    text, said = run(program, ["--help"])
+    if said:
+        troubles.append("--help said %r on standard error" % said)
+    troubles += help_troubles(text)
+    with tempfile.TemporaryDirectory() as folder:
+        missing = os.path.join(folder, "missing.sheet")
+        troubles += complaint_troubles(program, [missing], missing)
+        troubles += complaint_troubles(program, [folder], folder)
+        troubles += complaint_troubles(program, [missing, missing], "--help")
+    for trouble in troubles:
+        print(trouble)
+    print("the program's help and complaints: %d wrong" % len(troubles))
+    return 1 if troubles else 0
+
+
+if __name__ == "__main__":
+    sys.exit(main(sys.argv[1:]))
