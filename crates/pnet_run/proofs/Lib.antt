@@ -2,6 +2,7 @@ pub mod Queues
 pub mod Ring
 pub mod Charges
 pub mod Waiting
+pub mod Spacing
 pub mod Bound
 pub mod Picked
 pub mod Slowest
