@@ -30,6 +30,17 @@ NAMED = {
     "M": second_opinion.MESSAGE_LIMIT,
     "T": second_opinion.BILLION,
 }
+FIRST = second_opinion.FIRST_KINDS
+PHRASES = (
+    "The first record is %d, %d or %d;" % FIRST,
+    "all later ones are %d, %d or %d to match" % tuple(kind + 1 for kind in FIRST),
+    "at most %d streams" % second_opinion.STREAMS_LIMIT,
+    "at most %d for one master" % second_opinion.STREAMS_LIMIT_OF_MASTER,
+    "at most %d variables" % second_opinion.VARIABLES_LIMIT,
+    "48 in %d us" % second_opinion.us_up(48),
+    "a kind that is not %d..%d" % (min(second_opinion.WIDTHS), max(second_opinion.WIDTHS)),
+    "more than %d rows" % second_opinion.ROWS_LIMIT,
+)
 KIND = re.compile(r" {3}(\d) +(\d+)  ([^:]+): (.*)")
 FIELD = re.compile(r"(.+) \((\d)\) (?:(any)|(\d+)\.\.(\w+)(?: (bp|us))?)$")
 UNTIMED = ("masters", "master", "identifier")
@@ -89,9 +100,9 @@ def help_troubles(text):
             trouble = field_trouble(kind, place, field)
             if trouble:
                 yield "kind %d: %s" % (kind, trouble)
-    for limit in ("800 streams", "80 for one master", "64 variables", "48 in 625 us", "4096 rows"):
-        if limit not in text:
-            yield "not told: %s" % limit
+    for words in PHRASES:
+        if words not in text:
+            yield "not told: %s" % words
     numbers = [int(n) for n in re.findall(r"(?:^|  ) *(\d+)  [a-z]", text, re.M)]
     if sorted(numbers) != list(range(1, 13)):
         yield "the refusals told are %s" % sorted(numbers)
