@@ -6,7 +6,8 @@ use Prim.Native.Nat.{ℕ, suc, _+_, _-_, _<_}
 use native.Mathlib.Omega.{arith}
 use Rattle.format.specs.declared.Met.{Met}
 use Rattle.format.specs.Kinds.{metAt}
-use Rattle.sheet.specs.Whole.{sheetIn, placeOf, Ready}
+use Rattle.sheet.specs.Whole.{placeOf}
+use Rattle.sheet.specs.Steps.{sheetIn, Ready}
 use Rattle.sheet.proofs.Taken.{ready-known, ready-streams, stream-met}
 use Rattle.segment.specs.Segment.{streamOf, streamAt, segmentOf}
 use Rattle.segment.specs.Limits.{Declared}

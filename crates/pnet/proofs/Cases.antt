@@ -12,7 +12,8 @@ use Rattle.common.proofs.Checks.{Applies, refused-if, passed-if}
 use Rattle.common.proofs.Checks.Applies.{here, later}
 use Rattle.common.proofs.Checks.Clear.{none, and}
 use Rattle.sheet.specs.Sheets.{Sheet}
-use Rattle.sheet.specs.Whole.{sheetIn, Outcome, orElse, reading, Ready}
+use Rattle.sheet.specs.Whole.{Outcome, orElse, reading}
+use Rattle.sheet.specs.Steps.{sheetIn, Ready}
 use Rattle.sheet.proofs.Taken.{ready-streams}
 use Rattle.sheet.specs.Whole.Outcome.{Read, Not}
 use Rattle.common.specs.Runs.{filled}

@@ -15,7 +15,7 @@ use Rattle.format.specs.declared.Met.{Met}
 use Rattle.segment.specs.Segment.{Stream, Segment, owns, count, longest, hold}
 use Rattle.segment.specs.Limits.{Declared}
 use Rattle.segment.proofs.Holds.{longest-none, hold-none, hold-some}
-use Rattle.sheet.specs.Whole.{Ready}
+use Rattle.sheet.specs.Steps.{Ready}
 use Rattle.pnet.specs.Arrays.{at, part, Gathered, segmentIn}
 use Rattle.pnet.proofs.Bytes.{Here, declares, number-is}
 

@@ -8,7 +8,7 @@ use mathlib.Core.Bool.{Bool}
 use lib.ListN.{length, getD}
 use lib.Dec.{ltb}
 use Rattle.common.specs.Sums.{when, upto, up}
-use Rattle.sheet.specs.Whole.{sheetIn}
+use Rattle.sheet.specs.Steps.{sheetIn}
 use Rattle.segment.specs.Segment.{Segment, segmentOf, owns, count, hold}
 use Rattle.segment.specs.Refined.{saving, valueOf, roundsOf}
 

@@ -8,7 +8,7 @@ ghost use Prim.Native.Nat.{ℕ, _+_, _*_, _≤_, _<_, min, max};
 ghost use lib.ListN.{length};
 ghost use Rattle.common.specs.Runs.{filled};
 ghost use Rattle.common.specs.Sums.{firstOf};
-ghost use Rattle.sheet.specs.Whole.{Ready};
+ghost use Rattle.sheet.specs.Steps.{Ready};
 ghost use Rattle.segment.specs.Segment;
 ghost use Rattle.segment.specs.Refined;
 ghost use Rattle.pnet.specs.Planned.{planned, planOf, atPlace, runOf};

@@ -8,7 +8,8 @@ use Rattle.common.specs.Runs.{tab}
 use Rattle.common.proofs.Runs.{tab-same}
 use Rattle.format.specs.declared.Met.{Met}
 use Rattle.format.specs.Kinds.{metAt}
-use Rattle.sheet.specs.Whole.{sheetIn, placeOf, reading, streamsOfMaster, countsTold, Ready}
+use Rattle.sheet.specs.Whole.{placeOf, reading, streamsOfMaster, countsTold}
+use Rattle.sheet.specs.Steps.{sheetIn, Ready}
 use Rattle.sheet.proofs.Taken.{ready-known, ready-streams, stream-met}
 use Rattle.ring.specs.Ring.{Ring, Stream, streamOf, streamAt, ringOf, On, count, Declared}
 use Rattle.ring.proofs.Declared.{declared, count-is}

@@ -10,7 +10,8 @@ use Rattle.format.specs.declared.Met.{Met}
 use Rattle.format.specs.declared.Record.{Record}
 use Rattle.format.specs.Kinds.{nothing, metAt}
 use Rattle.sheet.specs.Sheets.{Sheet, sheetOf}
-use Rattle.sheet.specs.Whole.{Outcome, placeOf, sheetIn, reading, told, Ready}
+use Rattle.sheet.specs.Whole.{Outcome, placeOf, reading, told}
+use Rattle.sheet.specs.Steps.{sheetIn, Ready}
 use Rattle.sheet.specs.Whole.Outcome.{Read, Not}
 use Rattle.sheet.specs.declared.Reading.the-variants as answer
 use Rattle.sheet.proofs.Walk.{length-streams}

@@ -1,5 +1,6 @@
 -- Page 01, 'Numbered refusals': what the parts of the reader answer at a record, a refusal's number or 0 for none, and what it keeps
--- of the streams behind it: how many each master has, or the identifiers in sheet order. Assumes nothing.
+-- of the streams behind it: how many each master has, or the identifiers in sheet order. Then what the parts of a planner go by.
+-- Words of inner contracts alone. Assumes nothing.
 use Prim.Native.Nat.{ℕ, zero, suc, _+_, _<_}
 use mathlib.Core.Path.{_≡_}
 use mathlib.Core.List.{List}
@@ -9,8 +10,9 @@ use lib.Dec.{leb, eqb}
 use Rattle.format.specs.declared.Record.{Record}
 use Rattle.format.specs.Kinds.{decode}
 use Rattle.common.specs.Checks.Verdict.{Passed}
-use Rattle.sheet.specs.Sheets.{mostInAll}
-use Rattle.sheet.specs.Whole.{placeOf, judge}
+use Rattle.sheet.specs.Sheets.{Sheet, sheetOf, mostInAll}
+use Rattle.sheet.specs.Whole.{placeOf, recordsOf, judge, reading}
+use Rattle.sheet.specs.Whole.Outcome.{Read}
 
 -- by the record itself: known, right for its position, whole, every field in its range
 unfoldable pub ownNo : Bool → Bool → Bool → Bool → ℕ
@@ -41,3 +43,16 @@ pub record Begun (s : List ℕ) (head : Record) (first : ℕ) : Type 0 where
   pub passed : judge s 0 ≡ Passed
   pub is-head : head ≡ decode s 0
   pub is-first : first ≡ placeOf s 1
+
+-- ---- What a planner goes by
+
+-- what the first record and n streams behind it say
+unfoldable pub sheetIn : List ℕ → ℕ → Sheet
+unfolding sheetOf recordsOf
+sheetIn s n = sheetOf (recordsOf s (suc n))
+
+-- these bytes are an accepted sheet of a kind with n streams, and the first of them stands at a place
+pub record Ready (s : List ℕ) (kind first n : ℕ) : Type 0 where
+  pub reads : reading s ≡ Read (sheetIn s n)
+  pub bus : sheetIn s n .head .kind ≡ kind
+  pub starts : first ≡ placeOf s 1

@@ -1,7 +1,6 @@
 -- Page 01, 'Numbered refusals' 1..7: reading goes record by record, in a record the order is 2, 3, 1, 4, 5, 7, and number 6 comes
 -- at the end. Assumes nothing.
 use Prim.Native.Nat.{ℕ, zero, suc, _+_}
-use mathlib.Core.Path.{_≡_}
 use mathlib.Core.List.{List, [], _∷_, _++_}
 use mathlib.Core.Bool.{cond, not}
 use lib.ListN.{length, getD}
@@ -28,11 +27,6 @@ unfoldable pub recordsOf : List ℕ → ℕ → List Record
 unfolding decode placeOf
 recordsOf s zero = []
 recordsOf s (suc n) = recordsOf s n ++ (decode s (placeOf s n) ∷ [])
-
--- what the first record and n streams behind it say
-unfoldable pub sheetIn : List ℕ → ℕ → Sheet
-unfolding sheetOf recordsOf
-sheetIn s n = sheetOf (recordsOf s (suc n))
 
 -- ---- The refusals of reading
 
@@ -106,11 +100,3 @@ unfoldable pub countsTold : Outcome → List ℕ → List ℕ
 unfolding streamsOfMaster tab
 countsTold (Read S) old = cond (eqb (S .head .kind) 5) old (tab (streamsOfMaster S) 33)
 countsTold (Not n p) old = old
-
--- ---- What a planner goes by
-
--- these bytes are an accepted sheet of a kind with n streams, and the first of them stands at a place
-pub record Ready (s : List ℕ) (kind first n : ℕ) : Type 0 where
-  pub reads : reading s ≡ Read (sheetIn s n)
-  pub bus : sheetIn s n .head .kind ≡ kind
-  pub starts : first ≡ placeOf s 1

@@ -15,7 +15,8 @@ use Rattle.format.specs.declared.Met.{Met}
 use Rattle.format.specs.Kinds.{nothing, metAt}
 use Rattle.format.proofs.Ranges.{VariableRanges, exchange-ranges, variable-ranges}
 use Rattle.sheet.specs.Sheets.{Sheet}
-use Rattle.sheet.specs.Whole.{sheetIn, Outcome, placeOf, reading, Ready}
+use Rattle.sheet.specs.Whole.{Outcome, placeOf, reading}
+use Rattle.sheet.specs.Steps.{sheetIn, Ready}
 use Rattle.sheet.specs.Whole.Outcome.{Read}
 use Rattle.sheet.proofs.Known.{Known}
 use Rattle.sheet.proofs.Taken.{ready-known, ready-streams, stream-met}

@@ -6,7 +6,7 @@ use native.Mathlib.Omega.{arith}
 use borrow.Author.Tests.{ltb-true, ltb-false}
 use lib.ListN.{length}
 use Rattle.format.specs.declared.Record.{Record}
-use Rattle.sheet.specs.Whole.{sheetIn}
+use Rattle.sheet.specs.Steps.{sheetIn}
 use Rattle.sheet.proofs.Taken.{Taken, taken, not-taken, taken-ready}
 use Rattle.segment.specs.Segment.{segmentOf}
 use Rattle.pnet.proofs.Cases.{planned-unread, planned-other, planned-short, returned-refused}

@@ -7,7 +7,8 @@ use native.Mathlib.Omega.{arith}
 use borrow.Author.Needs.{needs}
 use lib.ListN.{getD}
 use Rattle.common.proofs.Runs.{getD-tab}
-use Rattle.sheet.specs.Whole.{sheetIn, placeOf}
+use Rattle.sheet.specs.Whole.{placeOf}
+use Rattle.sheet.specs.Steps.{sheetIn}
 use Rattle.ring.specs.Ring.{Ring, ringOf, count, rotation, Declared}
 use Rattle.profibus.proofs.Passing.{Stepped, ready-declared, ready-number, stepped}
 use Rattle.ring.specs.Target.{Limited}

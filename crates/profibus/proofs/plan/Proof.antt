@@ -3,7 +3,7 @@ use Prim.Native.Nat.{_*_}
 use mathlib.Core.Path.{_≡_, sym, ap, _∙_}
 use native.Mathlib.Omega.{arith}
 use Rattle.sheet.proofs.Taken.{Taken, taken, not-taken, taken-ready}
-use Rattle.sheet.specs.Whole.{sheetIn, Ready}
+use Rattle.sheet.specs.Steps.{sheetIn, Ready}
 use Rattle.format.specs.declared.Record.{Record}
 use Rattle.ring.specs.Ring.{ringOf, messages}
 use Rattle.ring.proofs.Rule.{messages-of-one}

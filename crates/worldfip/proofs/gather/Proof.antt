@@ -7,7 +7,8 @@ use native.Mathlib.Omega.{arith}
 use lib.Dec.{ltb}
 use lib.ListN.{length, getD, length-set}
 use Rattle.common.specs.Sums.{when}
-use Rattle.sheet.specs.Whole.{sheetIn, placeOf}
+use Rattle.sheet.specs.Whole.{placeOf}
+use Rattle.sheet.specs.Steps.{sheetIn}
 use Rattle.table.specs.Traffic.{Variable}
 use Rattle.worldfip.specs.Answer.{trafficOf}
 use Rattle.worldfip.proofs.Turns.{front-none, front-more, front-all}

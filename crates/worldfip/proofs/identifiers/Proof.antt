@@ -5,7 +5,8 @@ use borrow.Author.Needs.{needs}
 use Rattle.sheet.proofs.Taken.{Taken, taken, not-taken, taken-ready}
 use Rattle.common.proofs.Runs.{tab-places}
 use Rattle.format.specs.declared.Record.{Record}
-use Rattle.sheet.specs.Whole.{sheetIn, Outcome, reading, Ready}
+use Rattle.sheet.specs.Whole.{Outcome, reading}
+use Rattle.sheet.specs.Steps.{sheetIn, Ready}
 use Rattle.worldfip.specs.Answer.{identifierOf}
 use Rattle.worldfip.proofs.Turns.{zero-run}
 use Rattle.worldfip.proofs.Tied.{few, places-within}

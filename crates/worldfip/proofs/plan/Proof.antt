@@ -4,7 +4,8 @@ use borrow.Author.Needs.{needs}
 use lib.ListN.{length}
 use Rattle.sheet.proofs.Taken.{Taken, taken, not-taken, taken-ready}
 use Rattle.format.specs.declared.Record.{Record}
-use Rattle.sheet.specs.Whole.{sheetIn, Outcome, Ready}
+use Rattle.sheet.specs.Whole.{Outcome}
+use Rattle.sheet.specs.Steps.{sheetIn, Ready}
 use Rattle.worldfip.specs.Answer.{planOf, runOf}
 use Rattle.worldfip.proofs.Passing.{sheeted, plan-is, run-is, other-bus, other-run}
 use Rattle.worldfip.proofs.plan.Statement.{statement}
