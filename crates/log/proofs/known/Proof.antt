@@ -1,0 +1,13 @@
+-- `log::known` meets its contract. Assumes nothing.
+use borrow.Author.Needs.{needs}
+use mathlib.Core.Path.{refl}
+use Rattle.log.specs.Records
+use Rattle.log.proofs.known.Statement.{statement}
+use Rattle.log.proofs.known.Tie as tie
+
+returns : tie.Need-returns
+unfolding Records.known
+returns c = refl
+
+pub known-spec : {M : Type 1} → statement M
+known-spec = tie.close (tie.spec returns)
