@@ -2,7 +2,7 @@
 -- Assumes nothing.
 use Prim.Native.Nat.{ℕ, _+_}
 use mathlib.Core.List.{List, [], _∷_}
-use mathlib.Core.Bool.{not, _||_}
+use mathlib.Core.Bool.{Bool, not, _||_}
 use lib.ListN.{length}
 use lib.Dec.{ltb, leb, eqb}
 use Rattle.common.specs.Checks.{Check, check, verdict}
@@ -20,14 +20,18 @@ unfoldable pub firstLate : Segment → ℕ
 unfolding firstOf late
 firstLate S = firstOf (late S) (S .number) 1
 
--- behind the reading's own refusals: 3, then 13 for runs of la, lb and lc numbers, then 8
-unfoldable pub planChecks : Sheet → ℕ → ℕ → ℕ → List Check
-unfolding firstLate segmentOf
-planChecks H la lb lc =
+-- behind the reading's own refusals: 3, then 13 where lent room is short of what is needed, then 8
+abbrev pub segmentChecks : Sheet → Bool → ℕ → List Check
+segmentChecks H short need =
     check 3 (not (eqb (H .head .kind) 1)) 0
-    ∷ check 13 (ltb la (H .head .a) || (ltb lb (H .head .a) || ltb lc (H .head .a))) (H .head .a)
+    ∷ check 13 short need
     ∷ check 8 (leb (firstLate (segmentOf H)) (length (H .streams))) (firstLate (segmentOf H))
     ∷ []
+
+-- for runs of la, lb and lc numbers: each needs N places
+unfoldable pub planChecks : Sheet → ℕ → ℕ → ℕ → List Check
+unfolding firstLate segmentOf
+planChecks H la lb lc = segmentChecks H (ltb la (H .head .a) || (ltb lb (H .head .a) || ltb lc (H .head .a))) (H .head .a)
 
 -- a sheet that passes them too, or a refusal's number and place
 abbrev pub plannedBy : Outcome → ℕ → ℕ → ℕ → Outcome

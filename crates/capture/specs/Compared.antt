@@ -1,0 +1,75 @@
+-- Page 02, 'Ask 1': what laying a capture beside a sheet's bounds answers, and what the four lent runs then hold. Assumes nothing.
+use Prim.Native.Nat.{ℕ, _+_, min}
+use mathlib.Core.List.{List}
+use lib.ListN.{length}
+use lib.Dec.{ltb}
+use Rattle.common.specs.Checks.{verdict}
+use Rattle.common.specs.Runs.{filled}
+use Rattle.sheet.specs.Sheets.{Sheet}
+use Rattle.sheet.specs.Whole.{Outcome, orElse, reading}
+use Rattle.sheet.specs.Whole.Outcome.{Read, Not}
+use Rattle.segment.specs.Segment.{Segment, segmentOf, bound}
+use Rattle.pnet.specs.Planned.{segmentChecks, firstLate, atPlace}
+use Rattle.log.specs.declared.Event.{Event}
+use Rattle.log.specs.Log.{fresh, left, answered, largest, above}
+use Rattle.log.specs.Records.{eventsIn, records, heard}
+
+-- ---- The sheet
+
+-- the sheet's reading refusals, 3 at 0 if it isn't P-NET, 13 with the number of streams, 8
+abbrev pub boundedBy : Outcome → ℕ → Outcome
+boundedBy (Read H) room = orElse (verdict (segmentChecks H (ltb room (length (H .streams))) (length (H .streams)))) (Read H)
+boundedBy (Not n p) room = Not n p
+
+unfoldable pub bounded : List ℕ → ℕ → Outcome
+unfolding reading verdict firstLate segmentOf
+bounded s room = boundedBy (reading s) room
+
+-- ---- The capture
+
+-- then those of the capture c, record by record
+abbrev pub comparedBy : Outcome → List ℕ → Outcome
+comparedBy (Read H) c = orElse (heard c (length (H .streams)) fresh) (Read H)
+comparedBy (Not n p) c = Not n p
+
+-- for four lent runs of these lengths; the shortest is the room
+unfoldable pub compared : List ℕ → List ℕ → ℕ → ℕ → ℕ → ℕ → Outcome
+unfolding bounded heard
+compared s c la lb lc ld = comparedBy (bounded s (min la (min lb (min lc ld)))) c
+
+-- ---- The figures of a stream
+
+-- its bound: R of its master
+unfoldable pub boundOf : Segment → ℕ → ℕ
+unfolding bound
+boundOf S i = bound S (S .stream i .master)
+
+abbrev pub masterOf : Segment → ℕ → ℕ
+masterOf S i = S .stream i .master
+
+-- all records of a capture
+unfoldable pub events : List ℕ → List Event
+unfolding eventsIn records
+events c = eventsIn c (records c)
+
+-- answers, the largest response, answers above the bound, and 1 or 0 requests left open
+unfoldable pub answeredOf : List ℕ → Segment → ℕ → ℕ
+unfolding answered events
+answeredOf c S i = answered (events c) i
+
+unfoldable pub largestOf : List ℕ → Segment → ℕ → ℕ
+unfolding largest events
+largestOf c S i = largest fresh (events c) i
+
+unfoldable pub aboveOf : List ℕ → Segment → ℕ → ℕ
+unfolding above events boundOf
+aboveOf c S i = above fresh (boundOf S i) (events c) i
+
+unfoldable pub leftOf : List ℕ → Segment → ℕ → ℕ
+unfolding left events
+leftOf c S i = left fresh (events c) i
+
+-- a lent run: a figure of each stream, later places as they were; on a refusal all of it as it was
+abbrev pub streamRun : Outcome → (Segment → ℕ → ℕ) → List ℕ → List ℕ
+streamRun (Read H) figure old = filled (atPlace (figure (segmentOf H))) (length (H .streams)) old
+streamRun (Not n p) figure old = old
