@@ -1,7 +1,7 @@
 -- What the parts of the reader of a capture answer at one record, and what they keep of it. Words of inner contracts alone.
 -- Assumes nothing.
 use Prim.Native.Nat.{ℕ, _+_, _-_, _%_, _^_, max}
-use mathlib.Core.Bool.{cond}
+use mathlib.Core.Bool.{cond, not, _&&_}
 use mathlib.Core.List.{List}
 use lib.ListN.{getD, set}
 use lib.Dec.{ltb, eqb}
@@ -18,6 +18,10 @@ use Rattle.log.specs.Log.{around}
 abbrev pub noOf : Verdict → ℕ
 noOf Passed = 0
 noOf (Refused n p) = n
+
+-- by what is open: 15 for an answer, 16 for a request
+unfoldable pub openNo : ℕ → ℕ → ℕ
+openNo kind waiting = cond (eqb kind 17 && eqb waiting 0) 15 (cond (eqb kind 16 && not (eqb waiting 0)) 16 0)
 
 -- what the code answers for n masters and m streams, and a lent run, where the capture is heard so
 abbrev pub planBy : Verdict → ℕ → ℕ → Plan

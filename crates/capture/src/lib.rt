@@ -12,6 +12,7 @@ ghost use lib.ListN.{length, getD};
 ghost use Rattle.common.specs.Checks.{verdict};
 ghost use Rattle.common.specs.Runs.{filled};
 ghost use Rattle.common.specs.Sums.{when};
+ghost use Rattle.format.specs.Kinds.{within};
 ghost use Rattle.sheet.specs.Steps.{Ready};
 ghost use Rattle.segment.specs.Segment;
 ghost use Rattle.pnet.specs.Arrays.{segmentIn};
@@ -21,7 +22,7 @@ ghost use Rattle.log.specs.Log.{fresh};
 ghost use Rattle.log.specs.Records.{eventAt, eventChecks, heard};
 ghost use Rattle.capture.specs.Compared.{bounded, compared, events, boundOf, masterOf, answeredOf, largestOf, aboveOf, leftOf, streamRun};
 ghost use Rattle.capture.specs.Pieces.{most, answerTo, leftAfter, sinceAfter, answersAfter, largestAfter, aboveAfter};
-ghost use Rattle.capture.specs.Steps.{noOf, planBy, runBy, leftWith, sinceWith, answersWith, largestWith, aboveWith};
+ghost use Rattle.capture.specs.Steps.{noOf, openNo, spot, planBy, runBy, leftWith, sinceWith, answersWith, largestWith, aboveWith};
 
 // No sheet has more streams.
 pub const MOST: usize = 800;
@@ -133,10 +134,31 @@ fn exceeds(bound: u32, shown: u32) -> u64
     if bound < shown { 1 } else { 0 }
 }
 
+// Stream 1 to the last that the sheet has.
+fn on_sheet(stream: u32, streams: usize) -> bool
+    ensures { λ r. ⌜ r ≡ within 1 stream (min streams most) ⌝ }
+{
+    let i = stream as usize;
+    (1 <= i) & ((i <= MOST) & (i <= streams))
+}
+
+// An answer with no request open, a request while one is open, or neither.
+fn open_no(kind: u8, waiting: u8) -> u8
+    ensures { λ r. ⌜ r ≡ openNo kind waiting ⌝ }
+{
+    if (kind == 17) & (waiting == 0) {
+        return 15;
+    }
+    if (kind == 16) & (waiting != 0) {
+        return 16;
+    }
+    0
+}
+
 // The number of a record's refusal, in the order 2, 1, 14, 15, 16; 0 if there is none.
 fn refusal(c: &[u8], at: usize, streams: usize, left: &[u8; MOST]) -> u8
     requires { ⌜ at < length (now c) ⌝ }
-    ensures { λ r. ⌜ ((w : ℕ) → (1 ≤ eventAt (now (c .entry)) at .stream → eventAt (now (c .entry)) at .stream ≤ most → w ≡ getD (now (left .entry)) (eventAt (now (c .entry)) at .stream - 1) 0) → r ≡ noOf (verdict (eventChecks (length (now (c .entry))) (min streams most) w at (eventAt (now (c .entry)) at)))) ⌝ }
+    ensures { λ r. ⌜ ((w : ℕ) → (1 ≤ eventAt (now (c .entry)) at .stream → eventAt (now (c .entry)) at .stream ≤ most → w ≡ getD (now (left .entry)) (spot (eventAt (now (c .entry)) at)) 0) → r ≡ noOf (verdict (eventChecks (length (now (c .entry))) (min streams most) w at (eventAt (now (c .entry)) at)))) ⌝ }
 {
     if !log::known(c[at]) {
         return 2;
@@ -145,21 +167,11 @@ fn refusal(c: &[u8], at: usize, streams: usize, left: &[u8; MOST]) -> u8
         return 1;
     }
     let e = log::event_at(c, at);
-    let stream = e.stream as usize;
-    if stream < 1 || MOST < stream || streams < stream {
+    if !on_sheet(e.stream, streams) {
         return 14;
     }
-    let waiting = left[stream - 1];
-    if e.kind == 17 {
-        if waiting == 0 {
-            return 15;
-        }
-        return 0;
-    }
-    if waiting == 0 {
-        return 0;
-    }
-    16
+    let k = e.stream as usize - 1;
+    open_no(e.kind, left[k])
 }
 
 // Keeps a record that passed.

@@ -1,0 +1,75 @@
+-- The number of a record's refusal, case by case. Assumes nothing.
+use Prim.Native.Nat.{ℕ, _+_, _≤_, _<_, min}
+use mathlib.Core.Path.{_≡_, refl, sym, ap, subst, _∙_}
+use mathlib.Core.Bool.{Bool, true, false, cond, not, _&&_}
+use native.Mathlib.Omega.{arith}
+use borrow.Author.Tests.{lt-ltb, le-ltb, le-leb, lt-leb, leb-true, leb-false}
+use lib.Dec.{leb, eqb}
+use lib.ListN.{length, getD}
+use mathlib.Core.List.{List, [], _∷_}
+use Rattle.common.specs.Checks.{check, verdict}
+use Rattle.format.specs.Kinds.{within}
+use Rattle.log.specs.declared.Event.{Event}
+use Rattle.log.specs.Records.{size, eventAt, known, metAt, eventChecks}
+use Rattle.log.proofs.Records.{met-whole}
+use Rattle.capture.specs.Steps.{noOf, openNo}
+
+-- the record at a place of the capture c, for n streams, w requests of its stream being open
+module _ (c : List ℕ) (at n w : ℕ) where
+  abbrev number : ℕ
+  number = noOf (verdict (eventChecks (length c) n w at (eventAt c at)))
+
+  pub judged-unknown : known (getD c at 0) ≡ false → 2 ≡ number
+  unfolding verdict eventChecks eventAt
+  judged-unknown k = rw k refl
+
+  module _ (k : known (getD c at 0) ≡ true) where
+    pub judged-cut : length c < at + size → 1 ≡ number
+    unfolding verdict eventChecks eventAt
+    judged-cut h = rw (k, lt-ltb (length c) (at + size) h) refl
+
+    -- the code reads it as r
+    module _ (h : at + size ≤ length c) (r : Event) (e : r ≡ metAt c at) where
+      pub event-read : r ≡ eventAt c at
+      event-read = e ∙ met-whole c at h k
+
+      pub judged-absent : within 1 (r .stream) n ≡ false → 14 ≡ number
+      unfolding verdict eventChecks eventAt
+      judged-absent a =
+          let x : within 1 (eventAt c at .stream) n ≡ false = subst (λ (v : Event). within 1 (v .stream) n ≡ false) event-read a in
+          rw (k, le-ltb (length c) (at + size) h, x) refl
+
+      pub judged-open : within 1 (r .stream) n ≡ true → openNo (r .kind) w ≡ number
+      unfolding verdict eventChecks openNo eventAt
+      judged-open a =
+          let x : within 1 (eventAt c at .stream) n ≡ true = subst (λ (v : Event). within 1 (v .stream) n ≡ true) event-read a in
+          ap (λ (v : Event). openNo (v .kind) w) event-read
+          ∙ rw (k, le-ltb (length c) (at + size) h, x) (split (eqb (getD c at 0) 17 && eqb w 0) (eqb (getD c at 0) 16 && not (eqb w 0)))
+        where
+          split : (x y : Bool) → cond x 15 (cond y 16 0) ≡ noOf (verdict (check 15 x at ∷ check 16 y at ∷ []))
+          split true y = refl
+          split false true = refl
+          split false false = refl
+
+-- the stream is one of the sheet's, as the code asks it
+pub within-min : (i n top : ℕ) → (leb 1 i && (leb i top && leb i n)) ≡ within 1 i (min n top)
+unfolding within
+within-min i n top = ap (λ (b : Bool). leb 1 i && b) (split (leb i top) (leb i n) refl refl)
+  where
+    split : (x y : Bool) → leb i top ≡ x → leb i n ≡ y → (leb i top && leb i n) ≡ leb i (min n top)
+    split true true p q =
+        let a = leb-true i top p in
+        let b = leb-true i n q in
+        rw (p, q) (sym (le-leb i (min n top) (omega arith)))
+    split true false p q = let b = leb-false i n q in rw (p, q) (sym (lt-leb i (min n top) (omega arith)))
+    split false y p q = let a = leb-false i top p in rw p (sym (lt-leb i (min n top) (omega arith)))
+
+-- it has a place
+pub within-most : (i n top : ℕ) → within 1 i (min n top) ≡ true → (1 ≤ i) × (i ≤ top)
+unfolding within
+within-most i n top h = split (leb 1 i) (leb i (min n top)) refl refl h
+  where
+    split : (x y : Bool) → leb 1 i ≡ x → leb i (min n top) ≡ y → (x && y) ≡ true → (1 ≤ i) × (i ≤ top)
+    split true true p q e = let a = leb-true i (min n top) q in (leb-true 1 i p, omega arith)
+    split true false p q e = let z : _≡_ {A = ℕ} 0 1 = ap (λ (b : Bool). cond b 1 0) e in absurd (omega arith)
+    split false y p q e = let z : _≡_ {A = ℕ} 0 1 = ap (λ (b : Bool). cond b 1 0) e in absurd (omega arith)

@@ -1,0 +1,152 @@
+-- `capture::keep` meets its contract. Assumes nothing.
+use Prim.Native.Nat.{ℕ, _+_, _%_, _^_, max}
+use mathlib.Core.Path.{refl, ap, _∙_}
+use borrow.Author.Needs.{needs}
+use borrow.Author.Tests.{eq-eqb, ne-eqb}
+use denote.Ref.{now}
+use lib.Dec.{ltb}
+use lib.ListN.{getD, set}
+use Rattle.common.specs.Sums.{when}
+use Rattle.capture.specs.Steps.{spot, leftWith, sinceWith, answersWith, shownBy, largestWith, aboveWith}
+use Rattle.capture.proofs.keep.Statement.{statement}
+use Rattle.capture.proofs.keep.Tie as tie
+
+cast-k : tie.Need-cast-k
+cast-k c = search needs
+
+sub-k : tie.Need-sub-k
+sub-k c = search needs
+
+element-write-left : tie.Need-element-write-left
+element-write-left c = search needs
+
+mul-since : tie.Need-mul-since
+mul-since c = search needs
+
+element-write-since : tie.Need-element-write-since
+element-write-since c = search needs
+
+returns : tie.Need-returns
+unfolding leftWith sinceWith answersWith largestWith aboveWith
+returns c = let k = eq-eqb _ 16 (c .if1 .taken) in (rw k refl, (rw k refl, (rw k refl, (rw k refl, rw k refl))))
+
+mul-response : tie.Need-mul-response
+mul-response c = search needs
+
+element-copy-out-response : tie.Need-element-copy-out-response
+element-copy-out-response c = search needs
+
+response-requires : tie.Need-response-requires
+response-requires c κs = search needs
+
+element-write-left-2 : tie.Need-element-write-left-2
+element-write-left-2 c = search needs
+
+mul-wrapping-add-u64 : tie.Need-mul-wrapping-add-u64
+mul-wrapping-add-u64 c = search needs
+
+element-copy-out-wrapping-add-u64 : tie.Need-element-copy-out-wrapping-add-u64
+element-copy-out-wrapping-add-u64 c = search needs
+
+wrapping-add-u64-requires : tie.Need-wrapping-add-u64-requires
+wrapping-add-u64-requires c κs = search needs
+
+mul-answers : tie.Need-mul-answers
+mul-answers c = search needs
+
+element-write-answers : tie.Need-element-write-answers
+element-write-answers c = search needs
+
+mul-larger : tie.Need-mul-larger
+mul-larger c = search needs
+
+element-copy-out-larger : tie.Need-element-copy-out-larger
+element-copy-out-larger c = search needs
+
+larger-requires : tie.Need-larger-requires
+larger-requires c κs = search needs
+
+mul-largest : tie.Need-mul-largest
+mul-largest c = search needs
+
+element-write-largest : tie.Need-element-write-largest
+element-write-largest c = search needs
+
+mul-wrapping-add-u64-2 : tie.Need-mul-wrapping-add-u64-2
+mul-wrapping-add-u64-2 c = search needs
+
+element-copy-out-wrapping-add-u64-2 : tie.Need-element-copy-out-wrapping-add-u64-2
+element-copy-out-wrapping-add-u64-2 c = search needs
+
+mul-exceeds : tie.Need-mul-exceeds
+mul-exceeds c = search needs
+
+element-copy-out-exceeds : tie.Need-element-copy-out-exceeds
+element-copy-out-exceeds c = search needs
+
+exceeds-requires : tie.Need-exceeds-requires
+exceeds-requires c κs = search needs
+
+wrapping-add-u64-requires-2 : tie.Need-wrapping-add-u64-requires-2
+wrapping-add-u64-requires-2 c κs = search needs
+
+mul-above : tie.Need-mul-above
+mul-above c = search needs
+
+element-write-above : tie.Need-element-write-above
+element-write-above c = search needs
+
+returns-2 : tie.Need-returns-2
+unfolding leftWith sinceWith answersWith largestWith aboveWith shownBy
+returns-2 c =
+    let start = c .before .before .before .before .before .before .before .before .before .before .before .before .before in
+    let a = start .args in
+    let k = ne-eqb (a .e .kind) 16 (c .before .before .before .before .before .before .before .before .before .before .if1 .left) in
+    let shown = c .before .before .before .before .before .before .before .before .response .ensures in (
+      rw k refl,
+      (
+        rw k refl,
+        (
+          rw k (ap (set (now (a .answers)) (spot (a .e))) (c .before .before .before .before .before .before .wrapping-add-u64 .ensures)),
+          (
+            rw k (ap (set (now (a .largest)) (spot (a .e))) (c .before .before .before .before .larger .ensures ∙ ap (max (getD (now (a .largest)) (spot (a .e)) 0)) shown)),
+            rw k (ap (set (now (a .above)) (spot (a .e))) (c .wrapping-add-u642 .ensures
+                ∙ ap (λ (x : ℕ). (getD (now (a .above)) (spot (a .e)) 0 + x) % 2 ^ 64) (c .before .exceeds .ensures ∙ ap (λ (x : ℕ). when (ltb (getD (now (a .bound)) (spot (a .e)) 0) x) 1) shown))),
+          ),
+        ),
+      ),
+    )
+
+pub keep-spec : {M : Type 1} → statement M
+keep-spec =
+    tie.close
+    (tie.spec
+    cast-k
+    sub-k
+    element-write-left
+    mul-since
+    element-write-since
+    returns
+    mul-response
+    element-copy-out-response
+    response-requires
+    element-write-left-2
+    mul-wrapping-add-u64
+    element-copy-out-wrapping-add-u64
+    wrapping-add-u64-requires
+    mul-answers
+    element-write-answers
+    mul-larger
+    element-copy-out-larger
+    larger-requires
+    mul-largest
+    element-write-largest
+    mul-wrapping-add-u64-2
+    element-copy-out-wrapping-add-u64-2
+    mul-exceeds
+    element-copy-out-exceeds
+    exceeds-requires
+    wrapping-add-u64-requires-2
+    mul-above
+    element-write-above
+    returns-2)
