@@ -1,16 +1,20 @@
 -- The number of a record's refusal, case by case. Assumes nothing.
-use Prim.Native.Nat.{ℕ, _+_, _≤_, _<_, min}
+use Prim.Native.Nat.{ℕ, _+_, _*_, _≤_, _<_, min}
 use mathlib.Core.Path.{_≡_, refl, sym, ap, subst, _∙_}
 use mathlib.Core.Bool.{Bool, true, false, cond, not, _&&_}
 use native.Mathlib.Omega.{arith}
-use borrow.Author.Tests.{lt-ltb, le-ltb, le-leb, lt-leb, leb-true, leb-false}
+use borrow.Author.Tests.{lt-ltb, le-ltb, le-leb, lt-leb, leb-true, leb-false, ltb-false, not-false}
 use lib.Dec.{leb, eqb}
 use lib.ListN.{length, getD}
 use mathlib.Core.List.{List, [], _∷_}
 use Rattle.common.specs.Checks.{check, verdict}
+use Rattle.common.specs.Checks.Verdict.{Passed, Refused}
+use Rattle.common.proofs.Checks.{Clear, passed-then}
+use Rattle.common.proofs.Checks.Clear.{none, and}
 use Rattle.format.specs.Kinds.{within}
 use Rattle.log.specs.declared.Event.{Event}
-use Rattle.log.specs.Records.{size, eventAt, known, metAt, eventChecks}
+use Rattle.log.specs.Log.{Before, left}
+use Rattle.log.specs.Records.{size, eventAt, eventsIn, known, metAt, eventChecks, judge}
 use Rattle.log.proofs.Records.{met-whole}
 use Rattle.capture.specs.Steps.{noOf, openNo}
 
@@ -73,3 +77,42 @@ within-most i n top h = split (leb 1 i) (leb i (min n top)) refl refl h
     split true true p q e = let a = leb-true i (min n top) q in (leb-true 1 i p, omega arith)
     split true false p q e = let z : _≡_ {A = ℕ} 0 1 = ap (λ (b : Bool). cond b 1 0) e in absurd (omega arith)
     split false y p q e = let z : _≡_ {A = ℕ} 0 1 = ap (λ (b : Bool). cond b 1 0) e in absurd (omega arith)
+
+-- ---- A verdict by its number
+
+-- every line of the list has the record's place
+five : (a b c d e : Bool) (at : ℕ)
+    → let v = verdict (check 2 a at ∷ check 1 b at ∷ check 14 c at ∷ check 15 d at ∷ check 16 e at ∷ []) in
+    (noOf v ≡ 0 → v ≡ Passed) × ((noOf v ≡ 0 → ⊥) → v ≡ Refused (noOf v) at)
+unfolding verdict
+five true b c d e at = (λ z. absurd (omega (arith, z)), λ z. refl)
+five false true c d e at = (λ z. absurd (omega (arith, z)), λ z. refl)
+five false false true d e at = (λ z. absurd (omega (arith, z)), λ z. refl)
+five false false false true e at = (λ z. absurd (omega (arith, z)), λ z. refl)
+five false false false false true at = (λ z. absurd (omega (arith, z)), λ z. refl)
+five false false false false false at = (λ z. refl, λ z. absurd (z refl))
+
+module _ (c : List ℕ) (n : ℕ) (b : Before) (j : ℕ) where
+  abbrev here : Event
+  here = eventAt c (size * j)
+
+  pub passed-by : noOf (judge c n b j) ≡ 0 → judge c n b j ≡ Passed
+  unfolding judge eventChecks
+  passed-by = five _ _ _ _ _ (size * j) .0
+
+  pub refused-by : (noOf (judge c n b j) ≡ 0 → ⊥) → judge c n b j ≡ Refused (noOf (judge c n b j)) (size * j)
+  unfolding judge eventChecks
+  refused-by = five _ _ _ _ _ (size * j) .1
+
+  -- what a record that passes is
+  pub record Whole : Type 0 where
+    pub is-known : known (here .kind) ≡ true
+    pub ends : size * j + size ≤ length c
+    pub on : within 1 (here .stream) n ≡ true
+
+  pub whole-if : judge c n b j ≡ Passed → Whole
+  unfolding judge eventChecks
+  whole-if p = tell (passed-then _ p)
+    where
+      tell : Clear (eventChecks (length c) n (left b (eventsIn c j) (here .stream)) (size * j) here) → Whole
+      tell (and k (and h (and s (and x (and y none))))) = record { is-known = not-false _ k; ends = ltb-false _ _ h; on = not-false _ s }
