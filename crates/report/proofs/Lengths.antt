@@ -15,10 +15,10 @@ use Rattle.segment.specs.Refined.{refined, rounds}
 use Rattle.units.specs.Units.{bp, microsUp}
 use Rattle.units.specs.declared.BitPeriods.{BitPeriods}
 use Rattle.units.specs.declared.Micros.{Micros}
-use Rattle.report.specs.Text.{word, places, holds, widthOf, decimal, texts}
-use Rattle.report.specs.Lines.{inBp, inUs, inBoth, nameOf, figuresOf, masterLine, masterText, masterAt, segmentText, ringText, nameText, nameAt, rowLine, rowAt, tableHead, tableText, placeText, placeEnd, refusalText}
+use Rattle.text.specs.Text.{word, places, holds, widthOf, decimal, texts}
+use Rattle.lines.specs.Lines.{inBp, inUs, inBoth, nameOf, figuresOf, masterLine, masterText, masterAt, segmentText, ringText, nameText, nameAt, rowLine, rowAt, tableHead, tableText, placeText, placeEnd, refusalText}
 use Rattle.report.specs.Whole.{mostText, masterOf, mastersOf}
-use Rattle.report.proofs.Numbers.{length-places, length-decimal}
+use Rattle.text.proofs.Numbers.{length-places, length-decimal}
 
 -- ---- Numbers
 

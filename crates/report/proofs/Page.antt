@@ -3,8 +3,8 @@ use mathlib.Core.Path.{_≡_, refl}
 use mathlib.Core.List.{[], _∷_}
 use Rattle.common.specs.Sums.{firstOf, up}
 use Rattle.units.specs.Units.{us, microsUp}
-use Rattle.report.specs.Text.{word, _·_, places, holds, widthOf, decimal, item, texts}
-use Rattle.report.specs.Lines.{inBp, inUs, inBoth, nameOf, figuresOf, masterLine, masterText, masterAt, segmentText, ringText, nameText, nameAt, rowLine, rowAt, tableHead, tableText, placeText, placeEnd, refusalText}
+use Rattle.text.specs.Text.{word, _·_, places, holds, widthOf, decimal, item, texts}
+use Rattle.lines.specs.Lines.{inBp, inUs, inBoth, nameOf, figuresOf, masterLine, masterText, masterAt, segmentText, ringText, nameText, nameAt, rowLine, rowAt, tableHead, tableText, placeText, placeEnd, refusalText}
 
 -- the third case's whole report; a silent master 3 has no line
 segment : segmentText (item (1000 ∷ 500 ∷ 0 ∷ [])) (item (760 ∷ 500 ∷ 0 ∷ [])) (item (2 ∷ 2 ∷ 0 ∷ [])) 3

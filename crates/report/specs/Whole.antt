@@ -22,8 +22,8 @@ use Rattle.table.specs.Traffic.{Traffic, microcycle, slots, rows, rowOf, identi
 use Rattle.worldfip.specs.Answer.{trafficOf, planChecks}
 use Rattle.report.specs.declared.Reported.{Reported}
 use Rattle.report.specs.declared.Reported.the-variants as answer
-use Rattle.report.specs.Text.{word, _·_, texts}
-use Rattle.report.specs.Lines.{masterLine, ringText, tableText, refusalText}
+use Rattle.text.specs.Text.{word, _·_, texts}
+use Rattle.lines.specs.Lines.{masterLine, ringText, tableText, refusalText}
 
 -- no report is longer
 abbrev pub mostText : ℕ

@@ -17,8 +17,8 @@ ghost use Rattle.sheet.specs.Whole.{reading};
 ghost use Rattle.profibus.specs.Planned.{planOf as ringPlan};
 ghost use Rattle.units.specs.Units.{us};
 ghost use Rattle.pnet.specs.Planned.{planned};
-ghost use Rattle.report.specs.Text.{Zeros, Wrote, item};
-ghost use Rattle.report.specs.Lines.{segmentText, tableText};
+ghost use Rattle.text.specs.Text.{Zeros, Wrote, item};
+ghost use Rattle.lines.specs.Lines.{segmentText, tableText};
 ghost use Rattle.report.specs.Whole.{mostText, segmentReport, ringReport, tableReport, firstKind, reportOf, answerOf, runOf};
 
 // The first bytes of a sheet decide its report: a buffer of so many serves, however long the sheet is.

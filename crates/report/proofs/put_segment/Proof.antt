@@ -2,10 +2,10 @@
 use native.Mathlib.Omega.{arith}
 use borrow.Author.Needs.{needs}
 use denote.Ref.{now}
-use Rattle.report.specs.Text.{item, texts}
-use Rattle.report.specs.Lines.{masterAt, segmentText}
+use Rattle.text.specs.Text.{item, texts}
+use Rattle.lines.specs.Lines.{masterAt, segmentText}
 use Rattle.report.proofs.Lengths.{segment-most}
-use Rattle.report.proofs.Writing.{wrote-then, room-before, room-after}
+use Rattle.text.proofs.Writing.{wrote-then, room-before, room-after}
 use Rattle.report.proofs.put_segment.Statement.{statement}
 use Rattle.report.proofs.put_segment.Tie as tie
 

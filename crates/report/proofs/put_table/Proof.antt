@@ -2,11 +2,11 @@
 use native.Mathlib.Omega.{arith}
 use borrow.Author.Needs.{needs}
 use denote.Ref.{now}
-use Rattle.report.specs.Text.{item, texts}
-use Rattle.report.specs.Lines.{rowAt, tableText}
+use Rattle.text.specs.Text.{item, texts}
+use Rattle.lines.specs.Lines.{rowAt, tableText}
 use Rattle.units.specs.Units.{us}
 use Rattle.report.proofs.Lengths.{table-most}
-use Rattle.report.proofs.Writing.{wrote-then, room-before, room-after}
+use Rattle.text.proofs.Writing.{wrote-then, room-before, room-after}
 use Rattle.report.proofs.put_table.Statement.{statement}
 use Rattle.report.proofs.put_table.Tie as tie
 
