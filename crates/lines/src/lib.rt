@@ -112,13 +112,7 @@ pub fn put_row(out: &mut [u8], at: usize, m: u64, row: u64, names: &[u16; 64]) -
 }
 
 // The first two lines of a table.
-pub fn put_head(
-    out: &mut [u8],
-    at: usize,
-    microcycle: Micros,
-    slots: u64,
-    count: u64,
-) -> usize
+pub fn put_head(out: &mut [u8], at: usize, microcycle: Micros, slots: u64, count: u64) -> usize
     ensures { λ r. ⌜ Wrote (now (out .entry)) at (tableHead microcycle slots count) (now (out .exit)) r ⌝ }
 {
     let first = put_us(out, at, b"WorldFIP table\nmicrocycle ", microcycle);

@@ -4,8 +4,8 @@ use native.Mathlib.Omega.{arith}
 use borrow.Author.Needs.{needs}
 use denote.Ref.{now}
 use Rattle.text.specs.Text.{item, texts, Wrote}
-use Rattle.lines.specs.Lines.{masterAt}
-use Rattle.text.proofs.Writing.{length-wrote, wrote-none, wrote-next, wrote-all, room-next}
+use Rattle.report.specs.Arrays.{masterAt}
+use Rattle.text.proofs.Writing.{length-wrote, wrote-none, wrote-next, wrote-all}
 use Rattle.report.proofs.put_masters.Statement.{statement}
 use Rattle.report.proofs.put_masters.Tie as tie
 
@@ -25,7 +25,7 @@ add-put-master c = search needs
 mul-put-master : tie.Need-mul-put-master Inv-loop μ-loop
 mul-put-master c =
     let start = c .before .before .before .before .before .before .before in
-    omega (arith, start .good .1 .1 .0, start .pre .0)
+    omega (arith, start .good .1 .1 .0, start .pre)
 
 shared-slice-read-put-master : tie.Need-shared-slice-read-put-master Inv-loop μ-loop
 shared-slice-read-put-master c = search needs
@@ -33,7 +33,7 @@ shared-slice-read-put-master c = search needs
 mul-put-master-2 : tie.Need-mul-put-master-2 Inv-loop μ-loop
 mul-put-master-2 c =
     let start = c .before .before .before .before .before .before .before .before in
-    omega (arith, start .good .1 .1 .1 .0, start .pre .0)
+    omega (arith, start .good .1 .1 .1 .0, start .pre)
 
 shared-slice-read-put-master-2 : tie.Need-shared-slice-read-put-master-2 Inv-loop μ-loop
 shared-slice-read-put-master-2 c = search needs
@@ -41,16 +41,13 @@ shared-slice-read-put-master-2 c = search needs
 mul-put-master-3 : tie.Need-mul-put-master-3 Inv-loop μ-loop
 mul-put-master-3 c =
     let start = c .before .before .before .before .before .before .before .before .before in
-    omega (arith, start .good .1 .1 .1 .1 .0, start .pre .0)
+    omega (arith, start .good .1 .1 .1 .1 .0, start .pre)
 
 shared-slice-read-put-master-3 : tie.Need-shared-slice-read-put-master-3 Inv-loop μ-loop
 shared-slice-read-put-master-3 c = search needs
 
 put-master-requires : tie.Need-put-master-requires Inv-loop μ-loop
-unfolding masterAt
-put-master-requires c κs =
-    let start = c .before .before .before .before .before .before .before .before .before .before in
-    room-next (masterAt (item (now (start .args .bound))) (item (now (start .args .refined))) (item (now (start .args .rounds)))) (c .before .before .before .before .before .loop .inv .1) (start .args .n) (start .pre .1) (c .before .before .before .before .loop-test .taken)
+put-master-requires c κs = search needs
 
 add-i : tie.Need-add-i Inv-loop μ-loop
 add-i c = search needs

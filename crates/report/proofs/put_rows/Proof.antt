@@ -3,9 +3,9 @@ use Prim.Native.Nat.{_-_, _≤_}
 use native.Mathlib.Omega.{arith}
 use borrow.Author.Needs.{needs}
 use denote.Ref.{now}
-use Rattle.lines.specs.Lines.{rowAt}
 use Rattle.text.specs.Text.{item, texts, Wrote}
-use Rattle.text.proofs.Writing.{length-wrote, wrote-none, wrote-next, wrote-all, room-next}
+use Rattle.text.proofs.Writing.{length-wrote, wrote-none, wrote-next, wrote-all}
+use Rattle.report.specs.Whole.{rowAt}
 use Rattle.report.proofs.put_rows.Statement.{statement}
 use Rattle.report.proofs.put_rows.Tie as tie
 
@@ -20,16 +20,13 @@ unfolding texts
 loop-holds c = (search needs, wrote-none)
 
 mul-put-row : tie.Need-mul-put-row Inv-loop μ-loop
-mul-put-row c = omega (arith, c .before .before .before .before .before .before .good .1 .1 .0, c .before .before .before .before .before .before .pre .0)
+mul-put-row c = omega (arith, c .before .before .before .before .before .good .1 .1 .0, c .before .before .before .before .before .pre)
 
 shared-slice-read-put-row : tie.Need-shared-slice-read-put-row Inv-loop μ-loop
 shared-slice-read-put-row c = search needs
 
 put-row-requires : tie.Need-put-row-requires Inv-loop μ-loop
-unfolding rowAt
-put-row-requires c κs =
-    let start = c .before .before .before .before .before .before .before in
-    (start .pre .0 .1, room-next (rowAt (item (now (start .args .rows))) (item (now (start .args .names)))) (c .before .before .before .loop .inv .1) (start .args .count) (start .pre .1) (c .before .before .loop-test .taken))
+put-row-requires c κs = search needs
 
 add-m : tie.Need-add-m Inv-loop μ-loop
 add-m c = search needs
@@ -40,7 +37,7 @@ loop-less c = search needs
 loop-again : tie.Need-loop-again Inv-loop μ-loop
 unfolding rowAt
 loop-again c =
-    let start = c .before .before .before .before .before .before .before .before .before .before in
+    let start = c .before .before .before .before .before .before .before .before .before in
     (omega arith, wrote-next (rowAt (item (now (start .args .rows))) (item (now (start .args .names)))) (c .before .before .before .before .before .before .loop .inv .1) (c .before .before .put-row .ensures))
 
 same-length : tie.Need-same-length Inv-loop μ-loop
@@ -48,7 +45,7 @@ same-length c = length-wrote (c .before .loop .inv .1)
 
 returns : tie.Need-returns Inv-loop μ-loop
 returns c =
-    let start = c .before .before .before .before .before in
+    let start = c .before .before .before .before in
     wrote-all (rowAt (item (now (start .args .rows))) (item (now (start .args .names)))) (c .before .loop .inv .1) (omega arith)
 
 pub put-rows-spec : {M : Type 1} → statement M
