@@ -3,7 +3,7 @@ use mathlib.Core.Path.{_≡_, refl}
 use mathlib.Core.List.{[], _∷_}
 use Rattle.common.specs.Sums.{firstOf, up}
 use Rattle.units.specs.Units.{us, microsUp}
-use Rattle.text.specs.Text.{word, _·_, places, holds, widthOf, decimal, item, texts}
+use Rattle.text.specs.Text.{word, places, holds, widthOf, decimal, item, texts}
 use Rattle.lines.specs.Lines.{inBp, inUs, inBoth, nameOf, figuresOf, masterLine, masterText, ringText, nameText, nameAt, rowLine, tableHead, placeText, placeEnd, refusalText}
 
 -- the third case's first master; a silent master has no line
