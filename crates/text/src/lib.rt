@@ -26,7 +26,7 @@ pub fn put_word(out: &mut [u8], at: usize, word: &[u8]) -> usize
         out[at + j] = word[j];
         j += 1;
     }
-    at + count
+    at + j
 }
 
 // The last k digits of n.

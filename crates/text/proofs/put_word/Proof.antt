@@ -68,7 +68,7 @@ returns c =
     let a = c .before .before .before .before .before .args in
     record {
       stored = l .inv .1 ∙ sets-fit (now (a .word)) (now (a .out)) (a .at) (l .j) (omega arith);
-      ends = ap (λ (k : ℕ). a .at + k) (c .before .before .fit .ensures);
+      ends = omega arith;
     }
 
 pub put-word-spec : {M : Type 1} → statement M
