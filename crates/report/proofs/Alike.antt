@@ -7,7 +7,7 @@ use Prim.Native.Nat.{ℕ, _+_, _≤_, _<_}
 use native.Mathlib.Omega.{arith}
 use lib.Dec.{eqb, ltb, leb}
 use lib.ListN.{length, getD, take}
-use lib.Seq.{take-all, ext-getD}
+use lib.Seq.{take-all}
 use borrow.Author.Tests.{eqb-true, not-false, lt-ltb, le-ltb}
 use Rattle.common.specs.Checks.{verdict, Verdict}
 use Rattle.common.specs.Checks.Verdict.{Passed, Refused}
@@ -29,8 +29,7 @@ use Rattle.profibus.specs.Planned.{planOf}
 use Rattle.table.specs.Traffic.{Traffic, slots, rows, missOf, missingOf}
 use Rattle.worldfip.specs.Answer as fip
 use Rattle.worldfip.specs.declared.answer.Plan.the-variants as answer
-use Rattle.report.specs.Text.{Zeros}
-use Rattle.report.specs.Lines.{refusalText}
+use Rattle.lines.specs.Lines.{refusalText}
 use Rattle.report.specs.Whole.{segmentReport, ringReport, tableReport, firstKind, reportOf}
 
 -- the report is made from that kind and the reading
@@ -131,8 +130,3 @@ no-13-table s p e = by (reading s) refl e
         let T = fip.trafficOf S in
         checks (not (eqb (S .head .kind) 5)) (eqb (slots T) 0) (ltb 4096 (rows T)) (leb (missOf T) (rows T)) (rows T) (missingOf T)
         (refused T (verdict (fip.planChecks S 4096)) f)
-
--- ---- Rooms of one length are alike
-
-pub zeros-alike : {n : ℕ} {a b : List ℕ} → Zeros n a → Zeros n b → a ≡ b
-zeros-alike {a = a} {b = b} x y = ext-getD 0 a b (sym (x .long) ∙ y .long) (λ i l. x .each i ∙ sym (y .each i))

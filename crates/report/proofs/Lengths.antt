@@ -15,10 +15,10 @@ use Rattle.segment.specs.Refined.{refined, rounds}
 use Rattle.units.specs.Units.{bp, microsUp}
 use Rattle.units.specs.declared.BitPeriods.{BitPeriods}
 use Rattle.units.specs.declared.Micros.{Micros}
-use Rattle.report.specs.Text.{word, places, holds, widthOf, decimal, texts}
-use Rattle.report.specs.Lines.{inBp, inUs, inBoth, nameOf, figuresOf, masterLine, masterText, masterAt, segmentText, ringText, nameText, nameAt, rowLine, rowAt, tableHead, tableText, placeText, placeEnd, refusalText}
-use Rattle.report.specs.Whole.{mostText, masterOf, mastersOf}
-use Rattle.report.proofs.Numbers.{length-places, length-decimal}
+use Rattle.text.specs.Text.{word, places, holds, widthOf, decimal, texts}
+use Rattle.lines.specs.Lines.{inBp, inUs, inBoth, nameOf, figuresOf, masterLine, ringText, nameText, nameAt, rowLine, tableHead, placeText, placeEnd, refusalText}
+use Rattle.report.specs.Whole.{mostText, masterOf, mastersOf, rowAt, tableText}
+use Rattle.text.proofs.Numbers.{length-places, length-decimal}
 
 -- ---- Numbers
 
@@ -70,11 +70,6 @@ line-most k R W m =
 some-most : (b : Bool) (k : ℕ) (R W : BitPeriods) (m : ℕ) → length (cond b [] (masterLine k R W m)) ≤ 147
 some-most true k R W m = omega arith
 some-most false k R W m = line-most k R W m
-
-pub segment-most : (R W rounds : ℕ → ℕ) (n : ℕ) → length (segmentText R W rounds n) ≤ 14 + n * 147
-unfolding segmentText masterAt masterText
-segment-most R W rounds n =
-    omega (arith, texts-most (masterAt R W rounds) 147 n (λ i h. some-most (eqb (R i) 0) (i + 1) (bp (R i)) (bp (W i)) (rounds i)))
 
 pub masters-most : (S : Segment) → length (mastersOf S) ≤ S .masters * 147
 unfolding mastersOf masterOf

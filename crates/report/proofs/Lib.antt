@@ -1,9 +1,8 @@
 pub mod Alike
 pub mod Lengths
 pub mod Longest
-pub mod Numbers
 pub mod Page
 pub mod Segments
 pub mod Tables
 pub mod Third
-pub mod Writing
+pub mod Zeros

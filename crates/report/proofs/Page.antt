@@ -3,8 +3,10 @@ use mathlib.Core.Path.{_≡_, refl}
 use mathlib.Core.List.{[], _∷_}
 use Rattle.common.specs.Sums.{firstOf, up}
 use Rattle.units.specs.Units.{us, microsUp}
-use Rattle.report.specs.Text.{word, _·_, places, holds, widthOf, decimal, item, texts}
-use Rattle.report.specs.Lines.{inBp, inUs, inBoth, nameOf, figuresOf, masterLine, masterText, masterAt, segmentText, ringText, nameText, nameAt, rowLine, rowAt, tableHead, tableText, placeText, placeEnd, refusalText}
+use Rattle.text.specs.Text.{word, _·_, places, holds, widthOf, decimal, item, texts}
+use Rattle.lines.specs.Lines.{inBp, inUs, inBoth, nameOf, figuresOf, masterLine, masterText, nameText, nameAt, rowLine, tableHead}
+use Rattle.report.specs.Arrays.{masterAt, segmentText}
+use Rattle.report.specs.Whole.{rowAt, tableText}
 
 -- the third case's whole report; a silent master 3 has no line
 segment : segmentText (item (1000 ∷ 500 ∷ 0 ∷ [])) (item (760 ∷ 500 ∷ 0 ∷ [])) (item (2 ∷ 2 ∷ 0 ∷ [])) 3
@@ -14,16 +16,7 @@ segment : segmentText (item (1000 ∷ 500 ∷ 0 ∷ [])) (item (760 ∷ 500 ∷ 
 unfolding segmentText masterAt masterText masterLine nameOf figuresOf inBoth inBp inUs microsUp up texts decimal places widthOf holds firstOf
 segment = refl
 
-ring : ringText (record { 0 = 2500 }) 1 ≡ word "PROFIBUS ring\nTTR 2500 bp limited by stream 1\n"
-unfolding ringText decimal places widthOf holds firstOf
-ring = refl
-
 -- rows 3 and 0 of two variables, identifiers 17 and 18
 table : tableText (us 1000) 2 2 (item (3 ∷ 0 ∷ [])) (item (17 ∷ 18 ∷ [])) ≡ word "WorldFIP table\nmicrocycle 1000 us 2 slots 2 rows\n" · word "row 0: 17 18\n" · word "row 1:\n"
 unfolding tableText tableHead rowAt rowLine nameAt nameText inUs texts decimal places widthOf holds firstOf
 table = refl
-
-refusals : (refusalText 6 2 ≡ word "refused 6 at byte 2\n") × (refusalText 8 3 ≡ word "refused 8 at stream 3\n") × (refusalText 9 1 ≡ word "refused 9 at stream 1\n")
-    × (refusalText 10 0 ≡ word "refused 10\n") × (refusalText 11 0 ≡ word "refused 11\n") × (refusalText 12 4 ≡ word "refused 12 at variable 4\n")
-unfolding refusalText placeEnd placeText decimal places widthOf holds firstOf
-refusals = (refl, refl, refl, refl, refl, refl)

@@ -22,9 +22,10 @@ use Rattle.segment.specs.Refined.{refined, rounds}
 use Rattle.segment.proofs.Holds.{hold-at-least}
 use Rattle.pnet.specs.Planned.{planChecks, plannedBy, planned, planOf, atPlace, runOf}
 use Rattle.pnet.specs.declared.answer.Plan.the-variants as answer
-use Rattle.report.proofs.Writing.{texts-same}
-use Rattle.report.specs.Text.{word, item}
-use Rattle.report.specs.Lines.{masterText, masterAt, segmentText, refusalText}
+use Rattle.text.proofs.Writing.{texts-same}
+use Rattle.text.specs.Text.{word, item}
+use Rattle.lines.specs.Lines.{masterText, refusalText}
+use Rattle.report.specs.Arrays.{masterAt, segmentText}
 use Rattle.report.specs.Whole.{masterOf, mastersOf, segmentReport}
 
 -- ---- A master without streams is the one whose bound is 0

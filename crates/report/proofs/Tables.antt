@@ -19,10 +19,10 @@ use Rattle.sheet.specs.Whole.Outcome.{Read, Not}
 use Rattle.table.specs.Traffic.{microcycle, slots, rows, rowOf, identifierAt}
 use Rattle.worldfip.specs.Answer.{trafficOf, tableChecks, planChecks, planBy, planOf, runBy, runOf, identifierOf}
 use Rattle.worldfip.specs.declared.answer.Plan.the-variants as answer
-use Rattle.report.specs.Text.{item}
-use Rattle.report.specs.Lines.{nameText, nameAt, rowLine, rowAt, tableHead, tableText, refusalText}
-use Rattle.report.specs.Whole.{tableOf, tableBy, tableReport}
-use Rattle.report.proofs.Writing.{texts-same}
+use Rattle.text.specs.Text.{item}
+use Rattle.lines.specs.Lines.{nameText, nameAt, rowLine, tableHead, refusalText}
+use Rattle.report.specs.Whole.{tableOf, tableBy, tableReport, rowAt, tableText}
+use Rattle.text.proofs.Writing.{texts-same}
 
 -- identifiers that agree at the 64 ranks name a row alike
 row-same : (m row : ℕ) (f g : ℕ → ℕ) → ((r : ℕ) → r < 64 → f r ≡ g r) → rowLine m row f ≡ rowLine m row g

@@ -13,8 +13,8 @@ use Rattle.sheet.specs.Whole.{placeOf, recordsOf, recordChecks, endChecks, judg
 use Rattle.segment.specs.Segment.{segmentOf, streamAt, owns, count, longest, hold, turnBy, boundBy, turn, bound, late}
 use Rattle.segment.specs.Refined.{saving, rightBy, valueOf, stands, roundsOf, mostRounds, asked, right, rounds, refined}
 use Rattle.pnet.specs.Planned.{firstLate, planChecks, planned}
-use Rattle.report.specs.Text.{word, _·_, places, holds, widthOf, decimal, texts}
-use Rattle.report.specs.Lines.{inBp, inUs, inBoth, nameOf, figuresOf, masterLine}
+use Rattle.text.specs.Text.{word, _·_, places, holds, widthOf, decimal, texts}
+use Rattle.lines.specs.Lines.{inBp, inUs, inBoth, nameOf, figuresOf, masterLine}
 use Rattle.report.specs.Whole.{masterOf, mastersOf, segmentReport, firstKind, reportOf}
 
 -- N = 2; master 1 has two streams, master 2 one; all C = 203, T = D = 100,000

@@ -1,4 +1,5 @@
 -- Page 01, 'Sheets worked by hand': the whole report of a sheet, from its bytes alone. Assumes nothing.
+use mathlib.Core.Path.{_≡_}
 use Prim.Native.Nat.{ℕ, _+_}
 use mathlib.Core.List.{List, [], _++_}
 use mathlib.Core.Bool.{cond}
@@ -7,6 +8,7 @@ use lib.ListN.{length, drop}
 use Rattle.common.specs.Checks.{Verdict, verdict}
 use Rattle.common.specs.Checks.Verdict.{Passed, Refused}
 use Rattle.units.specs.Units.{bp, us}
+use Rattle.units.specs.declared.Micros.{Micros}
 use Rattle.reader.specs.Walk.{foundAt}
 use Rattle.reader.specs.declared.Found.{Found}
 use Rattle.reader.specs.declared.Found.the-variants as found
@@ -22,12 +24,17 @@ use Rattle.table.specs.Traffic.{Traffic, microcycle, slots, rows, rowOf, identi
 use Rattle.worldfip.specs.Answer.{trafficOf, planChecks}
 use Rattle.report.specs.declared.Reported.{Reported}
 use Rattle.report.specs.declared.Reported.the-variants as answer
-use Rattle.report.specs.Text.{word, _·_, texts}
-use Rattle.report.specs.Lines.{masterLine, ringText, tableText, refusalText}
+use Rattle.text.specs.Text.{word, _·_, item, texts}
+use Rattle.lines.specs.Lines.{masterLine, ringText, rowLine, tableHead, refusalText}
 
 -- no report is longer
 abbrev pub mostText : ℕ
 mostText = 1613930
+
+-- n zeros
+pub record Zeros (n : ℕ) (run : List ℕ) : Type 0 where
+  pub long : n ≡ length run
+  pub each : (i : ℕ) → item run i ≡ 0
 
 -- ---- P-NET
 
@@ -51,6 +58,13 @@ ringReport (ring.Target rotation stream) = ringText rotation stream
 ringReport (ring.Refused n p) = refusalText n p
 
 -- ---- WorldFIP
+
+unfoldable pub rowAt : (ℕ → ℕ) → (ℕ → ℕ) → ℕ → List ℕ
+rowAt row name m = rowLine m (row m) name
+
+-- the lines of a table
+unfoldable pub tableText : Micros → ℕ → ℕ → (ℕ → ℕ) → (ℕ → ℕ) → List ℕ
+tableText microcycle slots rows row name = tableHead microcycle slots rows · texts (rowAt row name) rows
 
 -- the table that a sheet asks for, identifiers by rank
 unfoldable pub tableOf : Traffic → List ℕ

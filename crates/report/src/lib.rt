@@ -1,12 +1,9 @@
 // The report of a plan as text, page 01 'Sheets worked by hand'.
-mod lines;
-mod text;
-
 use lines::put_head;
-use lines::put_masters;
+use lines::put_master;
 use lines::put_refusal;
 use lines::put_ring;
-use lines::put_rows;
+use lines::put_row;
 use text::put_word;
 use units::Micros;
 ghost use mathlib.Core.Path.{_≡_};
@@ -17,9 +14,9 @@ ghost use Rattle.sheet.specs.Whole.{reading};
 ghost use Rattle.profibus.specs.Planned.{planOf as ringPlan};
 ghost use Rattle.units.specs.Units.{us};
 ghost use Rattle.pnet.specs.Planned.{planned};
-ghost use Rattle.report.specs.Text.{Zeros, Wrote, item};
-ghost use Rattle.report.specs.Lines.{segmentText, tableText};
-ghost use Rattle.report.specs.Whole.{mostText, segmentReport, ringReport, tableReport, firstKind, reportOf, answerOf, runOf};
+ghost use Rattle.text.specs.Text.{Wrote, item, texts};
+ghost use Rattle.report.specs.Arrays.{masterAt, segmentText};
+ghost use Rattle.report.specs.Whole.{mostText, Zeros, segmentReport, ringReport, rowAt, tableText, tableReport, firstKind, reportOf, answerOf, runOf};
 
 // The first bytes of a sheet decide its report: a buffer of so many serves, however long the sheet is.
 pub const ENOUGH: usize = 9_614;
@@ -47,9 +44,29 @@ pub fn text_buffer() -> [u8; MOST_TEXT]
     [0; MOST_TEXT]
 }
 
+// The lines of the first n masters.
+fn put_masters(
+    out: &mut [u8],
+    at: usize,
+    bound: &[u32],
+    refined: &[u32],
+    rounds: &[u32],
+    n: usize,
+) -> usize
+    requires { ⌜ (n ≤ length (now bound)) × (n ≤ length (now refined)) × (n ≤ length (now rounds)) ⌝ }
+    ensures { λ r. ⌜ Wrote (now (out .entry)) at (texts (masterAt (item (now (bound .entry))) (item (now (refined .entry))) (item (now (rounds .entry)))) n) (now (out .exit)) r ⌝ }
+{
+    let mut next = at;
+    let mut i = 0;
+    while i < n {
+        next = put_master(out, next, i as u64 + 1, bound[i], refined[i], rounds[i]);
+        i += 1;
+    }
+    next
+}
+
 fn put_segment(out: &mut [u8], bound: &[u32], refined: &[u32], rounds: &[u32], n: usize) -> usize
     requires { ⌜ (n ≤ length (now bound)) × (n ≤ length (now refined)) × (n ≤ length (now rounds)) ⌝ }
-    requires { ⌜ (n ≤ 32) × (mostText ≤ length (now out)) ⌝ }
     ensures { λ r. ⌜ Wrote (now (out .entry)) 0 (segmentText (item (now (bound .entry))) (item (now (refined .entry))) (item (now (rounds .entry))) n) (now (out .exit)) r ⌝ }
 {
     let lines = put_word(out, 0, b"P-NET segment\n");
@@ -58,7 +75,6 @@ fn put_segment(out: &mut [u8], bound: &[u32], refined: &[u32], rounds: &[u32], n
 
 // 32 places hold every segment, so 13 never shows.
 fn segment_report(s: &[u8], out: &mut [u8]) -> usize
-    requires { ⌜ mostText ≤ length (now out) ⌝ }
     ensures { λ r. ⌜ Wrote (now (out .entry)) 0 (segmentReport (planned (now (s .entry)) 32 32 32)) (now (out .exit)) r ⌝ }
 {
     let mut bound = [0u32; 32];
@@ -74,7 +90,6 @@ fn segment_report(s: &[u8], out: &mut [u8]) -> usize
 }
 
 fn ring_report(s: &[u8], out: &mut [u8]) -> usize
-    requires { ⌜ mostText ≤ length (now out) ⌝ }
     ensures { λ r. ⌜ Wrote (now (out .entry)) 0 (ringReport (ringPlan (reading (now (s .entry))))) (now (out .exit)) r ⌝ }
 {
     match profibus::plan(s) {
@@ -83,15 +98,29 @@ fn ring_report(s: &[u8], out: &mut [u8]) -> usize
     }
 }
 
+// The first `count` rows.
+fn put_rows(out: &mut [u8], at: usize, rows: &[u64], count: usize, names: &[u16; 64]) -> usize
+    requires { ⌜ count ≤ length (now rows) ⌝ }
+    ensures { λ r. ⌜ Wrote (now (out .entry)) at (texts (rowAt (item (now (rows .entry))) (item (now (names .entry)))) count) (now (out .exit)) r ⌝ }
+{
+    let mut next = at;
+    let mut m = 0;
+    while m < count {
+        next = put_row(out, next, m as u64, rows[m], names);
+        m += 1;
+    }
+    next
+}
+
 fn put_table(
     out: &mut [u8],
     microcycle: u32,
     slots: u32,
     count: u32,
     rows: &[u64],
-    names: &[u16],
+    names: &[u16; 64],
 ) -> usize
-    requires { ⌜ (count ≤ length (now rows)) × (count ≤ 4096) × (64 ≤ length (now names)) × (mostText ≤ length (now out)) ⌝ }
+    requires { ⌜ count ≤ length (now rows) ⌝ }
     ensures { λ r. ⌜ Wrote (now (out .entry)) 0 (tableText (us microcycle) slots count (item (now (rows .entry))) (item (now (names .entry)))) (now (out .exit)) r ⌝ }
 {
     let next = put_head(
@@ -106,7 +135,6 @@ fn put_table(
 
 // 4,096 places hold every table, so 13 never shows.
 fn table_report(s: &[u8], out: &mut [u8]) -> usize
-    requires { ⌜ mostText ≤ length (now out) ⌝ }
     ensures { λ r. ⌜ Wrote (now (out .entry)) 0 (tableReport (reading (now (s .entry)))) (now (out .exit)) r ⌝ }
 {
     let mut table = [0u64; 4096];
@@ -125,7 +153,7 @@ fn table_report(s: &[u8], out: &mut [u8]) -> usize
 
 // The report of a sheet whose first record has this kind: it picks the planner.
 fn put_report(s: &[u8], first: u8, out: &mut [u8]) -> usize
-    requires { ⌜ (first ≡ firstKind (now s)) × (mostText ≤ length (now out)) ⌝ }
+    requires { ⌜ first ≡ firstKind (now s) ⌝ }
     ensures { λ r. ⌜ Wrote (now (out .entry)) 0 (reportOf (now (s .entry))) (now (out .exit)) r ⌝ }
 {
     if first == 3 {

@@ -36,7 +36,7 @@ same-length : tie.Need-same-length
 same-length c = search needs
 
 returns : tie.Need-returns
-returns c = rw (profibus (now (c .before .before .before .before .before .before .before .args .s)) (sym (c .before .before .before .before .before .before .before .pre .0) ∙ c .before .before .before .before .if1 .taken)) (c .before .before .ring-report .ensures)
+returns c = rw (profibus (now (c .before .before .before .before .before .before .before .args .s)) (sym (c .before .before .before .before .before .before .before .pre) ∙ c .before .before .before .before .if1 .taken)) (c .before .before .ring-report .ensures)
 
 table-report-requires : tie.Need-table-report-requires
 table-report-requires c κs = search needs
@@ -45,7 +45,7 @@ same-length-2 : tie.Need-same-length-2
 same-length-2 c = search needs
 
 returns-2 : tie.Need-returns-2
-returns-2 c = rw (worldfip (now (c .before .before .before .before .before .before .before .before .args .s)) (λ e. c .before .before .before .before .before .if1 .left (c .before .before .before .before .before .before .before .before .pre .0 ∙ e)) (sym (c .before .before .before .before .before .before .before .before .pre .0) ∙ c .before .before .before .before .if2 .taken)) (c .before .before .table-report .ensures)
+returns-2 c = rw (worldfip (now (c .before .before .before .before .before .before .before .before .args .s)) (λ e. c .before .before .before .before .before .if1 .left (c .before .before .before .before .before .before .before .before .pre ∙ e)) (sym (c .before .before .before .before .before .before .before .before .pre) ∙ c .before .before .before .before .if2 .taken)) (c .before .before .table-report .ensures)
 
 segment-report-requires : tie.Need-segment-report-requires
 segment-report-requires c κs = search needs
@@ -54,7 +54,7 @@ same-length-3 : tie.Need-same-length-3
 same-length-3 c = search needs
 
 returns-3 : tie.Need-returns-3
-returns-3 c = rw (pnet (now (c .before .before .before .before .before .before .before .before .args .s)) (λ e. c .before .before .before .before .before .if1 .left (c .before .before .before .before .before .before .before .before .pre .0 ∙ e)) (λ e. c .before .before .before .before .if2 .left (c .before .before .before .before .before .before .before .before .pre .0 ∙ e))) (c .before .before .segment-report .ensures)
+returns-3 c = rw (pnet (now (c .before .before .before .before .before .before .before .before .args .s)) (λ e. c .before .before .before .before .before .if1 .left (c .before .before .before .before .before .before .before .before .pre ∙ e)) (λ e. c .before .before .before .before .if2 .left (c .before .before .before .before .before .before .before .before .pre ∙ e))) (c .before .before .segment-report .ensures)
 
 pub put-report-spec : {M : Type 1} → statement M
 put-report-spec =

@@ -1,11 +1,7 @@
 -- `report::put_segment` stores the heading and the masters' lines. Assumes nothing.
-use native.Mathlib.Omega.{arith}
 use borrow.Author.Needs.{needs}
-use denote.Ref.{now}
-use Rattle.report.specs.Text.{item, texts}
-use Rattle.report.specs.Lines.{masterAt, segmentText}
-use Rattle.report.proofs.Lengths.{segment-most}
-use Rattle.report.proofs.Writing.{wrote-then, room-before, room-after}
+use Rattle.report.specs.Arrays.{segmentText}
+use Rattle.text.proofs.Writing.{wrote-then}
 use Rattle.report.proofs.put_segment.Statement.{statement}
 use Rattle.report.proofs.put_segment.Tie as tie
 
@@ -13,16 +9,10 @@ slice-aggregate-put-word : tie.Need-slice-aggregate-put-word
 slice-aggregate-put-word c = search needs
 
 put-word-requires : tie.Need-put-word-requires
-unfolding segmentText
-put-word-requires c κs =
-    let start = c .before .before .before .before .before .before in
-    room-before (texts (masterAt (item (now (start .args .bound))) (item (now (start .args .refined))) (item (now (start .args .rounds)))) (start .args .n)) (record { fits = omega (arith, start .pre .1, segment-most (item (now (start .args .bound))) (item (now (start .args .refined))) (item (now (start .args .rounds))) (start .args .n)) })
+put-word-requires c κs = search needs
 
 put-masters-requires : tie.Need-put-masters-requires
-unfolding segmentText
-put-masters-requires c κs =
-    let start = c .before .before .before .before .before .before .before .before .before .before in
-    (start .pre .0, room-after (c .before .before .before .put-word .ensures) {q = texts (masterAt (item (now (start .args .bound))) (item (now (start .args .refined))) (item (now (start .args .rounds)))) (start .args .n)} (record { fits = omega (arith, start .pre .1, segment-most (item (now (start .args .bound))) (item (now (start .args .refined))) (item (now (start .args .rounds))) (start .args .n)) }))
+put-masters-requires c κs = c .before .before .before .before .before .before .before .before .before .before .pre
 
 same-length : tie.Need-same-length
 same-length c = search needs

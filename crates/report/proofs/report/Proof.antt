@@ -7,7 +7,7 @@ use denote.Ref.{now}
 use Rattle.report.specs.Whole.{mostText, answerOf, runOf}
 use Rattle.report.specs.declared.Reported.the-variants as answer
 use Rattle.report.proofs.Longest.{no-report-longer}
-use Rattle.report.proofs.Writing.{wrote-front}
+use Rattle.text.proofs.Writing.{wrote-front}
 use Rattle.report.proofs.report.Statement.{statement}
 use Rattle.report.proofs.report.Tie as tie
 

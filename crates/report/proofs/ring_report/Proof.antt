@@ -1,8 +1,6 @@
 -- `report::ring_report` stores the report of a PROFIBUS plan. Assumes nothing.
-use native.Mathlib.Omega.{arith}
 use borrow.Author.Needs.{needs}
 use Rattle.report.specs.Whole.{ringReport}
-use Rattle.report.proofs.Lengths.{ring-most, refusal-most}
 use Rattle.report.proofs.ring_report.Statement.{statement}
 use Rattle.report.proofs.ring_report.Tie as tie
 
@@ -13,13 +11,13 @@ enum-known-rotation : tie.Need-enum-known-rotation
 enum-known-rotation c = search needs
 
 put-ring-requires : tie.Need-put-ring-requires
-put-ring-requires c κs = record { fits = omega (arith, ring-most (c .before .before .rotation .given .0 .0) (c .before .before .rotation .given .0 .1 .0), c .before .before .before .before .before .before .before .pre) }
+put-ring-requires c κs = search needs
 
 enum-known-no : tie.Need-enum-known-no
 enum-known-no c = search needs
 
 put-refusal-requires : tie.Need-put-refusal-requires
-put-refusal-requires c κs = record { fits = omega (arith, refusal-most (c .before .before .no .given .0 .0) (c .before .before .no .given .0 .1 .0), c .before .before .before .before .before .before .before .pre) }
+put-refusal-requires c κs = search needs
 
 same-length : tie.Need-same-length
 same-length c = search needs

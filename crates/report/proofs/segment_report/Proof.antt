@@ -7,7 +7,6 @@ use borrow.Author.Needs.{needs}
 use denote.Ref.{now}
 use lib.ListN.{replicate}
 use Rattle.report.proofs.Segments.{segment-of-runs, segment-refused}
-use Rattle.report.proofs.Lengths.{refusal-most}
 use Rattle.report.proofs.segment_report.Statement.{statement}
 use Rattle.report.proofs.segment_report.Tie as tie
 
@@ -43,13 +42,13 @@ put-segment-requires : tie.Need-put-segment-requires
 put-segment-requires c κs =
     let f = segment-of-runs (now (c .before .before .before .before .before .before .before .before .before .before .before .before .before .before .before .before .args .s)) _ _ _ _ _ zeros zeros zeros (sym (c .before .before .before .before .before .masters .given .1) ∙ c .before .before .before .before .before .before .before .before .before .before .plan .ensures .0) (c .before .before .before .before .before .before .before .before .before .before .plan .ensures .1 .0) (c .before .before .before .before .before .before .before .before .before .before .plan .ensures .1 .1 .0) (c .before .before .before .before .before .before .before .before .before .before .plan .ensures .1 .1 .1) in
     let k = c .before .before .before .before .before .before .before .before .before .before .plan .kept in
-    ((omega (arith, f .0, k .1 .0), omega (arith, f .0, k .1 .1 .0), omega (arith, f .0, k .1 .1 .1 .0)), (f .0, c .before .before .before .before .before .before .before .before .before .before .before .before .before .before .before .before .pre))
+    (omega (arith, f .0, k .1 .0), omega (arith, f .0, k .1 .1 .0), omega (arith, f .0, k .1 .1 .1 .0))
 
 enum-known-no : tie.Need-enum-known-no
 enum-known-no c = search needs
 
 put-refusal-requires : tie.Need-put-refusal-requires
-put-refusal-requires c κs = record { fits = omega (arith, refusal-most (c .before .before .no .given .0 .0) (c .before .before .no .given .0 .1 .0), c .before .before .before .before .before .before .before .before .before .before .before .before .before .pre) }
+put-refusal-requires c κs = search needs
 
 same-length : tie.Need-same-length
 same-length c = search needs

@@ -1,13 +1,11 @@
 -- `report::table_report` stores the report of a WorldFIP sheet. Assumes nothing.
-use mathlib.Core.Path.{refl, sym, ap, _∙_}
+use mathlib.Core.Path.{refl, sym, _∙_}
 use mathlib.Core.List.{List}
 use Prim.Native.Nat.{ℕ}
 use native.Mathlib.Omega.{arith}
 use borrow.Author.Needs.{needs}
-use lib.ListN.{length, replicate}
-use Rattle.common.proofs.Runs.{length-tab}
+use lib.ListN.{replicate}
 use Rattle.report.proofs.Tables.{table-of-run, table-refused}
-use Rattle.report.proofs.Lengths.{refusal-most}
 use Rattle.report.proofs.table_report.Statement.{statement}
 use Rattle.report.proofs.table_report.Tie as tie
 
@@ -30,20 +28,16 @@ identifiers-requires c κs = search needs
 slice-aggregate-put-table : tie.Need-slice-aggregate-put-table
 slice-aggregate-put-table c = search needs
 
-slice-aggregate-put-table-2 : tie.Need-slice-aggregate-put-table-2
-slice-aggregate-put-table-2 c = search needs
-
 put-table-requires : tie.Need-put-table-requires
 put-table-requires c κs =
     let f = table-of-run _ _ _ _ _ _ zeros refl (sym (c .before .before .before .before .before .microcycle .given .1) ∙ c .before .before .before .before .before .before .before .before .plan .ensures .0) (c .before .before .before .before .before .before .before .before .plan .ensures .1) (c .before .before .before .identifiers .ensures) in
-    let l = ap length (c .before .before .before .identifiers .ensures) ∙ length-tab _ 64 in
-    (omega (arith, f .0, c .before .before .before .before .before .before .before .before .plan .kept .1 .0), f .0, omega (arith, l), c .before .before .before .before .before .before .before .before .before .before .before .before .pre)
+    omega (arith, f .0, c .before .before .before .before .before .before .before .before .plan .kept .1 .0)
 
 enum-known-no : tie.Need-enum-known-no
 enum-known-no c = search needs
 
 put-refusal-requires : tie.Need-put-refusal-requires
-put-refusal-requires c κs = record { fits = omega (arith, refusal-most (c .before .before .no .given .0 .0) (c .before .before .no .given .0 .1 .0), c .before .before .before .before .before .before .before .before .before .pre) }
+put-refusal-requires c κs = search needs
 
 same-length : tie.Need-same-length
 same-length c = search needs
@@ -59,4 +53,4 @@ returns-2 c = rw (table-refused _ _ _ (sym (c .before .before .before .before .b
 
 pub table-report-spec : {M : Type 1} → statement M
 table-report-spec =
-    tie.close (tie.spec slice-aggregate-plan plan-requires enum-known-microcycle identifiers-requires slice-aggregate-put-table slice-aggregate-put-table-2 put-table-requires enum-known-no put-refusal-requires same-length returns same-length-2 returns-2)
+    tie.close (tie.spec slice-aggregate-plan plan-requires enum-known-microcycle identifiers-requires slice-aggregate-put-table put-table-requires enum-known-no put-refusal-requires same-length returns same-length-2 returns-2)

@@ -1,0 +1,81 @@
+-- Page 01, 'Sheets worked by hand': the report's lines, each ended by one newline. Words do not change with the count. Assumes nothing.
+use Prim.Native.Nat.{ℕ, _/_, _%_, _^_}
+use mathlib.Core.List.{List, []}
+use mathlib.Core.Bool.{cond}
+use lib.Dec.{leb, eqb}
+use Rattle.profibus.specs.declared.answer.RingPeriods.{RingPeriods}
+use Rattle.units.specs.Units.{bp, microsUp}
+use Rattle.units.specs.declared.BitPeriods.{BitPeriods}
+use Rattle.units.specs.declared.Micros.{Micros}
+use Rattle.text.specs.Text.{word, places, decimal, _·_, texts}
+
+-- ---- Counts with their unit
+
+unfoldable pub inBp : BitPeriods → List ℕ
+inBp b = decimal (b .0) · word " bp"
+
+unfoldable pub inUs : Micros → List ℕ
+inUs u = decimal (u .0) · word " us"
+
+-- a bound in both units, the us rounded up
+unfoldable pub inBoth : BitPeriods → List ℕ
+inBoth b = inBp b · word " " · inUs (microsUp b)
+
+-- ---- P-NET
+
+-- master numbers have two digits
+unfoldable pub nameOf : ℕ → List ℕ
+nameOf k = word "M" · places 2 k
+
+-- R and W
+unfoldable pub figuresOf : BitPeriods → BitPeriods → List ℕ
+figuresOf bound refined = word " bound " · inBoth bound · word " refined " · inBoth refined
+
+-- the line of master k
+unfoldable pub masterLine : ℕ → BitPeriods → BitPeriods → ℕ → List ℕ
+masterLine k bound refined rounds = nameOf k · figuresOf bound refined · word " " · decimal rounds · word " rounds\n"
+
+-- a master without streams, whose bound is 0, has no line
+unfoldable pub masterText : ℕ → ℕ → ℕ → ℕ → List ℕ
+masterText k bound refined rounds = cond (eqb bound 0) [] (masterLine k (bp bound) (bp refined) rounds)
+
+-- ---- PROFIBUS
+
+-- the rotation time, in bp of that ring, and the stream that limits it
+unfoldable pub ringText : RingPeriods → ℕ → List ℕ
+ringText rotation stream =
+    word "PROFIBUS ring\n" · word "TTR " · decimal (rotation .0) · word " bp" · word " limited by stream " · decimal stream · word "\n"
+
+-- ---- WorldFIP
+
+-- an identifier, if its bit is set
+unfoldable pub nameText : ℕ → ℕ → List ℕ
+nameText bit name = cond (eqb bit 1) (word " " · decimal name) []
+
+-- the identifier of rank r, if bit r of the row is set
+unfoldable pub nameAt : ℕ → (ℕ → ℕ) → ℕ → List ℕ
+nameAt row name r = nameText (row / 2 ^ r % 2) (name r)
+
+-- row m: the identifiers of the ranks that it serves, of the 64, best first
+unfoldable pub rowLine : ℕ → ℕ → (ℕ → ℕ) → List ℕ
+rowLine m row name = word "row " · decimal m · word ":" · texts (nameAt row name) 64 · word "\n"
+
+-- the first two lines
+unfoldable pub tableHead : Micros → ℕ → ℕ → List ℕ
+tableHead microcycle slots rows =
+    word "WorldFIP table\n" · word "microcycle " · inUs microcycle · word " " · decimal slots · word " slots" · word " " · decimal rows · word " rows\n"
+
+-- ---- Refusals
+
+-- what a refusal's place is: nothing is said of that of 10 and 11
+unfoldable pub placeText : ℕ → ℕ → List ℕ
+placeText n p =
+    cond (leb n 7) (word " at byte " · decimal p)
+    (cond (leb n 9) (word " at stream " · decimal p) (cond (eqb n 12) (word " at variable " · decimal p) []))
+
+unfoldable pub placeEnd : ℕ → ℕ → List ℕ
+placeEnd n p = placeText n p · word "\n"
+
+-- the whole report of refusal n with place p
+unfoldable pub refusalText : ℕ → ℕ → List ℕ
+refusalText n p = word "refused " · decimal n · placeEnd n p
