@@ -4,7 +4,7 @@ use mathlib.Core.Path.{_≡_, refl, sym, ap, subst, _∙_}
 use mathlib.Core.Bool.{Bool, true, false, cond, not, _&&_}
 use native.Mathlib.Omega.{arith}
 use borrow.Author.Tests.{lt-ltb, le-ltb, le-leb, lt-leb, leb-true, leb-false, ltb-false, not-false}
-use lib.Dec.{leb, eqb}
+use lib.Dec.{ltb, leb, eqb}
 use lib.ListN.{length, getD}
 use mathlib.Core.List.{List, [], _∷_}
 use Rattle.common.specs.Checks.{check, verdict}
@@ -68,13 +68,13 @@ within-min i n top = ap (λ (b : Bool). leb 1 i && b) (split (leb i top) (leb i 
     split true false p q = let b = leb-false i n q in rw (p, q) (sym (lt-leb i (min n top) (omega arith)))
     split false y p q = let a = leb-false i top p in rw p (sym (lt-leb i (min n top) (omega arith)))
 
--- it has a place
-pub within-most : (i n top : ℕ) → within 1 i (min n top) ≡ true → (1 ≤ i) × (i ≤ top)
+-- and lies within it
+pub within-to : (i n : ℕ) → within 1 i n ≡ true → (1 ≤ i) × (i ≤ n)
 unfolding within
-within-most i n top h = split (leb 1 i) (leb i (min n top)) refl refl h
+within-to i n h = split (leb 1 i) (leb i n) refl refl h
   where
-    split : (x y : Bool) → leb 1 i ≡ x → leb i (min n top) ≡ y → (x && y) ≡ true → (1 ≤ i) × (i ≤ top)
-    split true true p q e = let a = leb-true i (min n top) q in (leb-true 1 i p, omega arith)
+    split : (x y : Bool) → leb 1 i ≡ x → leb i n ≡ y → (x && y) ≡ true → (1 ≤ i) × (i ≤ n)
+    split true true p q e = (leb-true 1 i p, leb-true i n q)
     split true false p q e = let z : _≡_ {A = ℕ} 0 1 = ap (λ (b : Bool). cond b 1 0) e in absurd (omega arith)
     split false y p q e = let z : _≡_ {A = ℕ} 0 1 = ap (λ (b : Bool). cond b 1 0) e in absurd (omega arith)
 
@@ -96,13 +96,20 @@ module _ (c : List ℕ) (n : ℕ) (b : Before) (j : ℕ) where
   abbrev here : Event
   here = eventAt c (size * j)
 
-  pub passed-by : noOf (judge c n b j) ≡ 0 → judge c n b j ≡ Passed
+  abbrev waiting : ℕ
+  waiting = left b (eventsIn c j) (here .stream)
+
+  by-number : (noOf (judge c n b j) ≡ 0 → judge c n b j ≡ Passed) × ((noOf (judge c n b j) ≡ 0 → ⊥) → judge c n b j ≡ Refused (noOf (judge c n b j)) (size * j))
   unfolding judge eventChecks
-  passed-by = five _ _ _ _ _ (size * j) .0
+  by-number =
+      five (not (known (here .kind))) (ltb (length c) (size * j + size)) (not (within 1 (here .stream) n))
+      (eqb (here .kind) 17 && eqb waiting 0) (eqb (here .kind) 16 && not (eqb waiting 0)) (size * j)
+
+  pub passed-by : noOf (judge c n b j) ≡ 0 → judge c n b j ≡ Passed
+  passed-by = by-number .0
 
   pub refused-by : (noOf (judge c n b j) ≡ 0 → ⊥) → judge c n b j ≡ Refused (noOf (judge c n b j)) (size * j)
-  unfolding judge eventChecks
-  refused-by = five _ _ _ _ _ (size * j) .1
+  refused-by = by-number .1
 
   -- what a record that passes is
   pub record Whole : Type 0 where
@@ -112,7 +119,7 @@ module _ (c : List ℕ) (n : ℕ) (b : Before) (j : ℕ) where
 
   pub whole-if : judge c n b j ≡ Passed → Whole
   unfolding judge eventChecks
-  whole-if p = tell (passed-then _ p)
+  whole-if p = tell (passed-then (eventChecks (length c) n waiting (size * j) here) p)
     where
-      tell : Clear (eventChecks (length c) n (left b (eventsIn c j) (here .stream)) (size * j) here) → Whole
+      tell : Clear (eventChecks (length c) n waiting (size * j) here) → Whole
       tell (and k (and h (and s (and x (and y none))))) = record { is-known = not-false _ k; ends = ltb-false _ _ h; on = not-false _ s }

@@ -41,16 +41,29 @@ module _ (b : Before) (es : List Event) (e : Event) (i : ℕ) where
     unfolding above
     above-other R = rw answers-not (omega arith)
 
-  module _ (own : e .stream ≡ i) where
-    -- a request
-    module _ (is : e .kind ≡ 16) where
+  -- a request
+  module _ (is : e .kind ≡ 16) where
+    unanswered : answers e i ≡ false
+    unfolding answers
+    unanswered = rw (ne-eqb (e .kind) 17 (λ h. omega (arith, is, h))) refl
+
+    pub answered-request : answered (e ∷ es) i ≡ answered es i
+    unfolding answered
+    answered-request = rw unanswered (omega arith)
+
+    pub largest-request : largest b (e ∷ es) i ≡ largest b es i
+    unfolding largest
+    largest-request = rw unanswered (omega arith)
+
+    pub above-request : (R : ℕ) → above b R (e ∷ es) i ≡ above b R es i
+    unfolding above
+    above-request R = rw unanswered (omega arith)
+
+    -- of this stream
+    module _ (own : e .stream ≡ i) where
       asked : asks e i ≡ true
       unfolding asks
       asked = rw (eq-eqb (e .stream) i own, eq-eqb (e .kind) 16 is) refl
-
-      unanswered : answers e i ≡ false
-      unfolding answers
-      unanswered = rw (ne-eqb (e .kind) 17 (λ h. omega (arith, is, h))) refl
 
       pub left-request : left b (e ∷ es) i ≡ 1
       unfolding left
@@ -60,24 +73,17 @@ module _ (b : Before) (es : List Event) (e : Event) (i : ℕ) where
       unfolding since
       since-request = rw asked refl
 
-      pub answered-request : answered (e ∷ es) i ≡ answered es i
-      unfolding answered
-      answered-request = rw unanswered (omega arith)
+  -- an answer
+  module _ (is : e .kind ≡ 17) where
+    unasked : asks e i ≡ false
+    unfolding asks
+    unasked = rw (ne-eqb (e .kind) 16 (λ h. omega (arith, is, h))) refl
 
-      pub largest-request : largest b (e ∷ es) i ≡ largest b es i
-      unfolding largest
-      largest-request = rw unanswered (omega arith)
+    pub since-answer : since b (e ∷ es) i ≡ since b es i
+    unfolding since
+    since-answer = rw unasked refl
 
-      pub above-request : (R : ℕ) → above b R (e ∷ es) i ≡ above b R es i
-      unfolding above
-      above-request R = rw unanswered (omega arith)
-
-    -- an answer
-    module _ (is : e .kind ≡ 17) where
-      unasked : asks e i ≡ false
-      unfolding asks
-      unasked = rw (ne-eqb (e .kind) 16 (λ h. omega (arith, is, h))) refl
-
+    module _ (own : e .stream ≡ i) where
       answers-it : answers e i ≡ true
       unfolding answers
       answers-it = rw (eq-eqb (e .stream) i own, eq-eqb (e .kind) 17 is) refl
@@ -85,10 +91,6 @@ module _ (b : Before) (es : List Event) (e : Event) (i : ℕ) where
       pub left-answer : left b (e ∷ es) i ≡ 0
       unfolding left
       left-answer = rw (unasked, answers-it) refl
-
-      pub since-answer : since b (e ∷ es) i ≡ since b es i
-      unfolding since
-      since-answer = rw unasked refl
 
       pub answered-answer : answered (e ∷ es) i ≡ 1 + answered es i
       unfolding answered
