@@ -14,17 +14,19 @@ use Rattle.common.specs.Runs.{filled}
 use Rattle.common.proofs.Checks.{Applies, refused-if}
 use Rattle.common.proofs.Checks.Applies.{here, later}
 use Rattle.common.proofs.Runs.{filled-at}
+use Rattle.format.specs.declared.Met.{Met}
 use Rattle.sheet.specs.Sheets.{Sheet}
 use Rattle.sheet.specs.Whole.{Outcome, orElse, reading}
 use Rattle.sheet.specs.Whole.Outcome.{Read, Not}
 use Rattle.sheet.specs.Steps.{sheetIn, Ready}
 use Rattle.sheet.proofs.Taken.{ready-streams}
-use Rattle.segment.specs.Segment.{Segment, segmentOf, bound}
+use Rattle.segment.specs.Segment as Segment
+use Rattle.segment.specs.Segment.{segmentOf, bound}
 use Rattle.pnet.specs.Planned.{firstLate, segmentChecks, planChecks, plannedBy, planned, planOf, atPlace, runOf}
 use Rattle.pnet.specs.declared.answer.Plan.{Plan}
 use Rattle.pnet.specs.declared.answer.Plan.the-variants as answer
 use Rattle.pnet.specs.Arrays.{segmentIn}
-use Rattle.pnet.proofs.Bytes.{declares}
+use Rattle.pnet.proofs.Bytes.{Here, declares, number-is}
 use Rattle.capture.specs.Compared.{boundedBy, bounded, boundOf, masterOf, streamRun}
 
 -- ---- What is refused
@@ -78,3 +80,32 @@ module _ {s : List ℕ} {first n : ℕ} (ready : Ready s 1 first n) (room : ℕ)
       let b : (ltb 32 (H .head .a) || (ltb 32 (H .head .a) || ltb 32 (H .head .a))) ≡ false = rw t in
       checked s room H (ready .reads)
       ∙ (ap (λ (v : Verdict). orElse v (Read H)) (no-short H _ _ (length (H .streams)) (H .head .a) a b) ∙ sym planned-checked)
+
+-- ---- Stream by stream
+
+-- the record met is stream i + 1: its master has a place among 32, which holds the stream's bound
+pub record Stream (s : List ℕ) (n i : ℕ) (each : List ℕ) (a : ℕ) : Type 0 where
+  pub inside : i < 800
+  pub from : 1 ≤ a
+  pub to : a ≤ 32
+  pub master : a ≡ atPlace (masterOf (segmentIn s n)) i
+  pub bounds : getD each (a - 1) 0 ≡ atPlace (boundOf (segmentIn s n)) i
+
+module _ {s : List ℕ} {first n : ℕ} (ready : Ready s 1 first n) (each : List ℕ)
+    (are : (k : ℕ) → 1 ≤ k → k ≤ segmentIn s n .masters → getD each (k - 1) 0 ≡ bound (segmentIn s n) k) where
+  pub stream-of : (i : ℕ) (r : Met) → i < n → Here s n i r → Stream s n i each (r .found .a)
+  unfolding boundOf
+  stream-of i r l h =
+      let S = segmentIn s n in
+      let d = declares ready in
+      let e : r .found .a ≡ S .stream (i + 1) .master = ap (λ (x : Segment.Stream). x .master) (h .stream) in
+      let w = d .ranges (i + 1) (omega arith) (omega (arith, number-is ready)) in
+      let lo : 1 ≤ r .found .a = omega (arith, e, w .master-from) in
+      let hi : r .found .a ≤ S .masters = omega (arith, e, w .master-to) in
+      record {
+        inside = omega (arith, number-is ready, d .number-to);
+        from = lo;
+        to = omega (arith, hi, d .masters-to);
+        master = e;
+        bounds = are (r .found .a) lo hi ∙ ap (bound S) e;
+      }
