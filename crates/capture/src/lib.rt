@@ -39,10 +39,11 @@ fn by_stream(
     first: usize,
     n: usize,
     each: &[u32; 32],
-    masters: &mut [u8; MOST],
-    bound: &mut [u32; MOST],
+    masters: &mut [u8],
+    bound: &mut [u32],
 )
     requires { ⌜ Ready (now s) 1 first n ⌝ }
+    requires { ⌜ (n ≤ length (now masters)) × (n ≤ length (now bound)) ⌝ }
     requires { ⌜ ((k : ℕ) → 1 ≤ k → k ≤ segmentIn (now s) n .masters → getD (now each) (k - 1) 0 ≡ Segment.bound (segmentIn (now s) n) k) ⌝ }
     ensures { λ _. ⌜ now (masters .exit) ≡ filled (atPlace (masterOf (segmentIn (now (s .entry)) n))) n (now (masters .entry)) ⌝ }
     ensures { λ _. ⌜ now (bound .exit) ≡ filled (atPlace (boundOf (segmentIn (now (s .entry)) n))) n (now (bound .entry)) ⌝ }

@@ -1,0 +1,121 @@
+-- `capture::by_stream` meets its contract. The invariant: both runs have their first i places filled, and `at` is the place of the
+-- next stream. Assumes nothing.
+use mathlib.Core.Path.{_≡_}
+use Prim.Native.Nat.{suc, _-_, _≤_}
+use native.Mathlib.Omega.{arith}
+use borrow.Author.Needs.{needs}
+use Rattle.common.proofs.Runs.{Filling, filling-none, filling-more, filling-done}
+use Rattle.sheet.specs.Whole.{placeOf}
+use Rattle.pnet.specs.Planned.{atPlace}
+use Rattle.pnet.specs.Arrays.{segmentIn}
+use Rattle.pnet.proofs.Bytes.{Here, here}
+use Rattle.capture.specs.Compared.{masterOf, boundOf}
+use Rattle.capture.proofs.Bounded.{Placed, placed}
+use Rattle.capture.proofs.by_stream.Statement.{statement}
+use Rattle.capture.proofs.by_stream.Tie as tie
+
+abbrev Inv-loop : tie.InvT-loop
+Inv-loop s first n each masters₀ bound₀ at₀ i₀ masters bound at i =
+    (i ≤ n)
+    × (at ≡ placeOf s (suc i))
+    × Filling (atPlace (masterOf (segmentIn s n))) i masters₀ masters
+    × Filling (atPlace (boundOf (segmentIn s n))) i bound₀ bound
+
+abbrev μ-loop : tie.MeasureT-loop
+μ-loop s first n each masters₀ bound₀ at₀ i₀ masters bound at i = n - i
+
+loop-holds : tie.Need-loop-holds Inv-loop μ-loop
+loop-holds c = (search needs, c .before .before .before .pre .0 .starts, filling-none _ _, filling-none _ _)
+
+record-at-requires : tie.Need-record-at-requires Inv-loop μ-loop
+record-at-requires c κs = search needs
+
+-- the record read is stream i + 1
+its : (c : tie.After-record-at Inv-loop μ-loop)
+    → Here (c .before .before .before .before .before .before .args .s .now) (c .before .before .before .before .before .before .args .n)
+    (c .before .before .loop .i) (c .record-at .result)
+its c =
+    let l = c .before .before .loop in
+    here (c .before .before .before .before .before .before .pre .0) (l .i) (l .at) (c .record-at .result) (omega arith) (l .inv .1)
+    (c .record-at .ensures)
+
+-- and its master and bound are in the arrays
+stream : (c : tie.After-record-at Inv-loop μ-loop)
+    → Placed (c .before .before .before .before .before .before .args .s .now) (c .before .before .before .before .before .before .args .n)
+    (c .before .before .loop .i) (c .before .before .before .before .before .before .args .each .now) (c .record-at .result .found .a)
+stream c =
+    let start = c .before .before .before .before .before .before in
+    placed (start .pre .0) (start .args .each .now) (start .pre .1 .1) (c .before .before .loop .i) (c .record-at .result) (omega arith) (its c)
+
+cast-masters : tie.Need-cast-masters Inv-loop μ-loop
+cast-masters c = omega (arith, stream (c .before .before))
+
+slice-write-masters : tie.Need-slice-write-masters Inv-loop μ-loop
+slice-write-masters c = search needs
+
+cast-bound : tie.Need-cast-bound Inv-loop μ-loop
+cast-bound c = omega (arith, stream (c .before .before .before))
+
+sub-bound : tie.Need-sub-bound Inv-loop μ-loop
+sub-bound c = omega (arith, stream (c .before .before .before))
+
+mul-bound : tie.Need-mul-bound Inv-loop μ-loop
+mul-bound c = omega (arith, stream (c .before .before .before))
+
+element-copy-out-bound : tie.Need-element-copy-out-bound Inv-loop μ-loop
+element-copy-out-bound c = omega (arith, stream (c .before .before .before))
+
+mul-bound-2 : tie.Need-mul-bound-2 Inv-loop μ-loop
+mul-bound-2 c = omega (arith, stream (c .before .before .before .before))
+
+slice-write-bound : tie.Need-slice-write-bound Inv-loop μ-loop
+slice-write-bound c = search needs
+
+add-i : tie.Need-add-i Inv-loop μ-loop
+add-i c = search needs
+
+loop-less : tie.Need-loop-less Inv-loop μ-loop
+loop-less c = search needs
+
+loop-again : tie.Need-loop-again Inv-loop μ-loop
+loop-again c =
+    let x = c .before .before .before .before in
+    let l = x .before .before .loop in
+    let w = stream x in
+    (search needs, its x .next, filling-more _ (l .inv .2) (omega arith) (w .master), filling-more _ (l .inv .3) (omega arith) (w .bounds))
+
+same-length : tie.Need-same-length Inv-loop μ-loop
+same-length c = c .before .loop .inv .2 .long
+
+same-length-2 : tie.Need-same-length-2 Inv-loop μ-loop
+same-length-2 c = c .before .loop .inv .3 .long
+
+returns : tie.Need-returns Inv-loop μ-loop
+returns c =
+    let n = c .before .before .before .before .before .args .n in
+    let l = c .before .loop in
+    let e : l .i ≡ n = omega arith in
+    (filling-done n (l .inv .2) e, filling-done n (l .inv .3) e)
+
+pub by-stream-spec : {M : Type 1} → statement M
+by-stream-spec =
+    tie.close
+    (tie.spec
+    Inv-loop
+    μ-loop
+    loop-holds
+    record-at-requires
+    cast-masters
+    slice-write-masters
+    cast-bound
+    sub-bound
+    mul-bound
+    element-copy-out-bound
+    mul-bound-2
+    slice-write-bound
+    add-i
+    loop-less
+    loop-again
+    same-length
+    same-length-2
+    returns)
