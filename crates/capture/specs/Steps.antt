@@ -3,7 +3,8 @@
 use Prim.Native.Nat.{ℕ, _+_, _-_, _%_, _^_, max}
 use mathlib.Core.Bool.{cond, not, _&&_}
 use mathlib.Core.List.{List}
-use lib.ListN.{getD, set}
+use mathlib.Core.Path.{_≡_}
+use lib.ListN.{length, getD, set}
 use lib.Dec.{ltb, eqb}
 use Rattle.common.specs.Checks.{Verdict}
 use Rattle.common.specs.Checks.Verdict.{Passed, Refused}
@@ -13,6 +14,16 @@ use Rattle.pnet.specs.declared.answer.Plan.{Plan}
 use Rattle.pnet.specs.declared.answer.Plan.the-variants as plan
 use Rattle.log.specs.declared.Event.{Event}
 use Rattle.log.specs.Log.{around}
+use Rattle.capture.specs.Pieces.{most}
+
+-- the runs have 800 places
+pub record Long (bound left since answers largest above : List ℕ) : Type 0 where
+  pub bound-long : length bound ≡ most
+  pub left-long : length left ≡ most
+  pub since-long : length since ≡ most
+  pub answers-long : length answers ≡ most
+  pub largest-long : length largest ≡ most
+  pub above-long : length above ≡ most
 
 -- a refusal's number, 0 for none
 abbrev pub noOf : Verdict → ℕ

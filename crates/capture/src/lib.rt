@@ -22,7 +22,7 @@ ghost use Rattle.log.specs.Log.{fresh};
 ghost use Rattle.log.specs.Records.{eventAt, eventChecks, heard};
 ghost use Rattle.capture.specs.Compared.{bounded, compared, events, boundOf, masterOf, answeredOf, largestOf, aboveOf, leftOf, streamRun};
 ghost use Rattle.capture.specs.Pieces.{most, answerTo, leftAfter, sinceAfter, answersAfter, largestAfter, aboveAfter};
-ghost use Rattle.capture.specs.Steps.{noOf, openNo, spot, planBy, runBy, leftWith, sinceWith, answersWith, largestWith, aboveWith};
+ghost use Rattle.capture.specs.Steps.{Long, noOf, openNo, spot, planBy, runBy, leftWith, sinceWith, answersWith, largestWith, aboveWith};
 
 // No sheet has more streams.
 pub const MOST: usize = 800;
@@ -157,8 +157,8 @@ fn open_no(kind: u8, waiting: u8) -> u8
 }
 
 // The number of a record's refusal, in the order 2, 1, 14, 15, 16; 0 if there is none.
-fn refusal(c: &[u8], at: usize, streams: usize, left: &[u8; MOST]) -> u8
-    requires { ⌜ at < length (now c) ⌝ }
+fn refusal(c: &[u8], at: usize, streams: usize, left: &[u8]) -> u8
+    requires { ⌜ (at < length (now c)) × (length (now left) ≡ most) ⌝ }
     ensures { λ r. ⌜ ((w : ℕ) → (1 ≤ eventAt (now (c .entry)) at .stream → eventAt (now (c .entry)) at .stream ≤ most → w ≡ getD (now (left .entry)) (spot (eventAt (now (c .entry)) at)) 0) → r ≡ noOf (verdict (eventChecks (length (now (c .entry))) (min streams most) w at (eventAt (now (c .entry)) at)))) ⌝ }
 {
     if !log::known(c[at]) {
@@ -178,14 +178,15 @@ fn refusal(c: &[u8], at: usize, streams: usize, left: &[u8; MOST]) -> u8
 // Keeps a record that passed.
 fn keep(
     e: Event,
-    bound: &[u32; MOST],
-    left: &mut [u8; MOST],
-    since: &mut [u32; MOST],
-    answers: &mut [u64; MOST],
-    largest: &mut [u32; MOST],
-    above: &mut [u64; MOST],
+    bound: &[u32],
+    left: &mut [u8],
+    since: &mut [u32],
+    answers: &mut [u64],
+    largest: &mut [u32],
+    above: &mut [u64],
 )
     requires { ⌜ (1 ≤ e .stream) × (e .stream ≤ most) ⌝ }
+    requires { ⌜ Long (now bound) (now left) (now since) (now answers) (now largest) (now above) ⌝ }
     ensures { λ _. ⌜ now (left .exit) ≡ leftWith (now (left .entry)) e ⌝ }
     ensures { λ _. ⌜ now (since .exit) ≡ sinceWith (now (since .entry)) e ⌝ }
     ensures { λ _. ⌜ now (answers .exit) ≡ answersWith (now (answers .entry)) e ⌝ }
@@ -203,6 +204,38 @@ fn keep(
     answers[k] = std::num::wrapping_add_u64(answers[k], 1);
     largest[k] = larger(largest[k], shown);
     above[k] = std::num::wrapping_add_u64(above[k], exceeds(bound[k], shown));
+}
+
+// The records of a piece, one after the other.
+fn take_each(
+    piece: &[u8],
+    streams: usize,
+    bound: &[u32],
+    left: &mut [u8],
+    since: &mut [u32],
+    answers: &mut [u64],
+    largest: &mut [u32],
+    above: &mut [u64],
+) -> Taken
+    requires { ⌜ Long (now bound) (now left) (now since) (now answers) (now largest) (now above) ⌝ }
+    ensures { λ r. ⌜ r ≡ answerTo (now (piece .entry)) streams (now (left .entry)) (now (since .entry)) ⌝ }
+    ensures { λ _. ⌜ now (left .exit) ≡ leftAfter (now (piece .entry)) streams (now (left .entry)) (now (since .entry)) ⌝ }
+    ensures { λ _. ⌜ now (since .exit) ≡ sinceAfter (now (piece .entry)) streams (now (left .entry)) (now (since .entry)) ⌝ }
+    ensures { λ _. ⌜ now (answers .exit) ≡ answersAfter (now (piece .entry)) streams (now (left .entry)) (now (since .entry)) (now (answers .entry)) ⌝ }
+    ensures { λ _. ⌜ now (largest .exit) ≡ largestAfter (now (piece .entry)) streams (now (left .entry)) (now (since .entry)) (now (largest .entry)) ⌝ }
+    ensures { λ _. ⌜ now (above .exit) ≡ aboveAfter (now (piece .entry)) streams (now (bound .entry)) (now (left .entry)) (now (since .entry)) (now (above .entry)) ⌝ }
+{
+    let mut at: usize = 0;
+    while at < piece.len() {
+        let no = refusal(piece, at, streams, left);
+        if no != 0 {
+            return Taken::Refused { no, place: at };
+        }
+        let e = log::event_at(piece, at);
+        keep(e, bound, left, since, answers, largest, above);
+        at += log::SIZE;
+    }
+    Taken::All
 }
 
 // Takes the records of a piece, the next of a capture, behind those whose open requests, stamps and figures the runs keep. A refused
@@ -224,17 +257,7 @@ pub fn take(
     ensures { λ _. ⌜ now (largest .exit) ≡ largestAfter (now (piece .entry)) streams (now (left .entry)) (now (since .entry)) (now (largest .entry)) ⌝ }
     ensures { λ _. ⌜ now (above .exit) ≡ aboveAfter (now (piece .entry)) streams (now (bound .entry)) (now (left .entry)) (now (since .entry)) (now (above .entry)) ⌝ }
 {
-    let mut at: usize = 0;
-    while at < piece.len() {
-        let no = refusal(piece, at, streams, left);
-        if no != 0 {
-            return Taken::Refused { no, place: at };
-        }
-        let e = log::event_at(piece, at);
-        keep(e, bound, left, since, answers, largest, above);
-        at += log::SIZE;
-    }
-    Taken::All
+    take_each(piece, streams, bound, left, since, answers, largest, above)
 }
 
 fn shorter(a: usize, b: usize) -> usize

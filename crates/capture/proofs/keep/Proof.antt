@@ -17,14 +17,20 @@ cast-k c = search needs
 sub-k : tie.Need-sub-k
 sub-k c = search needs
 
-element-write-left : tie.Need-element-write-left
-element-write-left c = search needs
+slice-write-left : tie.Need-slice-write-left
+slice-write-left c = search needs
 
 mul-since : tie.Need-mul-since
 mul-since c = search needs
 
-element-write-since : tie.Need-element-write-since
-element-write-since c = search needs
+slice-write-since : tie.Need-slice-write-since
+slice-write-since c = search needs
+
+same-length : tie.Need-same-length
+same-length c = search needs
+
+same-length-2 : tie.Need-same-length-2
+same-length-2 c = search needs
 
 returns : tie.Need-returns
 unfolding leftWith sinceWith answersWith largestWith aboveWith
@@ -33,20 +39,20 @@ returns c = let k = eq-eqb _ 16 (c .if1 .taken) in (rw k refl, (rw k refl, (rw k
 mul-response : tie.Need-mul-response
 mul-response c = search needs
 
-element-copy-out-response : tie.Need-element-copy-out-response
-element-copy-out-response c = search needs
+slice-read-response : tie.Need-slice-read-response
+slice-read-response c = search needs
 
 response-requires : tie.Need-response-requires
 response-requires c κs = search needs
 
-element-write-left-2 : tie.Need-element-write-left-2
-element-write-left-2 c = search needs
+slice-write-left-2 : tie.Need-slice-write-left-2
+slice-write-left-2 c = search needs
 
 mul-wrapping-add-u64 : tie.Need-mul-wrapping-add-u64
 mul-wrapping-add-u64 c = search needs
 
-element-copy-out-wrapping-add-u64 : tie.Need-element-copy-out-wrapping-add-u64
-element-copy-out-wrapping-add-u64 c = search needs
+slice-read-wrapping-add-u64 : tie.Need-slice-read-wrapping-add-u64
+slice-read-wrapping-add-u64 c = search needs
 
 wrapping-add-u64-requires : tie.Need-wrapping-add-u64-requires
 wrapping-add-u64-requires c κs = search needs
@@ -54,14 +60,14 @@ wrapping-add-u64-requires c κs = search needs
 mul-answers : tie.Need-mul-answers
 mul-answers c = search needs
 
-element-write-answers : tie.Need-element-write-answers
-element-write-answers c = search needs
+slice-write-answers : tie.Need-slice-write-answers
+slice-write-answers c = search needs
 
 mul-larger : tie.Need-mul-larger
 mul-larger c = search needs
 
-element-copy-out-larger : tie.Need-element-copy-out-larger
-element-copy-out-larger c = search needs
+slice-read-larger : tie.Need-slice-read-larger
+slice-read-larger c = search needs
 
 larger-requires : tie.Need-larger-requires
 larger-requires c κs = search needs
@@ -69,20 +75,20 @@ larger-requires c κs = search needs
 mul-largest : tie.Need-mul-largest
 mul-largest c = search needs
 
-element-write-largest : tie.Need-element-write-largest
-element-write-largest c = search needs
+slice-write-largest : tie.Need-slice-write-largest
+slice-write-largest c = search needs
 
 mul-wrapping-add-u64-2 : tie.Need-mul-wrapping-add-u64-2
 mul-wrapping-add-u64-2 c = search needs
 
-element-copy-out-wrapping-add-u64-2 : tie.Need-element-copy-out-wrapping-add-u64-2
-element-copy-out-wrapping-add-u64-2 c = search needs
+slice-read-wrapping-add-u64-2 : tie.Need-slice-read-wrapping-add-u64-2
+slice-read-wrapping-add-u64-2 c = search needs
 
 mul-exceeds : tie.Need-mul-exceeds
 mul-exceeds c = search needs
 
-element-copy-out-exceeds : tie.Need-element-copy-out-exceeds
-element-copy-out-exceeds c = search needs
+shared-slice-read-exceeds : tie.Need-shared-slice-read-exceeds
+shared-slice-read-exceeds c = search needs
 
 exceeds-requires : tie.Need-exceeds-requires
 exceeds-requires c κs = search needs
@@ -93,13 +99,25 @@ wrapping-add-u64-requires-2 c κs = search needs
 mul-above : tie.Need-mul-above
 mul-above c = search needs
 
-element-write-above : tie.Need-element-write-above
-element-write-above c = search needs
+slice-write-above : tie.Need-slice-write-above
+slice-write-above c = search needs
+
+same-length-3 : tie.Need-same-length-3
+same-length-3 c = search needs
+
+same-length-4 : tie.Need-same-length-4
+same-length-4 c = search needs
+
+same-length-5 : tie.Need-same-length-5
+same-length-5 c = search needs
+
+same-length-6 : tie.Need-same-length-6
+same-length-6 c = search needs
 
 returns-2 : tie.Need-returns-2
 unfolding leftWith sinceWith answersWith largestWith aboveWith shownBy
 returns-2 c =
-    let start = c .before .before .before .before .before .before .before .before .before .before .before .before .before in
+    let start = c .before .before .before .before .before .before .before .before .before .before .before .before .before .before .before .before .before .before .before in
     let a = start .args in
     let k = ne-eqb (a .e .kind) 16 (c .before .before .before .before .before .before .before .before .before .before .if1 .left) in
     let shown = c .before .before .before .before .before .before .before .before .response .ensures in (
@@ -123,30 +141,36 @@ keep-spec =
     (tie.spec
     cast-k
     sub-k
-    element-write-left
+    slice-write-left
     mul-since
-    element-write-since
+    slice-write-since
+    same-length
+    same-length-2
     returns
     mul-response
-    element-copy-out-response
+    slice-read-response
     response-requires
-    element-write-left-2
+    slice-write-left-2
     mul-wrapping-add-u64
-    element-copy-out-wrapping-add-u64
+    slice-read-wrapping-add-u64
     wrapping-add-u64-requires
     mul-answers
-    element-write-answers
+    slice-write-answers
     mul-larger
-    element-copy-out-larger
+    slice-read-larger
     larger-requires
     mul-largest
-    element-write-largest
+    slice-write-largest
     mul-wrapping-add-u64-2
-    element-copy-out-wrapping-add-u64-2
+    slice-read-wrapping-add-u64-2
     mul-exceeds
-    element-copy-out-exceeds
+    shared-slice-read-exceeds
     exceeds-requires
     wrapping-add-u64-requires-2
     mul-above
-    element-write-above
+    slice-write-above
+    same-length-3
+    same-length-4
+    same-length-5
+    same-length-6
     returns-2)

@@ -22,7 +22,7 @@ known-requires c κs = search needs
 
 returns : tie.Need-returns
 returns c w h =
-    let a = c .before .before .before .before .args in
+    let a = c .before .before .before .before .before .args in
     judged-unknown (now (a .c)) (a .at) (min (a .streams) most) w (sym (c .before .known .ensures) ∙ not-true _ (c .if1 .taken))
 
 sub-if2 : tie.Need-sub-if2
@@ -30,7 +30,7 @@ sub-if2 c = search needs
 
 returns-2 : tie.Need-returns-2
 returns-2 c w h =
-    let a = c .before .before .before .before .before .args in
+    let a = c .before .before .before .before .before .before .args in
     judged-cut (now (a .c)) (a .at) (min (a .streams) most) w (sym (c .before .before .known .ensures) ∙ not-false _ (c .before .if1 .left)) (omega arith)
 
 event-at-requires : tie.Need-event-at-requires
@@ -55,8 +55,8 @@ placed c = let p = within-to _ _ (sym (c .before .before .on-sheet .ensures) ∙
 sub-k : tie.Need-sub-k
 sub-k c = placed c .0
 
-element-copy-out-open-no : tie.Need-element-copy-out-open-no
-element-copy-out-open-no c = omega (arith, placed c)
+shared-slice-read-open-no : tie.Need-shared-slice-read-open-no
+shared-slice-read-open-no c = omega (arith, placed (c .before), c .before .before .before .before .before .before .before .before .before .before .before .pre .1)
 
 open-no-requires : tie.Need-open-no-requires
 open-no-requires c κs = search needs
@@ -64,7 +64,7 @@ open-no-requires c κs = search needs
 returns-4 : tie.Need-returns-4
 returns-4 c w h =
     let x = c .before .before .before .before .before in
-    let a = x .before .before .before .before .before .before .args in
+    let a = x .before .before .before .before .before .before .before .args in
     let known = sym (x .before .before .before .known .ensures) ∙ not-false _ (x .before .before .if1 .left) in
     let right = sym (c .before .before .before .before .on-sheet .ensures) ∙ not-false _ (c .before .before .before .if3 .left) in
     let is = event-read (now (a .c)) (a .at) (min (a .streams) most) w known (omega arith) _ (x .event-at .ensures) in
@@ -89,6 +89,6 @@ refusal-spec =
     returns-3
     cast-k
     sub-k
-    element-copy-out-open-no
+    shared-slice-read-open-no
     open-no-requires
     returns-4)

@@ -1,4 +1,4 @@
--- `capture::take` meets its contract. The invariant: the records before the place are taken, and none of them is refused. Assumes nothing.
+-- `capture::take_each` meets its contract. The invariant: the records before the place are taken, and none of them is refused. Assumes nothing.
 use Prim.Native.Nat.{ℕ, _-_, _^_, _<_, min}
 use mathlib.Core.List.{List}
 use native.Mathlib.Omega.{arith}
@@ -8,8 +8,8 @@ use mathlib.Core.Path.{_≡_}
 use lib.ListN.{length, getD}
 use Rattle.capture.specs.Pieces.{most}
 use Rattle.capture.proofs.Hearing.{Kept, Hearing, hearing-none, number-is, next-is, hearing-more, hearing-refused, hearing-all}
-use Rattle.capture.proofs.take.Statement.{statement}
-use Rattle.capture.proofs.take.Tie as tie
+use Rattle.capture.proofs.take_each.Statement.{statement}
+use Rattle.capture.proofs.take_each.Tie as tie
 
 -- the five runs
 abbrev kept : List ℕ → List ℕ → List ℕ → List ℕ → List ℕ → Kept
@@ -62,8 +62,8 @@ loop-again c = ?
 returns-2 : tie.Need-returns-2 Inv-loop μ-loop
 returns-2 c = ?
 
-pub take-spec : {M : Type 1} → statement M
-take-spec =
+pub take-each-spec : {M : Type 1} → statement M
+take-each-spec =
     tie.close
     (tie.spec
     Inv-loop
