@@ -1,5 +1,5 @@
 -- The records of a piece, taken one by one: what the runs hold behind the first of them. Assumes nothing.
-use Prim.Native.Nat.{ℕ, suc, _+_, _-_, _*_, _%_, _^_, _≤_, _<_, max}
+use Prim.Native.Nat.{ℕ, suc, _+_, _-_, _*_, _%_, _^_, _≤_, _<_, min, max}
 use mathlib.Core.Path.{_≡_, refl, sym, ap, subst, _∙_}
 use mathlib.Core.Bool.{Bool, true, false, cond, _||_}
 use mathlib.Core.List.{List, _∷_}
@@ -19,9 +19,10 @@ use Rattle.common.proofs.Runs.{tab-places}
 use Rattle.log.specs.declared.Event.{Event}
 use Rattle.log.specs.Log as Log
 use Rattle.log.specs.Log.{Before, shown}
-use Rattle.log.specs.Records.{size, eventAt, eventsIn, known, eventChecks, judge, isRefused, records, taken, heard}
+use Rattle.log.specs.Records.{size, eventAt, eventsIn, known, metAt, eventChecks, judge, isRefused, records, taken, heard}
 use Rattle.log.proofs.Laws as laws
-use Rattle.capture.specs.Pieces.{most, before}
+use Rattle.log.proofs.Records.{met-whole}
+use Rattle.capture.specs.Pieces.{most, before, takenIn, leftAfter, sinceAfter, answersAfter, largestAfter, aboveAfter}
 use Rattle.capture.specs.Steps.{noOf, spot, leftWith, sinceWith, answersWith, shownBy, largestWith, aboveWith}
 use Rattle.capture.proofs.Judged.{Whole, passed-by, refused-by, whole-if, within-to}
 
@@ -58,6 +59,9 @@ pub record Kept : Type 0 where
   pub answers : List ℕ
   pub largest : List ℕ
   pub above : List ℕ
+
+abbrev pub kept : List ℕ → List ℕ → List ℕ → List ℕ → List ℕ → Kept
+kept left since answers largest above = record { left = left; since = since; answers = answers; largest = largest; above = above }
 
 abbrev pub keptWith : List ℕ → Kept → Event → Kept
 keptWith bound K e =
@@ -198,6 +202,11 @@ pub record Next (c : List ℕ) (at : ℕ) : Type 0 where
   pub from : 1 ≤ eventAt c at .stream
   pub to : eventAt c at .stream ≤ most
 
+-- as the code reads it
+pub next-read : {c : List ℕ} {at : ℕ} → Next c at → metAt c at ≡ eventAt c at
+unfolding eventAt
+next-read {c} {at} x = met-whole c at (x .ends) (x .is-known)
+
 module _ {c : List ℕ} {n : ℕ} {bound : List ℕ} {K₀ K : Kept} {at : ℕ} (h : Hearing c n bound K₀ K at) (top : n ≤ most) where
   -- what the code finds open of the next record's stream
   waiting-is : 1 ≤ eventAt c at .stream → eventAt c at .stream ≤ most
@@ -241,6 +250,14 @@ module _ {c : List ℕ} {n : ℕ} {bound : List ℕ} {K₀ K : Kept} {at : ℕ} 
         below m l (yes p) = rw (p, passed-by c n (beforeOf K₀) (h .j) no-refusal) refl
         below m l (no p) = h .passed m (omega (arith, p))
 
+    -- as the code reads it, r, and keeps it
+    pub hearing-next : (r : Event) → r ≡ metAt c at → (l s a g o : List ℕ) → l ≡ leftWith (K .left) r → s ≡ sinceWith (K .since) r
+        → a ≡ answersWith (K .answers) r → g ≡ largestWith (K .since) (K .largest) r → o ≡ aboveWith bound (K .since) (K .above) r
+        → Hearing c n bound K₀ (kept l s a g o) (at + size)
+    hearing-next r e l s a g o pl ps pa pg po =
+        let is : r ≡ eventAt c at = e ∙ next-read next-is in
+        rw (pl, ps, pa, pg, po) (subst (λ (v : Event). Hearing c n bound K₀ (keptWith bound K v) (at + size)) (sym is) hearing-more)
+
   -- it is refused
   pub hearing-refused : at < length c → (noOf (judge c n (beforeOf K₀) (h .j)) ≡ 0 → ⊥)
       → (h .j ≡ taken c n (beforeOf K₀)) × (heard c n (beforeOf K₀) ≡ Refused (noOf (judge c n (beforeOf K₀) (h .j))) at)
@@ -260,3 +277,15 @@ module _ {c : List ℕ} {n : ℕ} {bound : List ℕ} {K₀ K : Kept} {at : ℕ} 
       let all : h .j ≡ records c = omega (arith, h .place, h .inside, l) in
       let t : h .j ≡ taken c n (beforeOf K₀) = found-none (λ j. isRefused (judge c n (beforeOf K₀) j)) (records c) (h .j) (h .passed) all in
       (t, rw (← t, le-ltb (h .j) (records c) (omega (arith, all))) refl)
+
+-- the runs then, where all records that are taken are taken
+pub hearing-kept : (n : ℕ) {c : List ℕ} {bound : List ℕ} {K₀ K : Kept} {at : ℕ} (h : Hearing c (min n most) bound K₀ K at)
+    → h .j ≡ taken c (min n most) (beforeOf K₀)
+    → (K .left ≡ leftAfter c n (K₀ .left) (K₀ .since)) × ((K .since ≡ sinceAfter c n (K₀ .left) (K₀ .since))
+    × ((K .answers ≡ answersAfter c n (K₀ .left) (K₀ .since) (K₀ .answers)) × ((K .largest ≡ largestAfter c n (K₀ .left) (K₀ .since) (K₀ .largest))
+    × (K .above ≡ aboveAfter c n bound (K₀ .left) (K₀ .since) (K₀ .above)))))
+unfolding leftAfter sinceAfter answersAfter largestAfter aboveAfter takenIn
+hearing-kept n {c} {bound} {K₀} {K} h t =
+    let k : Keeps bound K₀ (beforeOf K₀) (eventsIn c (taken c (min n most) (beforeOf K₀))) K =
+    subst (λ (x : ℕ). Keeps bound K₀ (beforeOf K₀) (eventsIn c x) K) t (h .keeps) in
+    (holds-tab (k .left-is), (holds-tab (k .since-is), (holds-tab (k .answers-is), (holds-tab (k .largest-is), holds-tab (k .above-is)))))
