@@ -3,3 +3,4 @@ pub mod Demand2
 pub mod Demand3
 pub mod Outcomes
 pub mod PageCase
+pub mod Matching

@@ -74,7 +74,7 @@ use Rattle.pnet_run.proofs.Waiting.{
 apart-latest : {d i : ℕ} {r : Request} {came : List Request} → Apart d i (r ∷ came) → r .of ≡ i → (a : ℕ) → List·Memᴰ (request i a) came → a + d ≤ r .since
 apart-latest (and f p) e a j = omega (arith, f e a j)
 
-apart-before : {d i : ℕ} {r : Request} {came : List Request} → Apart d i (r ∷ came) → Apart d i came
+pub apart-before : {d i : ℕ} {r : Request} {came : List Request} → Apart d i (r ∷ came) → Apart d i came
 apart-before (and f p) = p
 
 module _ (S : Segment) (h : ℕ → ℕ) (k : ℕ) (1≤k : 1 ≤ k) (k≤n : k ≤ S .masters) where
