@@ -25,7 +25,7 @@ use lib.Dec.{ltb, eqb}
 use borrow.Author.Tests.{eq-eqb, ne-eqb, eqb-true, le-ltb}
 use Rattle.common.specs.Sums.{when}
 use Rattle.segment.specs.Segment.{Segment, hold, boundBy, bound}
-use Rattle.pnet_run.specs.Run.{Belongs, Request, request, Answer, answer, Queues, put, join, Token, Settled, Run, start, complete, arrive, travel, work, serve, skip}
+use Rattle.pnet_run.specs.Run.{Belongs, Request, request, Answer, answer, Queues, put, join, Token, serving, Settled, Run, start, complete, arrive, travel, work, serve, skip}
 use Rattle.pnet_run.specs.Promise.{Apart, Spaced, Answered, Accepted}
 use Rattle.pnet_run.proofs.Charges.{in-ring, hold-covers}
 use Rattle.pnet_run.proofs.Queues.{put-same, put-other, owned}
@@ -47,10 +47,6 @@ given i x = record { kind = 17; stream = i; stamp = x }
 and-false : (b : Bool) → b && false ≡ false
 and-false true = refl
 and-false false = refl
-
-and-second : (a b : Bool) → a && b ≡ true → b ≡ true
-and-second true b e = e
-and-second false b e = let z : _≡_ {A = ℕ} 0 1 = cc in absurd (omega arith)
 
 -- what it says of its own stream
 left-asked : (i x : ℕ) (es : List Event) → left fresh (asked i x ∷ es) i ≡ 1
@@ -89,6 +85,10 @@ module _ (e : Event) (j : ℕ) (other : e .stream ≢ j) where
 pub data Within (R i : ℕ) : List Event → Type 0 where
   none : Within R i []
   and : {e : Event} {es : List Event} → (answers e i ≡ true → shown fresh es e ≤ R) → Within R i es → Within R i (e ∷ es)
+
+within-asked : {R i j x : ℕ} {es : List Event} → Within R i es → Within R i (asked j x ∷ es)
+unfolding answers
+within-asked {j = j} {x = x} w = and {e = asked j x} (λ (e : false ≡ true). let z : _≡_ {A = ℕ} 0 1 = cc in absurd (omega arith)) w
 
 pub above-none : {R i : ℕ} {es : List Event} → Within R i es → above fresh R es i ≡ 0
 unfolding above
@@ -228,3 +228,29 @@ module _ {S : Segment} (accepted : Accepted S) where
   matches z (work e run) s = matches-on (omega arith) (matches z run s)
   matches z (serve e x c run p a b d f g o) s = matches-on (omega arith) (matches z run s)
   matches z (skip e run p a b) s = matches-on (omega arith) (matches z run s)
+
+  -- ---- Responses
+
+  response : {k i t m : ℕ} {q : Queues} {r : Request} {rest came : List Request} {went : List Answer} (z : ℕ)
+      (run : Run S t (serving m 0) q came went) (p : q m ≡ r ∷ rest) → Spaced S k came → Belongs S k i
+      → answers (given (r .of) (stampAt z t)) i ≡ true → shown fresh (logOf z run) (given (r .of) (stampAt z t)) ≤ bound S k
+  unfolding answers shown
+  response {k} {i} {t} {m} {r = r} z run p spaced d e =
+      let mine : r .of ≡ i = eqb-true (r .of) i e in
+      let own : Belongs S m (r .of) = owned run m r (rw p (List·Memᴰ·head refl)) in
+      let here : m ≡ k = sym (own .own) ∙ (ap (λ (j : ℕ). S .stream j .master) mine ∙ d .own) in
+      let w = matches z run spaced .waits r (rw (← here, p) (List·Memᴰ·head refl)) in
+      let late : t ≤ r .since + bound S k = in-bound d (complete run p) spaced .in-time (answer r t) (List·Memᴰ·head refl) (rw mine d) in
+      let small : bound S k ≤ 1000000000 = omega (arith, accepted .passes k i d, accepted .declared .ranges i (d .from-one) (d .to-last)) in
+      rw (w .2, true-response z (r .since) t (w .0) (omega arith)) (omega arith)
+
+  pub all-within : {k i t : ℕ} {y : Token} {q : Queues} {came : List Request} {went : List Answer} (z : ℕ) (run : Run S t y q came went) → Spaced S k came
+      → Belongs S k i → Within (bound S k) i (logOf z run)
+  unfolding logOf
+  all-within z (start a b c) s d = none
+  all-within z (complete run p) s d = and (response z run p s d) (all-within z run s d)
+  all-within z (arrive run o b) s d = within-asked (all-within z run (earlier s) d)
+  all-within z (travel e run) s d = all-within z run s d
+  all-within z (work e run) s d = all-within z run s d
+  all-within z (serve e x c run p a b f g h o) s d = all-within z run s d
+  all-within z (skip e run p a b) s d = all-within z run s d
