@@ -4,3 +4,5 @@ pub mod Demand3
 pub mod Outcomes
 pub mod PageCase
 pub mod Matching
+pub mod Passing
+pub mod Captured

@@ -187,7 +187,7 @@ module _ {S : Segment} (accepted : Accepted S) where
       pub alone : {i : ℕ} → Settled y → Belongs S k i → Spaced S k (request i t ∷ came) → (r : Request) → List·Memᴰ r (q k) → i ≢ r .of
       alone settled b spaced = none-waits S (hold S) k (ring .0) (ring .1) (hold-covers S) (λ i. S .stream i .spacing) fits run settled b spaced
 
-  earlier : {k : ℕ} {r : Request} {came : List Request} → Spaced S k (r ∷ came) → Spaced S k came
+  pub earlier : {k : ℕ} {r : Request} {came : List Request} → Spaced S k (r ∷ came) → Spaced S k came
   earlier spaced i b = apart-before (spaced i b)
 
   module _ {k z t : ℕ} {y : Token} {q : Queues} {came : List Request} {went : List Answer} (run : Run S t y q came went) {es : List Event} (M : Matches S k z t (q k) es) where
