@@ -1,7 +1,7 @@
 -- A capture each of whose records passes behind those before it passes as a whole, and so does the capture of a run. Assumes nothing.
 use Prim.Native.Nat.{ℕ, zero, suc, _+_, _*_, _≤_, _<_}
-use mathlib.Core.Path.{_≡_, refl, sym, ap}
-use mathlib.Core.Bool.{cond, not}
+use mathlib.Core.Path.{_≡_, refl, sym, ap, _∙_}
+use mathlib.Core.Bool.{cond, not, _&&_}
 use mathlib.Core.List.{List, [], _∷_, List·Memᴰ, List·Memᴰ·head}
 use native.Mathlib.Decide.{ℕ-discrete}
 use native.Mathlib.Omega.{arith}
@@ -16,21 +16,21 @@ use Rattle.common.proofs.Firsts.{found-none}
 use Rattle.format.specs.Kinds.{within}
 use Rattle.format.proofs.Ranges.{range-within}
 use Rattle.segment.specs.Segment.{Segment}
-use Rattle.pnet_run.specs.Run.{Request, Answer, Queues, Token, Run, start, complete, arrive, travel, work, serve, skip}
+use Rattle.pnet_run.specs.Run.{Belongs, Request, request, Answer, Queues, Token, Settled, Run, start, complete, arrive, travel, work, serve, skip}
 use Rattle.pnet_run.specs.Promise.{Spaced, Accepted}
 use Rattle.pnet_run.proofs.Queues.{owned}
 use Rattle.log.specs.declared.Event.{Event}
 use Rattle.log.specs.Log.{fresh, left}
 use Rattle.log.specs.Records.{size, eventAt, eventsIn, known, eventChecks, judge, isRefused, records, taken, heard}
 use Rattle.demands.specs.Logged.{logOf}
-use Rattle.demands.proofs.Matching.{asked, given, earlier, alone, matches}
+use Rattle.demands.proofs.Matching.{Is, earlier, alone, matches}
 
 -- ---- Records
 
--- the record passes behind es, on a sheet of n streams
-pub data Passes (n : ℕ) (es : List Event) : Event → Type 0 where
-  asks : {i x : ℕ} → 1 ≤ i → i ≤ n → left fresh es i ≡ 0 → Passes n es (asked i x)
-  gives : {i x : ℕ} → 1 ≤ i → i ≤ n → left fresh es i ≡ 1 → Passes n es (given i x)
+-- the record e passes behind es, on a sheet of n streams
+pub data Passes (n : ℕ) (es : List Event) (e : Event) : Type 0 where
+  asks : {i : ℕ} → Is 16 i e → 1 ≤ i → i ≤ n → left fresh es i ≡ 0 → Passes n es e
+  gives : {i : ℕ} → Is 17 i e → 1 ≤ i → i ≤ n → left fresh es i ≡ 1 → Passes n es e
 
 -- each does
 pub data AllPass (n : ℕ) : List Event → Type 0 where
@@ -39,10 +39,18 @@ pub data AllPass (n : ℕ) : List Event → Type 0 where
 
 clear : {es : List Event} {e : Event} (n at m : ℕ) → at + size ≤ m → Passes n es e → Clear (eventChecks m n (left fresh es (e .stream)) at e)
 unfolding eventChecks known
-clear n at m l (asks {i = i} lo hi w) =
-    and refl (and (le-ltb m (at + size) l) (and (ap not (range-within 1 i n (record { least = lo; most = hi }))) (and refl (and (ap (λ (x : ℕ). not (eqb x 0)) w) none))))
-clear n at m l (gives {i = i} lo hi w) =
-    and refl (and (le-ltb m (at + size) l) (and (ap not (range-within 1 i n (record { least = lo; most = hi }))) (and (ap (λ (x : ℕ). eqb x 0) w) (and refl none))))
+clear {es} {e} n at m l (asks f lo hi w) =
+    and (ap (λ (k : ℕ). not (known k)) (f .kind-is))
+    (and (le-ltb m (at + size) l)
+    (and (ap not (range-within 1 (e .stream) n (record { least = omega (arith, f .stream-is); most = omega (arith, f .stream-is) })))
+    (and (ap (λ (k : ℕ). eqb k 17 && eqb (left fresh es (e .stream)) 0) (f .kind-is))
+    (and (ap (λ (k : ℕ). eqb k 16 && not (eqb (left fresh es (e .stream)) 0)) (f .kind-is) ∙ ap (λ (x : ℕ). not (eqb x 0)) (ap (left fresh es) (f .stream-is) ∙ w)) none))))
+clear {es} {e} n at m l (gives f lo hi w) =
+    and (ap (λ (k : ℕ). not (known k)) (f .kind-is))
+    (and (le-ltb m (at + size) l)
+    (and (ap not (range-within 1 (e .stream) n (record { least = omega (arith, f .stream-is); most = omega (arith, f .stream-is) })))
+    (and (ap (λ (k : ℕ). eqb k 17 && eqb (left fresh es (e .stream)) 0) (f .kind-is) ∙ ap (λ (x : ℕ). eqb x 0) (ap (left fresh es) (f .stream-is) ∙ w))
+    (and (ap (λ (k : ℕ). eqb k 16 && not (eqb (left fresh es (e .stream)) 0)) (f .kind-is)) none))))
 
 -- ---- Captures
 
@@ -79,16 +87,24 @@ module _ (c : List ℕ) (n m : ℕ) (long : length c ≡ size * m) (all : AllPas
 -- ---- Runs
 
 module _ {S : Segment} (accepted : Accepted S) where
+  module _ {t m : ℕ} {y : Token} {q : Queues} {came : List Request} {went : List Answer} (z : ℕ) (run : Run S t y q came went) {e : Event}
+      (before : AllPass (S .number) (logOf z run)) where
+    pass-complete : {r : Request} {rest : List Request} → Is 17 (r .of) e → q m ≡ r ∷ rest → Spaced S m came → AllPass (S .number) (e ∷ logOf z run)
+    pass-complete {r} f p spaced =
+        let head : List·Memᴰ r (q m) = rw p (List·Memᴰ·head refl) in
+        let own = owned run m r head in
+        also (gives f (own .from-one) (own .to-last) (matches accepted z run spaced .waits r head .one)) before
+
+    pass-arrive : {i : ℕ} → Is 16 i e → Settled y → Belongs S m i → Spaced S m (request i t ∷ came) → AllPass (S .number) (e ∷ logOf z run)
+    pass-arrive {i} f settled d spaced =
+        also (asks f (d .from-one) (d .to-last) (matches accepted z run (earlier accepted spaced) .idle i d (alone accepted d run settled d spaced))) before
+
   pub all-pass : {t : ℕ} {y : Token} {q : Queues} {came : List Request} {went : List Answer} (z : ℕ) (run : Run S t y q came went) → ((k : ℕ) → Spaced S k came)
       → AllPass (S .number) (logOf z run)
   unfolding logOf
   all-pass z (start a b c) s = nothing
-  all-pass z (complete {m = m} {q = q} {r = r} run p) s =
-      let head : List·Memᴰ r (q m) = rw p (List·Memᴰ·head refl) in
-      let own = owned run m r head in
-      also (gives (own .from-one) (own .to-last) (matches accepted z run (s m) .waits r head .1)) (all-pass z run s)
-  all-pass z (arrive {m = m} {i = i} run o d) s =
-      also (asks (d .from-one) (d .to-last) (matches accepted z run (earlier accepted (s m)) .idle i d (alone accepted d run o d (s m)))) (all-pass z run (λ k. earlier accepted (s k)))
+  all-pass z (complete {m = m} run p) s = pass-complete z run (all-pass z run s) (omega arith) p (s m)
+  all-pass z (arrive {m = m} run o d) s = pass-arrive z run (all-pass z run (λ k. earlier accepted (s k))) (omega arith) o d (s m)
   all-pass z (travel e run) s = all-pass z run s
   all-pass z (work e run) s = all-pass z run s
   all-pass z (serve e x c run p a b d f g o) s = all-pass z run s
