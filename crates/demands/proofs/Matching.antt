@@ -240,13 +240,12 @@ module _ {S : Segment} (accepted : Accepted S) where
 
   -- ---- Responses
 
-  -- the first request in its queue is answered by the record e at the instant t; e must show what it took, where that is within the bound
+  -- the first request in its queue is answered at the instant t, by the record e
   within-complete : {k i t m : ℕ} {q : Queues} {r : Request} {rest came : List Request} {went : List Answer} {e : Event} (z : ℕ)
       (run : Run S t (serving m 0) q came went) (p : q m ≡ r ∷ rest) → Spaced S k came → Belongs S k i
-      → Within (bound S k) i (logOf z run) → Is 17 (r .of) e → ((a : ℕ) → a ≤ t → t ≤ a + bound S k → bound S k ≤ 1000000000 → around (e .stamp) (stampAt z a) ≤ bound S k)
-      → Within (bound S k) i (e ∷ logOf z run)
+      → Within (bound S k) i (logOf z run) → Is 17 (r .of) e → e .stamp ≡ stampAt z t → Within (bound S k) i (e ∷ logOf z run)
   unfolding shown
-  within-complete {k} {i} {t} {m} {r = r} {e = e} z run p spaced d w f shows = and {e = e} it w
+  within-complete {k} {i} {t} {m} {r = r} {e = e} z run p spaced d w f x = and {e = e} it w
     where
       own : Belongs S m (r .of)
       own = owned run m r (rw p (List·Memᴰ·head refl))
@@ -258,14 +257,13 @@ module _ {S : Segment} (accepted : Accepted S) where
           let o = matches z run spaced .waits r (rw (← here, p) (List·Memᴰ·head refl)) in
           let soon : t ≤ r .since + bound S k = in-bound d (complete run p) spaced .in-time (answer r t) (List·Memᴰ·head refl) (rw mine d) in
           let small : bound S k ≤ 1000000000 = omega (arith, accepted .passes k i d, accepted .declared .ranges i (d .from-one) (d .to-last)) in
-          rw (f .stream-is, o .stamped) (shows (r .since) (o .not-after) soon small)
+          rw (f .stream-is, x, o .stamped, true-response z (r .since) t (o .not-after) (omega arith)) (omega arith)
 
   pub all-within : {k i t : ℕ} {y : Token} {q : Queues} {came : List Request} {went : List Answer} (z : ℕ) (run : Run S t y q came went) → Spaced S k came
       → Belongs S k i → Within (bound S k) i (logOf z run)
   unfolding logOf
   all-within z (start a b c) s d = none
-  all-within z (complete {t = t} run p) s d =
-      within-complete z run p s d (all-within z run s d) (omega arith) (λ a le soon small. omega (arith, true-response z a t le (omega arith)))
+  all-within z (complete run p) s d = within-complete z run p s d (all-within z run s d) (omega arith) (omega arith)
   all-within z (arrive run o b) s d = within-arrive (all-within z run (earlier s) d) (omega arith)
   all-within z (travel e run) s d = all-within z run s d
   all-within z (work e run) s d = all-within z run s d
