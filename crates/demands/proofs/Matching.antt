@@ -1,6 +1,6 @@
 -- The capture of a run beside its queues: in the queue of a master that keeps its spacing waits at most one request of a stream, and one
 -- exactly if the stream is open in the capture, which then has its stamp. So an answer shows what its request took. Assumes nothing.
-use Prim.Native.Nat.{ℕ, _+_, _-_, _≤_, _<_, max}
+use Prim.Native.Nat.{ℕ, _+_, _≤_, max}
 use mathlib.Core.Path.{_≡_, refl, sym, ap, _∙_}
 use mathlib.Core.Bool.{Bool, true, false, _&&_}
 use mathlib.Core.Logic.{_≢_, ⊎-elim}
@@ -26,13 +26,33 @@ use borrow.Author.Tests.{eq-eqb, ne-eqb, eqb-true, le-ltb}
 use Rattle.common.specs.Sums.{when}
 use Rattle.format.proofs.Tables.{both-true}
 use Rattle.segment.specs.Segment.{Segment, hold, boundBy, bound}
-use Rattle.pnet_run.specs.Run.{Belongs, Request, request, Answer, answer, Queues, put, join, Token, serving, Settled, Run, start, complete, arrive, travel, work, serve, skip}
+use Rattle.pnet_run.specs.Run.{
+  Belongs,
+  Request,
+  request,
+  Answer,
+  answer,
+  Queues,
+  put,
+  join,
+  Token,
+  serving,
+  Settled,
+  Run,
+  start,
+  complete,
+  arrive,
+  travel,
+  work,
+  serve,
+  skip,
+}
 use Rattle.pnet_run.specs.Promise.{Spaced, Answered, Accepted}
 use Rattle.pnet_run.proofs.Charges.{in-ring, hold-covers}
 use Rattle.pnet_run.proofs.Queues.{put-same, put-other, owned}
 use Rattle.pnet_run.proofs.Bound.{apart-before, answered-by, first-differs, none-waits}
 use Rattle.log.specs.declared.Event.{Event}
-use Rattle.log.specs.Log.{asks, answers, stampAt, around, fresh, left, since, shown, largest, above}
+use Rattle.log.specs.Log.{asks, answers, stampAt, fresh, left, since, shown, largest, above}
 use Rattle.log.proofs.Stamps.{true-response}
 use Rattle.demands.specs.Logged.{logOf}
 
@@ -136,7 +156,8 @@ module _ {S : Segment} {k z t : ℕ} {l : List Request} {e : Event} {es : List E
       by i b g (yes c) = rw (← c) (left-given es f)
       by i b g (no n) =
           left-other f i n es
-          ∙ M .idle i b (λ p j. ⊎-elim (λ (c : p ≡ r). λ d. n (sym (d ∙ ap (λ (x : Request). x .of) c))) (λ (c : List·Memᴰ p l). g p c) (List·Memᴰ·cases-cons j))
+          ∙ M .idle i b
+          (λ p j. ⊎-elim (λ (c : p ≡ r). λ d. n (sym (d ∙ ap (λ (x : Request). x .of) c))) (λ (c : List·Memᴰ p l). g p c) (List·Memᴰ·cases-cons j))
 
 -- ---- Responses within R
 

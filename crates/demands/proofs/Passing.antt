@@ -1,7 +1,7 @@
 -- A capture each of whose records passes behind those before it passes as a whole, and so does the capture of a run. Assumes nothing.
 use Prim.Native.Nat.{ℕ, zero, suc, _+_, _*_, _≤_, _<_}
 use mathlib.Core.Path.{_≡_, refl, sym, ap, _∙_}
-use mathlib.Core.Bool.{cond, not, _&&_}
+use mathlib.Core.Bool.{false, cond, not, _&&_}
 use mathlib.Core.List.{List, [], _∷_, List·Memᴰ, List·Memᴰ·head}
 use native.Mathlib.Decide.{ℕ-discrete}
 use native.Mathlib.Omega.{arith}
@@ -10,10 +10,9 @@ use lib.ListN.{length}
 use borrow.Author.Tests.{le-ltb}
 use Rattle.common.specs.Checks.{Verdict}
 use Rattle.common.specs.Checks.Verdict.{Passed}
-use Rattle.common.specs.Sums.{up, firstOf}
+use Rattle.common.specs.Sums.{up}
 use Rattle.common.proofs.Checks.{Clear, none, and, passed-if}
 use Rattle.common.proofs.Firsts.{found-none}
-use Rattle.format.specs.Kinds.{within}
 use Rattle.format.proofs.Ranges.{range-within}
 use Rattle.segment.specs.Segment.{Segment}
 use Rattle.pnet_run.specs.Run.{Belongs, Request, request, Answer, Queues, Token, Settled, Run, start, complete, arrive, travel, work, serve, skip}
@@ -37,20 +36,32 @@ pub data AllPass (n : ℕ) : List Event → Type 0 where
   nothing : AllPass n []
   also : {e : Event} {es : List Event} → Passes n es e → AllPass n es → AllPass n (e ∷ es)
 
-clear : {es : List Event} {e : Event} (n at m : ℕ) → at + size ≤ m → Passes n es e → Clear (eventChecks m n (left fresh es (e .stream)) at e)
-unfolding eventChecks known
-clear {es} {e} n at m l (asks f lo hi w) =
-    and (ap (λ (k : ℕ). not (known k)) (f .kind-is))
-    (and (le-ltb m (at + size) l)
-    (and (ap not (range-within 1 (e .stream) n (record { least = omega (arith, f .stream-is); most = omega (arith, f .stream-is) })))
-    (and (ap (λ (k : ℕ). eqb k 17 && eqb (left fresh es (e .stream)) 0) (f .kind-is))
-    (and (ap (λ (k : ℕ). eqb k 16 && not (eqb (left fresh es (e .stream)) 0)) (f .kind-is) ∙ ap (λ (x : ℕ). not (eqb x 0)) (ap (left fresh es) (f .stream-is) ∙ w)) none))))
-clear {es} {e} n at m l (gives f lo hi w) =
-    and (ap (λ (k : ℕ). not (known k)) (f .kind-is))
-    (and (le-ltb m (at + size) l)
-    (and (ap not (range-within 1 (e .stream) n (record { least = omega (arith, f .stream-is); most = omega (arith, f .stream-is) })))
-    (and (ap (λ (k : ℕ). eqb k 17 && eqb (left fresh es (e .stream)) 0) (f .kind-is) ∙ ap (λ (x : ℕ). eqb x 0) (ap (left fresh es) (f .stream-is) ∙ w))
-    (and (ap (λ (k : ℕ). eqb k 16 && not (eqb (left fresh es (e .stream)) 0)) (f .kind-is)) none))))
+-- lines 2, 15 and 16 of its refusals, for kind k where w requests are open
+abbrev Free : ℕ → ℕ → Type 0
+Free k w = (not (known k) ≡ false) × (eqb k 17 && eqb w 0 ≡ false) × (eqb k 16 && not (eqb w 0) ≡ false)
+
+free-asks : (k w : ℕ) → k ≡ 16 → w ≡ 0 → Free k w
+unfolding known
+free-asks k w e f = rw (e, f) (refl, refl, refl)
+
+free-gives : (k w : ℕ) → k ≡ 17 → w ≡ 1 → Free k w
+unfolding known
+free-gives k w e f = rw (e, f) (refl, refl, refl)
+
+module _ (es : List Event) (e : Event) (n at m : ℕ) (whole : at + size ≤ m) where
+  -- what is open of its stream
+  abbrev w : ℕ
+  w = left fresh es (e .stream)
+
+  clear-if : {kind i : ℕ} → Is kind i e → 1 ≤ i → i ≤ n → Free (e .kind) w → Clear (eventChecks m n w at e)
+  unfolding eventChecks
+  clear-if f lo hi free =
+      let range = range-within 1 (e .stream) n (record { least = omega (arith, f .stream-is); most = omega (arith, f .stream-is) }) in
+      and (free .0) (and (le-ltb m (at + size) whole) (and (ap not range) (and (free .1) (and (free .2) none))))
+
+  clear : Passes n es e → Clear (eventChecks m n w at e)
+  clear (asks f lo hi o) = clear-if f lo hi (free-asks (e .kind) w (f .kind-is) (ap (left fresh es) (f .stream-is) ∙ o))
+  clear (gives f lo hi o) = clear-if f lo hi (free-gives (e .kind) w (f .kind-is) (ap (left fresh es) (f .stream-is) ∙ o))
 
 -- ---- Captures
 
@@ -66,7 +77,7 @@ at-record c n (suc m) (also here before) j l = by (ℕ-discrete j m) (at-record 
 module _ (c : List ℕ) (n m : ℕ) (long : length c ≡ size * m) (all : AllPass n (eventsIn c m)) where
   record-passes : (j : ℕ) → j < m → judge c n fresh j ≡ Passed
   unfolding judge
-  record-passes j l = passed-if (clear n (size * j) (length c) (omega arith) (at-record c n m all j l))
+  record-passes j l = passed-if (clear (eventsIn c j) (eventAt c (size * j)) n (size * j) (length c) (omega arith) (at-record c n m all j l))
 
   all-records : records c ≡ m
   unfolding records up
