@@ -6,3 +6,4 @@ pub mod PageCase
 pub mod Matching
 pub mod Passing
 pub mod Captured
+pub mod CaptureCase
