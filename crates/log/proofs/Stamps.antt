@@ -14,7 +14,7 @@ pub around-small : (later earlier : ℕ) → around later earlier < 2 ^ 32
 unfolding around
 around-small later earlier = omega arith
 
--- the one number below 2^32 that leads from the earlier stamp around to the later one
+-- the one number below 2^32 that leads from the earlier stamp around to the later one; std's wrapping_sub_u32 promises that number
 pub around-is : (later earlier r : ℕ) → earlier < 2 ^ 32 → later < 2 ^ 32 → r < 2 ^ 32 → (r + earlier) % 2 ^ 32 ≡ later → r ≡ around later earlier
 unfolding around
 around-is later earlier r le ll lr e = omega arith
