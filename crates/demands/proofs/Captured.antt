@@ -21,7 +21,7 @@ module _ (S : Segment) (accepted : Accepted S) {now : ℕ} {token : Token} {queu
     (run : Run S now token queues came went) (z : ℕ) where
   -- Master k keeps its spacing, and stream i is one of its own. Nothing is supposed of the other masters.
   module _ (k : ℕ) (spaced : Spaced S k came) (i : ℕ) (own : Belongs S k i) where
-    -- 'the count of answers above the bound is 0'
+    -- the count of answers above the bound is 0
     pub no-answer-above-the-bound : above fresh (bound S k) (logOf z run) i ≡ 0
     no-answer-above-the-bound = above-none (all-within accepted z run spaced own)
 

@@ -6,8 +6,8 @@ use Rattle.pnet_run.specs.Run.{Request, Answer, Queues, Token, Run, start, comp
 use Rattle.log.specs.declared.Event.{Event}
 use Rattle.log.specs.Log.{stampAt}
 
--- what the tester records of a run that found its counter at z, the latest first: 'kind 16, a request enters its queue', at an arrival,
--- and 'kind 17, its completed answer', at a completion, each with the stream and the counter at that instant; nothing else
+-- what the tester records of a run that found its counter at z, the latest first: at an arrival 'kind 16 is a request entering its queue',
+-- at a completion 'kind 17 its completed answer', each with the stream and what the counter shows at that instant; nothing else
 unfoldable pub logOf : {S : Segment} {t : ℕ} {y : Token} {q : Queues} {came : List Request} {went : List Answer} → ℕ → Run S t y q came went → List Event
 unfolding stampAt
 logOf z (start a b c) = []

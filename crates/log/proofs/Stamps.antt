@@ -5,7 +5,7 @@ use mathlib.Core.Path.{_≡_}
 use native.Mathlib.Omega.{arith}
 use Rattle.log.specs.Log.{stampAt, around}
 
--- 'true below 2^32 bp, whatever the counter was at the start'
+-- 'true below 2^32 bp', whatever the counter was at the start
 pub true-response : (z a b : ℕ) → a ≤ b → b - a < 2 ^ 32 → around (stampAt z b) (stampAt z a) ≡ b - a
 unfolding stampAt around
 true-response z a b le lt = omega arith
