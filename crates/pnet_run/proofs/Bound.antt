@@ -64,6 +64,7 @@ use Rattle.pnet_run.proofs.Waiting.{
   in-time-sooner,
   in-time-rest,
   in-time-each,
+  in-time-differs,
   in-time-more,
   in-time-snoc,
   room-for,
@@ -73,7 +74,7 @@ use Rattle.pnet_run.proofs.Waiting.{
 apart-latest : {d i : ℕ} {r : Request} {came : List Request} → Apart d i (r ∷ came) → r .of ≡ i → (a : ℕ) → List·Memᴰ (request i a) came → a + d ≤ r .since
 apart-latest (and f p) e a j = omega (arith, f e a j)
 
-apart-before : {d i : ℕ} {r : Request} {came : List Request} → Apart d i (r ∷ came) → Apart d i came
+pub apart-before : {d i : ℕ} {r : Request} {came : List Request} → Apart d i (r ∷ came) → Apart d i came
 apart-before (and f p) = p
 
 module _ (S : Segment) (h : ℕ → ℕ) (k : ℕ) (1≤k : 1 ≤ k) (k≤n : k ≤ S .masters) where
@@ -277,3 +278,15 @@ module _ (S : Segment) (h : ℕ → ℕ) (k : ℕ) (1≤k : 1 ≤ k) (k≤n : k 
             in-time = λ a j o. omega (arith, I .done a j o);
             none-left = λ r j o l. ⊎-elim (λ (c : List·Memᴰ r (q k)). absurd (not-after I r c l)) (λ (c : (u : ℕ) × List·Memᴰ (answer r u) went). c) (I .every r j o);
           }
+
+      -- ---- What waits in k's queue
+
+      -- the first is of another stream than each behind it
+      pub first-differs : {t : ℕ} {y : Token} {q : Queues} {r p : Request} {rest came : List Request} {went : List Answer}
+          → Run S t y q came went → KeptApart came → q k ≡ r ∷ rest → List·Memᴰ p rest → r .of ≢ p .of
+      first-differs z s e j = in-time-differs (rw e at (inv z s .queue)) j
+
+      -- none is of the stream whose request arrives
+      pub none-waits : {t i : ℕ} {y : Token} {q : Queues} {came : List Request} {went : List Answer} → Run S t y q came went → Settled y → Belongs S k i
+          → KeptApart (request i t ∷ came) → (r : Request) → List·Memᴰ r (q k) → i ≢ r .of
+      none-waits {i = i} z o d s = alone (inv z (λ j e. apart-before (s j e))) o d (apart-latest (s i d) refl)

@@ -51,6 +51,9 @@ module _ {turn R : ℕ} {came : List Request} where
   pub in-time-rest : {x : ℕ} {r : Request} {l : List Request} → InTime turn R came x (r ∷ l) → InTime turn R came (x + turn) l
   in-time-rest (and o c a g) = g
 
+  pub in-time-differs : {x : ℕ} {r s : Request} {l : List Request} → InTime turn R came x (r ∷ l) → List·Memᴰ s l → r .of ≢ s .of
+  in-time-differs (and o c a g) = absent-then a
+
   pub in-time-each : {x : ℕ} {l : List Request} {r : Request} → InTime turn R came x l → List·Memᴰ r l → (x ≤ r .since + (R + 40)) × List·Memᴰ r came
   in-time-each none j = absurd (List·Memᴰ·not-nil j)
   in-time-each {x} {l} {r} (and {r = s} {l = l′} o c a g) j =

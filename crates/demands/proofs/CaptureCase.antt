@@ -1,0 +1,45 @@
+-- A capture on the page's worked segment, byte by byte: one request of stream 1, whose answer takes 210 bp, while the counter runs over to zero.
+-- So nothing that Captured supposes is empty. Assumes nothing.
+use Prim.Native.Nat.{ℕ}
+use mathlib.Core.Path.{_≡_, refl}
+use mathlib.Core.List.{List, [], _∷_, List·Memᴰ·not-nil}
+use native.Mathlib.Omega.{arith}
+use Rattle.common.specs.Checks.Verdict.{Passed}
+use Rattle.format.specs.Numbers.{be}
+use Rattle.segment.specs.Segment.{segmentOf, streamAt}
+use Rattle.pnet_run.specs.Run.{Belongs, request, answer, put, join, toward, on-way, next, Run, start, complete, arrive, serve}
+use Rattle.pnet_run.specs.Promise.{none, and, Spaced}
+use Rattle.log.specs.Log.{stampAt, fresh, largest, asks, answers, around, since, shown}
+use Rattle.log.specs.Records.{eventAt, eventsIn, heard}
+use Rattle.demands.specs.Logged.{logOf}
+use Rattle.demands.proofs.Demand3.{accepted-as-demanded}
+use Rattle.demands.proofs.PageCase.{sheet, bytes, lent, page, accepts}
+use Rattle.demands.proofs.Captured.{the-capture-passes}
+
+-- the token is at master 1 when its stream 1 asks: 7 bp reaction, 203 bp message
+unfoldable pub run : Run page 210 (toward (next (page .masters) 1) 40) (put (join (λ y. []) 1 (request 1 0)) 1 []) (request 1 0 ∷ [])
+    (answer (request 1 0) 210 ∷ [])
+unfolding sheet segmentOf streamAt put
+run =
+    let from : Run page 0 (toward 1 0) (λ y. []) [] [] = start {m = 1} {d = 0} (omega arith) (omega arith) (omega arith) in
+    let own : Belongs page 1 1 = record { from-one = omega arith; to-last = omega arith; own = refl } in
+    complete (serve {c = 0} 210 7 203 (arrive from on-way own) refl (omega arith) (omega arith) (omega arith) (omega arith) (omega arith) refl) refl
+
+-- 100 bp before the counter runs over: stamps 4,294,967,196 and 110
+unfoldable pub capture : List ℕ
+capture = 16 ∷ 0 ∷ 1 ∷ 255 ∷ 255 ∷ 255 ∷ 156 ∷ 17 ∷ 0 ∷ 1 ∷ 0 ∷ 0 ∷ 0 ∷ 110 ∷ []
+
+pub capture-is-the-log : eventsIn capture 2 ≡ logOf 4294967196 run
+unfolding capture run logOf stampAt eventsIn eventAt be
+capture-is-the-log = refl
+
+pub shows-210 : largest fresh (logOf 4294967196 run) 1 ≡ 210
+unfolding run logOf stampAt largest asks answers around since shown
+shows-210 = refl
+
+pub it-passes : heard capture (page .number) fresh ≡ Passed
+unfolding capture
+it-passes = the-capture-passes page (accepted-as-demanded bytes lent lent lent sheet accepts) run 4294967196 spaced capture 2 refl capture-is-the-log
+  where
+    spaced : (k : ℕ) → Spaced page k (request 1 0 ∷ [])
+    spaced k i b = and (λ e a j. absurd (List·Memᴰ·not-nil j)) none
