@@ -1,3 +1,4 @@
 pub mod Bounded
 pub mod Hearing
 pub mod Judged
+pub mod Told

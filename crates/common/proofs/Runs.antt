@@ -6,7 +6,7 @@ use native.Mathlib.Nat.{not-suc-le-zero}
 use native.Mathlib.Decide.{ℕ-discrete}
 use native.Mathlib.Numerals.{add-one}
 use native.Mathlib.Omega.{arith}
-use lib.ListN.{length, getD, take, drop, set, length-append, length-drop, length-set, List·getD-append}
+use lib.ListN.{length, getD, take, drop, set, length-append, length-drop, length-set, List·getD-append, replicate}
 use lib.Seq.{take-suc, take-all, drop-cons, set-at, getD-append-seam}
 use Rattle.common.specs.Runs.{tab, filled}
 
@@ -83,3 +83,9 @@ front-tab f l (suc n) h e =
 
 pub tab-places : (f : ℕ → ℕ) (l : List ℕ) (n : ℕ) → length l ≡ n → ((i : ℕ) → i < n → getD l i 0 ≡ f i) → l ≡ tab f n
 tab-places f l n h e = sym (take-all n l (omega (arith, h))) ∙ front-tab f l n (omega (arith, h)) e
+
+-- a run of zeros
+pub zero-at : (n i : ℕ) → _≡_ {A = ℕ} (getD (replicate n 0) i 0) 0
+zero-at zero i = refl
+zero-at (suc n) zero = refl
+zero-at (suc n) (suc i) = zero-at n i
