@@ -9,10 +9,10 @@ use lib.Dec.{ltb}
 use lib.ListN.{length, getD, replicate}
 use Rattle.common.specs.Checks.{Verdict}
 use Rattle.common.specs.Checks.Verdict.{Passed, Refused}
-use Rattle.common.specs.Runs.{tab}
+use Rattle.common.specs.Runs.{tab, filled}
 use Rattle.common.specs.Sums.{up}
 use Rattle.common.proofs.Firsts.{first-is}
-use Rattle.common.proofs.Runs.{getD-tab, zero-at}
+use Rattle.common.proofs.Runs.{filled-same, getD-tab, zero-at}
 use Rattle.log.specs.declared.Event.{Event}
 use Rattle.log.specs.Log.{Before, fresh, answers, answered, largest, above, left, shown}
 use Rattle.log.specs.Records.{size, eventAt, eventsIn, isRefused, judge, records, taken, heard}
@@ -20,6 +20,7 @@ use Rattle.capture.specs.declared.Taken.{Taken}
 use Rattle.capture.specs.declared.Taken.the-variants as answer
 use Rattle.capture.specs.Compared.{events}
 use Rattle.capture.specs.Pieces.{most, before, takenIn, takenBy, answerTo, leftAfter, answersAfter, largestAfter, aboveAfter}
+use Rattle.capture.specs.Steps.{runBy}
 
 -- ---- Counts are small
 
@@ -125,3 +126,10 @@ module _ (c : List ℕ) (n : ℕ) (few : n ≤ most) where
       above-whole bound =
           told (λ b es j. (getD none j 0 + above b (getD bound j 0) es (j + 1)) % 2 ^ 64) i l
           ∙ rw (zero-at most i) (omega (arith, above-few fresh (getD bound i 0) c (records c) (i + 1), some-records))
+
+-- a run that is handed over, where the capture is heard to its end
+pub handed : (c : List ℕ) (n : ℕ) (f : ℕ → ℕ) (run kept old new : List ℕ) → heard c n fresh ≡ Passed → new ≡ filled (λ i. getD run i 0) n old → run ≡ kept
+    → ((i : ℕ) → i < n → getD kept i 0 ≡ f i) → new ≡ runBy (heard c n fresh) f n old
+handed c n f run kept old new h e k w =
+    let same : new ≡ filled f n old = e ∙ filled-same (λ i. getD run i 0) f n old (λ i l. ap (λ (x : List ℕ). getD x i 0) k ∙ w i l) in
+    rw h same
