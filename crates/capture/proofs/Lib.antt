@@ -1,3 +1,4 @@
+pub mod Beside
 pub mod Bounded
 pub mod Hearing
 pub mod Judged
