@@ -17,7 +17,7 @@ above = refl
 
 -- an answer at its bound is within it, and a capture of no streams
 within : (captureText (item (3 ∷ [])) (item (250 ∷ [])) (item (250 ∷ [])) (item (7 ∷ [])) (item (0 ∷ [])) (item (0 ∷ [])) 1
-      ≡ word "P-NET capture\n" · word "stream 1 M03 bound 250 bp largest 250 bp 7 answers 0 above 0 open\n" · word "every answer within its bound\n")
+    ≡ word "P-NET capture\n" · word "stream 1 M03 bound 250 bp largest 250 bp 7 answers 0 above 0 open\n" · word "every answer within its bound\n")
     × (captureText (item []) (item []) (item []) (item []) (item []) (item []) 0 ≡ word "P-NET capture\n" · word "every answer within its bound\n")
 unfolding captureText streamAt streamLine whoseText periodsText countsText lastLine exceeding exceeds first sum inBp nameOf texts decimal places widthOf holds firstOf
 within = (refl, refl)

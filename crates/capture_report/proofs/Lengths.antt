@@ -7,7 +7,7 @@ use lib.Dec.{eqb}
 use lib.ListN.{length, length-append}
 use Rattle.units.specs.Units.{bp}
 use Rattle.units.specs.declared.BitPeriods.{BitPeriods}
-use Rattle.text.specs.Text.{word, places, decimal, texts}
+use Rattle.text.specs.Text.{word, decimal, texts}
 use Rattle.text.proofs.Numbers.{length-places}
 use Rattle.text.proofs.Lengths.{decimal-most, texts-most}
 use Rattle.lines.specs.Lines.{inBp, nameOf}

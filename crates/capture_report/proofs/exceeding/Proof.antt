@@ -1,4 +1,5 @@
--- `capture_report::exceeding` counts the streams that have an answer above their bound. The loop's invariant: those of the first i are counted. Assumes nothing.
+-- `capture_report::exceeding` counts the streams that have an answer above their bound. The loop's invariant: those of the first i are
+-- counted. Assumes nothing.
 use mathlib.Core.Path.{_≡_, refl, _∙_}
 use mathlib.Core.Logic.{⊎-elim}
 use Prim.Native.Nat.{_-_, _≤_}
@@ -38,7 +39,7 @@ loop-less : tie.Need-loop-less Inv-loop μ-loop
 loop-less c = search needs
 
 loop-again : tie.Need-loop-again Inv-loop μ-loop
-loop-again c = 
+loop-again c =
     let l = c .before .before .before .loop in
     let above = item (now (c .before .before .before .before .args .above)) in
     ⊎-elim (λ w. (omega arith, omega arith, w .1 ∙ exceeding-some above (l .i) (l .count) (l .inv .2) (w .0 .taken)))
@@ -46,7 +47,7 @@ loop-again c =
     (c .if1 .came)
 
 returns : tie.Need-returns Inv-loop μ-loop
-returns c = 
+returns c =
     let e : c .before .loop .i ≡ c .before .before .args .n = omega arith in
     rw e at (c .before .loop .inv .2)
 

@@ -1,4 +1,5 @@
--- `capture_report::first` finds the first stream that has an answer above its bound. The loop's invariant: none of the first i has one. Assumes nothing.
+-- `capture_report::first` finds the first stream that has an answer above its bound. The loop's invariant: none of the first i
+-- has one. Assumes nothing.
 use mathlib.Core.Path.{_≡_}
 use mathlib.Core.Bool.{false}
 use Prim.Native.Nat.{ℕ, _-_, _≤_, _<_}
@@ -29,7 +30,7 @@ element-copy-out-if1 c = search needs
 
 returns : tie.Need-returns Inv-loop μ-loop
 unfolding first
-returns c = 
+returns c =
     let l = c .before .before .before .loop in
     let a = c .before .before .before .before .args in
     found-first (exceeds (item (now (a .above)))) (a .n) (l .i) (l .inv .1) (exceeds-some (item (now (a .above))) (l .i) (c .if1 .taken)) (omega arith)
@@ -41,14 +42,14 @@ loop-less : tie.Need-loop-less Inv-loop μ-loop
 loop-less c = search needs
 
 loop-again : tie.Need-loop-again Inv-loop μ-loop
-loop-again c = 
+loop-again c =
     let l = c .before .before .before .loop in
     let above = item (now (c .before .before .before .before .args .above)) in
     (omega arith, none-more above (l .i) (l .inv .1) (omega (arith, c .if1 .left)))
 
 returns-2 : tie.Need-returns-2 Inv-loop μ-loop
 unfolding first
-returns-2 c = 
+returns-2 c =
     let l = c .before .loop in
     let a = c .before .before .args in
     found-none (exceeds (item (now (a .above)))) (a .n) (l .i) (l .inv .1) (omega arith)

@@ -25,7 +25,11 @@ same-length c = search needs
 
 returns : tie.Need-returns
 unfolding captureText
-returns c = rw (← c .before .before .before .before .before .before .before .before .before .before .before .before .before .shown .ensures) (wrote-then (c .before .before .before .before .before .before .before .before .before .before .put-word .ensures) (wrote-then (c .before .before .before .before .before .before .put-streams .ensures) (c .before .before .put-last .ensures)))
+returns c =
+    rw (← c .before .before .before .before .before .before .before .before .before .before .before .before .before .shown .ensures)
+    (wrote-then (c .before .before .before .before .before .before .before .before .before .before .put-word .ensures)
+    (wrote-then (c .before .before .before .before .before .before .put-streams .ensures) (c .before .before .put-last .ensures)))
 
 pub put-capture-spec : {M : Type 1} → statement M
-put-capture-spec = tie.close (tie.spec shown-requires slice-aggregate-put-word put-word-requires put-streams-requires put-last-requires same-length returns)
+put-capture-spec =
+    tie.close (tie.spec shown-requires slice-aggregate-put-word put-word-requires put-streams-requires put-last-requires same-length returns)

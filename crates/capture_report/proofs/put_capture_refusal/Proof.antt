@@ -36,7 +36,11 @@ same-length : tie.Need-same-length
 same-length c = search needs
 
 returns : tie.Need-returns
-returns c = rw pieces (wrote-then (c .before .before .before .before .before .before .before .before .put-counted .ensures) (c .before .before .put-counted2 .ensures))
+returns c =
+    rw pieces
+    (wrote-then (c .before .before .before .before .before .before .before .before .put-counted .ensures)
+    (c .before .before .put-counted2 .ensures))
 
 pub put-capture-refusal-spec : {M : Type 1} → statement M
-put-capture-refusal-spec = tie.close (tie.spec slice-aggregate-put-counted slice-aggregate-put-counted-2 put-counted-requires slice-aggregate-put-counted-3 slice-aggregate-put-counted-4 put-counted-requires-2 same-length returns)
+put-capture-refusal-spec =
+    tie.close (tie.spec slice-aggregate-put-counted slice-aggregate-put-counted-2 put-counted-requires slice-aggregate-put-counted-3 slice-aggregate-put-counted-4 put-counted-requires-2 same-length returns)

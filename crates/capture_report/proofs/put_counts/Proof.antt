@@ -49,7 +49,11 @@ same-length : tie.Need-same-length
 same-length c = search needs
 
 returns : tie.Need-returns
-returns c = rw pieces (wrote-then (c .before .before .before .before .before .before .before .before .before .before .before .before .before .before .put-counted .ensures) (wrote-then (c .before .before .before .before .before .before .before .before .put-counted2 .ensures) (c .before .before .put-counted3 .ensures)))
+returns c =
+    rw pieces
+    (wrote-then (c .before .before .before .before .before .before .before .before .before .before .before .before .before .before .put-counted .ensures)
+    (wrote-then (c .before .before .before .before .before .before .before .before .put-counted2 .ensures) (c .before .before .put-counted3 .ensures)))
 
 pub put-counts-spec : {M : Type 1} → statement M
-put-counts-spec = tie.close (tie.spec slice-aggregate-put-counted slice-aggregate-put-counted-2 put-counted-requires slice-aggregate-put-counted-3 slice-aggregate-put-counted-4 put-counted-requires-2 slice-aggregate-put-counted-5 slice-aggregate-put-counted-6 put-counted-requires-3 same-length returns)
+put-counts-spec =
+    tie.close (tie.spec slice-aggregate-put-counted slice-aggregate-put-counted-2 put-counted-requires slice-aggregate-put-counted-3 slice-aggregate-put-counted-4 put-counted-requires-2 slice-aggregate-put-counted-5 slice-aggregate-put-counted-6 put-counted-requires-3 same-length returns)

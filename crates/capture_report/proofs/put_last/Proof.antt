@@ -40,15 +40,16 @@ same-length : tie.Need-same-length
 same-length c = search needs
 
 returns : tie.Need-returns
-returns c = 
-    let start = c .before .before .before .before .before .before .before .before in
-    rw (last-none (item (now (start .args .above))) (start .args .n) _ (c .before .before .before .before .before .before .exceeding .ensures) (c .before .before .before .before .before .if1 .taken)) (c .before .before .put-word .ensures)
+returns c =
+    let a = c .before .before .before .before .before .before .before .before .args in
+    let e = c .before .before .before .before .before .before .exceeding .ensures in
+    rw (last-none (item (now (a .above))) (a .n) _ e (c .before .before .before .before .before .if1 .taken)) (c .before .before .put-word .ensures)
 
 first-requires : tie.Need-first-requires
 first-requires c κs = search needs
 
 add-lowest : tie.Need-add-lowest
-add-lowest c = 
+add-lowest c =
     let start = c .before .before .before .before in
     omega (arith, first-few (item (now (start .args .above))) (start .args .n), c .first .ensures, start .pre)
 
@@ -74,10 +75,12 @@ same-length-2 : tie.Need-same-length-2
 same-length-2 c = search needs
 
 returns-2 : tie.Need-returns-2
-returns-2 c = 
-    let start = c .before .before .before .before .before .before .before .before .before .before .before .before .before .before .before .before in
-    rw (last-some (item (now (start .args .above))) (start .args .n) _ (c .before .before .before .before .before .before .before .before .before .before .before .before .before .before .exceeding .ensures) _ (c .before .before .before .before .before .before .before .before .before .before .before .before .before .if1 .left) (c .before .before .before .before .before .before .before .before .before .before .before .before .first .ensures))
+returns-2 c =
+    let after = c .before .before .before .before .before .before .before .before .before .before .before .before in
+    let a = after .before .before .before .before .args in
+    rw (last-some (item (now (a .above))) (a .n) _ (after .before .before .exceeding .ensures) _ (after .before .if1 .left) (after .first .ensures))
     (wrote-then (c .before .before .before .before .before .before .before .before .put-counted .ensures) (c .before .before .put-counted2 .ensures))
 
 pub put-last-spec : {M : Type 1} → statement M
-put-last-spec = tie.close (tie.spec exceeding-requires slice-aggregate-put-word put-word-requires same-length returns first-requires add-lowest slice-aggregate-put-counted slice-aggregate-put-counted-2 put-counted-requires slice-aggregate-put-counted-3 slice-aggregate-put-counted-4 put-counted-requires-2 same-length-2 returns-2)
+put-last-spec =
+    tie.close (tie.spec exceeding-requires slice-aggregate-put-word put-word-requires same-length returns first-requires add-lowest slice-aggregate-put-counted slice-aggregate-put-counted-2 put-counted-requires slice-aggregate-put-counted-3 slice-aggregate-put-counted-4 put-counted-requires-2 same-length-2 returns-2)

@@ -31,7 +31,11 @@ same-length : tie.Need-same-length
 same-length c = search needs
 
 returns : tie.Need-returns
-returns c = rw pieces (wrote-then (c .before .before .before .before .before .before .before .put-bp .ensures) (c .before .before .put-bp2 .ensures))
+returns c =
+    rw pieces
+    (wrote-then (c .before .before .before .before .before .before .before .put-bp .ensures)
+    (c .before .before .put-bp2 .ensures))
 
 pub put-periods-spec : {M : Type 1} → statement M
-put-periods-spec = tie.close (tie.spec slice-aggregate-put-bp put-bp-requires slice-aggregate-put-bp-2 put-bp-requires-2 same-length returns)
+put-periods-spec =
+    tie.close (tie.spec slice-aggregate-put-bp put-bp-requires slice-aggregate-put-bp-2 put-bp-requires-2 same-length returns)

@@ -19,7 +19,9 @@ same-length c = search needs
 
 returns : tie.Need-returns
 unfolding streamLine
-returns c = wrote-then (c .before .before .before .before .before .before .before .before .before .before .put-whose .ensures) (wrote-then (c .before .before .before .before .before .before .put-periods .ensures) (c .before .before .put-counts .ensures))
+returns c =
+    wrote-then (c .before .before .before .before .before .before .before .before .before .before .put-whose .ensures)
+    (wrote-then (c .before .before .before .before .before .before .put-periods .ensures) (c .before .before .put-counts .ensures))
 
 pub put-stream-spec : {M : Type 1} → statement M
 put-stream-spec = tie.close (tie.spec put-whose-requires put-periods-requires put-counts-requires same-length returns)

@@ -64,17 +64,20 @@ loop-less c = search needs
 
 loop-again : tie.Need-loop-again Inv-loop μ-loop
 unfolding streamAt
-loop-again c = 
-    let start = c .before .before .before .before .before .before .before .before .before .before .before .before .before in
-    (omega arith, wrote-next (streamAt (item (now (start .args .masters))) (item (now (start .args .bound))) (item (now (start .args .largest))) (item (now (start .args .answers))) (item (now (start .args .above))) (item (now (start .args .left)))) (c .before .before .before .before .before .before .before .before .before .before .before .loop .inv .1) (c .before .before .put-stream .ensures))
+loop-again c =
+    let a = c .before .before .before .before .before .before .before .before .before .before .before .before .before .args in
+    let lines = streamAt (item (now (a .masters))) (item (now (a .bound))) (item (now (a .largest))) (item (now (a .answers))) (item (now (a .above))) (item (now (a .left))) in
+    (omega arith, wrote-next lines (c .before .before .before .before .before .before .before .before .before .before .before .loop .inv .1) (c .before .before .put-stream .ensures))
 
 same-length : tie.Need-same-length Inv-loop μ-loop
 same-length c = length-wrote (c .before .loop .inv .1)
 
 returns : tie.Need-returns Inv-loop μ-loop
-returns c = 
-    let start = c .before .before .before in
-    wrote-all (streamAt (item (now (start .args .masters))) (item (now (start .args .bound))) (item (now (start .args .largest))) (item (now (start .args .answers))) (item (now (start .args .above))) (item (now (start .args .left)))) (c .before .loop .inv .1) (omega arith)
+returns c =
+    let a = c .before .before .before .args in
+    let lines = streamAt (item (now (a .masters))) (item (now (a .bound))) (item (now (a .largest))) (item (now (a .answers))) (item (now (a .above))) (item (now (a .left))) in
+    wrote-all lines (c .before .loop .inv .1) (omega arith)
 
 pub put-streams-spec : {M : Type 1} → statement M
-put-streams-spec = tie.close (tie.spec Inv-loop μ-loop loop-holds add-put-stream element-copy-out-put-stream mul-t20 element-copy-out-t23 mul-t25 element-copy-out-t28 mul-put-stream element-copy-out-put-stream-2 mul-put-stream-2 element-copy-out-put-stream-3 element-copy-out-put-stream-4 put-stream-requires add-i loop-less loop-again same-length returns)
+put-streams-spec =
+    tie.close (tie.spec Inv-loop μ-loop loop-holds add-put-stream element-copy-out-put-stream mul-t20 element-copy-out-t23 mul-t25 element-copy-out-t28 mul-put-stream element-copy-out-put-stream-2 mul-put-stream-2 element-copy-out-put-stream-3 element-copy-out-put-stream-4 put-stream-requires add-i loop-less loop-again same-length returns)

@@ -31,7 +31,11 @@ same-length : tie.Need-same-length
 same-length c = search needs
 
 returns : tie.Need-returns
-returns c = rw pieces (wrote-then (c .before .before .before .before .before .before .put-counted .ensures) (c .before .before .put-name .ensures))
+returns c =
+    rw pieces
+    (wrote-then (c .before .before .before .before .before .before .put-counted .ensures)
+    (c .before .before .put-name .ensures))
 
 pub put-whose-spec : {M : Type 1} → statement M
-put-whose-spec = tie.close (tie.spec slice-aggregate-put-counted slice-aggregate-put-counted-2 put-counted-requires put-name-requires same-length returns)
+put-whose-spec =
+    tie.close (tie.spec slice-aggregate-put-counted slice-aggregate-put-counted-2 put-counted-requires put-name-requires same-length returns)
