@@ -122,7 +122,7 @@ fn first(above: &[u64; MOST], n: usize) -> u64
 {
     let mut i = 0;
     while i < n {
-        if above[i] > 0 {
+        if above[i] != 0 {
             return i as u64;
         }
         i += 1;

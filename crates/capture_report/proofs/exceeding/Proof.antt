@@ -42,7 +42,7 @@ loop-again : tie.Need-loop-again Inv-loop μ-loop
 loop-again c =
     let l = c .before .before .before .loop in
     let above = item (now (c .before .before .before .before .args .above)) in
-    ⊎-elim (λ w. (omega arith, omega arith, w .1 ∙ exceeding-some above (l .i) (l .count) (l .inv .2) (w .0 .taken)))
+    ⊎-elim (λ w. (omega arith, omega arith, w .1 ∙ exceeding-some above (l .i) (l .count) (l .inv .2) (omega (arith, w .0 .taken))))
     (λ w. (omega arith, omega arith, w .1 ∙ exceeding-none above (l .i) (l .count) (l .inv .2) (omega (arith, w .0 .left))))
     (c .if1 .came)
 

@@ -33,7 +33,7 @@ unfolding first
 returns c =
     let l = c .before .before .before .loop in
     let a = c .before .before .before .before .args in
-    found-first (exceeds (item (now (a .above)))) (a .n) (l .i) (l .inv .1) (exceeds-some (item (now (a .above))) (l .i) (c .if1 .taken)) (omega arith)
+    found-first (exceeds (item (now (a .above)))) (a .n) (l .i) (l .inv .1) (exceeds-some (item (now (a .above))) (l .i) (omega (arith, c .if1 .taken))) (omega arith)
 
 add-i : tie.Need-add-i Inv-loop μ-loop
 add-i c = search needs
