@@ -1,46 +1,21 @@
 -- How long the report's texts are at most, so that room is tested once. Assumes nothing.
-use mathlib.Core.List.{List, [], _++_}
+use mathlib.Core.List.{[], _++_}
 use mathlib.Core.Bool.{Bool, true, false, cond}
-use Prim.Native.Nat.{ℕ, zero, suc, _+_, _*_, _/_, _%_, _^_, _≤_, _<_}
-use native.Mathlib.Nat.{suc-mul}
+use Prim.Native.Nat.{ℕ, _+_, _*_, _/_, _%_, _^_, _≤_, _<_}
 use native.Mathlib.Omega.{arith}
 use lib.Dec.{leb, eqb}
 use lib.ListN.{length, length-append}
-use borrow.Author.Tests.{ltb-false}
-use Rattle.common.specs.Sums.{firstOf}
-use Rattle.common.proofs.Firsts.{first-is}
 use Rattle.profibus.specs.declared.answer.RingPeriods.{RingPeriods}
 use Rattle.segment.specs.Segment.{Segment, count, bound}
 use Rattle.segment.specs.Refined.{refined, rounds}
 use Rattle.units.specs.Units.{bp, microsUp}
 use Rattle.units.specs.declared.BitPeriods.{BitPeriods}
 use Rattle.units.specs.declared.Micros.{Micros}
-use Rattle.text.specs.Text.{word, places, holds, widthOf, decimal, texts}
+use Rattle.text.specs.Text.{word, places, decimal, texts}
 use Rattle.lines.specs.Lines.{inBp, inUs, inBoth, nameOf, figuresOf, masterLine, ringText, nameText, nameAt, rowLine, tableHead, placeText, placeEnd, refusalText}
 use Rattle.report.specs.Whole.{mostText, masterOf, mastersOf, rowAt, tableText}
-use Rattle.text.proofs.Numbers.{length-places, length-decimal}
-
--- ---- Numbers
-
--- a number that k digits hold, of 1 to 20, has at most k
-decimal-most : (k n : ℕ) → 1 ≤ k → k ≤ 20 → n < 10 ^ k → length (decimal n) ≤ k
-unfolding widthOf holds
-decimal-most k n lo hi s =
-    let f = first-is (holds n) 20 1 in
-    let less : (k < firstOf (holds n) 20 1 → ⊥) = λ h. omega (arith, ltb-false n (10 ^ k) (f .fails k lo h)) in
-    omega (arith, length-decimal n, less)
-
--- no number is written with more than 21
-decimal-any : (n : ℕ) → length (decimal n) ≤ 21
-unfolding widthOf
-decimal-any n = omega (arith, length-decimal n, first-is (holds n) 20 1 .to)
-
--- ---- Texts one behind another
-
-texts-most : (t : ℕ → List ℕ) (c n : ℕ) → ((i : ℕ) → i < n → length (t i) ≤ c) → length (texts t n) ≤ n * c
-unfolding texts
-texts-most t c zero le = omega arith
-texts-most t c (suc n) le = omega (arith, length-append (texts t n) (t n), texts-most t c n (λ i h. le i (omega arith)), le n (omega arith), suc-mul n c)
+use Rattle.text.proofs.Lengths.{decimal-most, decimal-any, texts-most}
+use Rattle.text.proofs.Numbers.{length-places}
 
 -- ---- P-NET
 

@@ -5,4 +5,3 @@ pub mod Page
 pub mod Segments
 pub mod Tables
 pub mod Third
-pub mod Zeros

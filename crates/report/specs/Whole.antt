@@ -1,5 +1,4 @@
 -- Page 01, 'Sheets worked by hand': the whole report of a sheet, from its bytes alone. Assumes nothing.
-use mathlib.Core.Path.{_≡_}
 use Prim.Native.Nat.{ℕ, _+_}
 use mathlib.Core.List.{List, [], _++_}
 use mathlib.Core.Bool.{cond}
@@ -24,17 +23,12 @@ use Rattle.table.specs.Traffic.{Traffic, microcycle, slots, rows, rowOf, identi
 use Rattle.worldfip.specs.Answer.{trafficOf, planChecks}
 use Rattle.report.specs.declared.Reported.{Reported}
 use Rattle.report.specs.declared.Reported.the-variants as answer
-use Rattle.text.specs.Text.{word, _·_, item, texts}
+use Rattle.text.specs.Text.{word, _·_, texts}
 use Rattle.lines.specs.Lines.{masterLine, ringText, rowLine, tableHead, refusalText}
 
 -- no report is longer
 abbrev pub mostText : ℕ
 mostText = 1613930
-
--- n zeros
-pub record Zeros (n : ℕ) (run : List ℕ) : Type 0 where
-  pub long : n ≡ length run
-  pub each : (i : ℕ) → item run i ≡ 0
 
 -- ---- P-NET
 

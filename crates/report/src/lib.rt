@@ -14,9 +14,9 @@ ghost use Rattle.sheet.specs.Whole.{reading};
 ghost use Rattle.profibus.specs.Planned.{planOf as ringPlan};
 ghost use Rattle.units.specs.Units.{us};
 ghost use Rattle.pnet.specs.Planned.{planned};
-ghost use Rattle.text.specs.Text.{Wrote, item, texts};
+ghost use Rattle.text.specs.Text.{Zeros, Wrote, item, texts};
 ghost use Rattle.report.specs.Arrays.{masterAt, segmentText};
-ghost use Rattle.report.specs.Whole.{mostText, Zeros, segmentReport, ringReport, rowAt, tableText, tableReport, firstKind, reportOf, answerOf, runOf};
+ghost use Rattle.report.specs.Whole.{mostText, segmentReport, ringReport, rowAt, tableText, tableReport, firstKind, reportOf, answerOf, runOf};
 
 // The first bytes of a sheet decide its report: a buffer of so many serves, however long the sheet is.
 pub const ENOUGH: usize = 9_614;

@@ -61,6 +61,11 @@ texts t (suc n) = texts t n · t n
 
 -- ---- Writing
 
+-- n zeros
+pub record Zeros (n : ℕ) (run : List ℕ) : Type 0 where
+  pub long : n ≡ length run
+  pub each : (i : ℕ) → item run i ≡ 0
+
 -- the place just after a text t that is stored from place `at` on in a run of n bytes: what does not fit is left out
 unfoldable pub behind : ℕ → ℕ → List ℕ → ℕ
 behind n at t = at + min (length t) (n - at)

@@ -1,6 +1,6 @@
 -- `report::sheet_buffer` is as long as the bytes that decide a report, all zeros. Assumes nothing.
 use Rattle.sheet.proofs.Lengths.{enough-is}
-use Rattle.report.proofs.Zeros.{zeros}
+use Rattle.text.proofs.Zeros.{zeros}
 use Rattle.report.proofs.sheet_buffer.Statement.{statement}
 use Rattle.report.proofs.sheet_buffer.Tie as tie
 

@@ -1,6 +1,6 @@
 -- `report::text_buffer` is as long as every report needs, all zeros. Assumes nothing.
 use Rattle.report.specs.Whole.{mostText}
-use Rattle.report.proofs.Zeros.{zeros}
+use Rattle.text.proofs.Zeros.{zeros}
 use Rattle.report.proofs.text_buffer.Statement.{statement}
 use Rattle.report.proofs.text_buffer.Tie as tie
 

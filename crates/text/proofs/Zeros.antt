@@ -4,8 +4,7 @@ use mathlib.Core.List.{List}
 use Prim.Native.Nat.{ℕ, zero, suc}
 use lib.ListN.{replicate, length-replicate}
 use lib.Seq.{ext-getD}
-use Rattle.text.specs.Text.{item}
-use Rattle.report.specs.Whole.{Zeros}
+use Rattle.text.specs.Text.{item, Zeros}
 
 zero-at : (n i : ℕ) → item (replicate n 0) i ≡ 0
 zero-at zero i = refl

@@ -1,0 +1,32 @@
+-- Page 02, 'Ask 1': the report of a capture as docs/DECISIONS.md prints it. Assumes nothing.
+use mathlib.Core.Path.{_≡_, refl}
+use mathlib.Core.List.{[], _∷_}
+use Rattle.common.specs.Sums.{sum, firstOf}
+use Rattle.text.specs.Text.{word, _·_, places, holds, widthOf, decimal, item, texts}
+use Rattle.lines.specs.Lines.{inBp, nameOf}
+use Rattle.capture_report.specs.Shown.{whoseText, periodsText, countsText, streamLine, streamAt, exceeds, exceeding, first, lastLine, captureText, captureRefusal}
+
+-- stream 1 has an answer above its bound, and stream 2 a request left open
+above : captureText (item (1 ∷ 1 ∷ [])) (item (250 ∷ 250 ∷ [])) (item (251 ∷ 0 ∷ [])) (item (2 ∷ 0 ∷ [])) (item (1 ∷ 0 ∷ [])) (item (0 ∷ 1 ∷ [])) 2
+    ≡ word "P-NET capture\n"
+    · word "stream 1 M01 bound 250 bp largest 251 bp 2 answers 1 above 0 open\n"
+    · word "stream 2 M01 bound 250 bp largest 0 bp 0 answers 0 above 1 open\n"
+    · word "answers above the bound in 1 streams, first stream 1\n"
+unfolding captureText streamAt streamLine whoseText periodsText countsText lastLine exceeding exceeds first sum inBp nameOf texts decimal places widthOf holds firstOf
+above = refl
+
+-- an answer at its bound is within it, and a capture of no streams
+within : (captureText (item (3 ∷ [])) (item (250 ∷ [])) (item (250 ∷ [])) (item (7 ∷ [])) (item (0 ∷ [])) (item (0 ∷ [])) 1
+    ≡ word "P-NET capture\n" · word "stream 1 M03 bound 250 bp largest 250 bp 7 answers 0 above 0 open\n" · word "every answer within its bound\n")
+    × (captureText (item []) (item []) (item []) (item []) (item []) (item []) 0 ≡ word "P-NET capture\n" · word "every answer within its bound\n")
+unfolding captureText streamAt streamLine whoseText periodsText countsText lastLine exceeding exceeds first sum inBp nameOf texts decimal places widthOf holds firstOf
+within = (refl, refl)
+
+-- the second stream is the first above
+second : lastLine (item (0 ∷ 2 ∷ 1 ∷ [])) 3 ≡ word "answers above the bound in 2 streams, first stream 2\n"
+unfolding lastLine exceeding exceeds first sum decimal places widthOf holds firstOf
+second = refl
+
+refusal : captureRefusal 15 7 ≡ word "refused 15 at capture byte 7\n"
+unfolding captureRefusal decimal places widthOf holds firstOf
+refusal = refl

@@ -1,0 +1,3 @@
+pub mod Counts
+pub mod Examples
+pub mod Lengths

@@ -1,0 +1,27 @@
+-- `capture_report::put_stream` stores the line of a stream. Assumes nothing.
+use Rattle.text.proofs.Writing.{wrote-then}
+use Rattle.capture_report.specs.Shown.{streamLine}
+use borrow.Author.Needs.{needs}
+use Rattle.capture_report.proofs.put_stream.Statement.{statement}
+use Rattle.capture_report.proofs.put_stream.Tie as tie
+
+put-whose-requires : tie.Need-put-whose-requires
+put-whose-requires c κs = search needs
+
+put-periods-requires : tie.Need-put-periods-requires
+put-periods-requires c κs = search needs
+
+put-counts-requires : tie.Need-put-counts-requires
+put-counts-requires c κs = search needs
+
+same-length : tie.Need-same-length
+same-length c = search needs
+
+returns : tie.Need-returns
+unfolding streamLine
+returns c =
+    wrote-then (c .before .before .before .before .before .before .before .before .before .before .put-whose .ensures)
+    (wrote-then (c .before .before .before .before .before .before .put-periods .ensures) (c .before .before .put-counts .ensures))
+
+pub put-stream-spec : {M : Type 1} → statement M
+put-stream-spec = tie.close (tie.spec put-whose-requires put-periods-requires put-counts-requires same-length returns)

@@ -1,0 +1,68 @@
+-- Page 02, 'Ask 1': the report of a capture, each line ended by one newline. The page leaves its words open; docs/DECISIONS.md fixes them.
+-- Assumes nothing.
+use Prim.Native.Nat.{ℕ, _+_}
+use mathlib.Core.List.{List}
+use mathlib.Core.Bool.{Bool, cond, not}
+use lib.Dec.{eqb}
+use Rattle.common.specs.Sums.{when, sum, firstOf}
+use Rattle.units.specs.Units.{bp}
+use Rattle.units.specs.declared.BitPeriods.{BitPeriods}
+use Rattle.text.specs.Text.{word, decimal, _·_, texts}
+use Rattle.lines.specs.Lines.{nameOf, inBp}
+
+-- no capture's report of at most 800 streams is longer
+abbrev pub mostCapture : ℕ
+mostCapture = 97671
+
+-- ---- One stream
+
+-- its number and its master
+unfoldable pub whoseText : ℕ → ℕ → List ℕ
+whoseText number master = word "stream " · decimal number · word " " · nameOf master
+
+-- its bound, and the largest response that the capture shows
+unfoldable pub periodsText : BitPeriods → BitPeriods → List ℕ
+periodsText bound largest = word " bound " · inBp bound · word " largest " · inBp largest
+
+-- its answers, those of them above the bound, and the requests left open
+unfoldable pub countsText : ℕ → ℕ → ℕ → List ℕ
+countsText answers above left = word " " · decimal answers · word " answers " · decimal above · word " above " · decimal left · word " open\n"
+
+unfoldable pub streamLine : ℕ → ℕ → BitPeriods → BitPeriods → ℕ → ℕ → ℕ → List ℕ
+streamLine number master bound largest answers above left =
+    whoseText number master · periodsText bound largest · countsText answers above left
+
+-- the stream at index i of the six runs
+unfoldable pub streamAt : (ℕ → ℕ) → (ℕ → ℕ) → (ℕ → ℕ) → (ℕ → ℕ) → (ℕ → ℕ) → (ℕ → ℕ) → ℕ → List ℕ
+streamAt masters bound largest answers above left i =
+    streamLine (i + 1) (masters i) (bp (bound i)) (bp (largest i)) (answers i) (above i) (left i)
+
+-- ---- All streams
+
+-- the stream at index i has an answer above its bound
+unfoldable pub exceeds : (ℕ → ℕ) → ℕ → Bool
+exceeds above i = not (eqb (above i) 0)
+
+-- how many of the first n streams have one
+unfoldable pub exceeding : (ℕ → ℕ) → ℕ → ℕ
+exceeding above n = sum (λ i. when (exceeds above i) 1) n
+
+-- the index of the first that has one
+unfoldable pub first : (ℕ → ℕ) → ℕ → ℕ
+first above n = firstOf (exceeds above) n 0
+
+unfoldable pub lastLine : (ℕ → ℕ) → ℕ → List ℕ
+lastLine above n =
+    cond (eqb (exceeding above n) 0) (word "every answer within its bound\n")
+    (word "answers above the bound in " · decimal (exceeding above n) · word " streams, first stream " · decimal (first above n + 1) · word "\n")
+
+-- ---- The report
+
+-- of n streams
+unfoldable pub captureText : (ℕ → ℕ) → (ℕ → ℕ) → (ℕ → ℕ) → (ℕ → ℕ) → (ℕ → ℕ) → (ℕ → ℕ) → ℕ → List ℕ
+captureText masters bound largest answers above left n =
+    word "P-NET capture\n" · texts (streamAt masters bound largest answers above left) n · lastLine above n
+
+-- of a capture that is refused with n at byte p
+unfoldable pub captureRefusal : ℕ → ℕ → List ℕ
+captureRefusal n p = word "refused " · decimal n · word " at capture byte " · decimal p · word "\n"

@@ -1,0 +1,183 @@
+// The report of a tester's capture beside the bounds of a P-NET sheet, page 02 'Ask 1'. What does not fit into the lent run is left
+// out; each function answers the place just after what it wrote.
+use lines::put_bp;
+use lines::put_name;
+use text::put_counted;
+use text::put_word;
+use units::BitPeriods;
+ghost use mathlib.Core.Path.{_≡_};
+ghost use Prim.Native.Nat.{_≤_, min};
+ghost use Rattle.text.specs.Text.{Zeros, Wrote, item, texts};
+ghost use Rattle.capture_report.specs.Shown;
+ghost use Rattle.capture_report.specs.Shown.{mostCapture, whoseText, periodsText, countsText, streamLine, streamAt, lastLine, captureText, captureRefusal};
+
+// No sheet has more streams.
+pub const MOST: usize = 800;
+
+// No report of a capture is longer.
+pub const MOST_TEXT: usize = 97_671;
+
+// Room for every report of a capture.
+pub fn text_buffer() -> [u8; MOST_TEXT]
+    ensures { λ r. ⌜ Zeros mostCapture r ⌝ }
+{
+    [0; MOST_TEXT]
+}
+
+fn put_periods(out: &mut [u8], at: usize, bound: BitPeriods, largest: BitPeriods) -> usize
+    ensures { λ r. ⌜ Wrote (now (out .entry)) at (periodsText bound largest) (now (out .exit)) r ⌝ }
+{
+    let next = put_bp(out, at, b" bound ", bound);
+    put_bp(out, next, b" largest ", largest)
+}
+
+fn put_counts(out: &mut [u8], at: usize, answers: u64, above: u64, left: u8) -> usize
+    ensures { λ r. ⌜ Wrote (now (out .entry)) at (countsText answers above left) (now (out .exit)) r ⌝ }
+{
+    let next = put_counted(out, at, b" ", answers, b" answers ");
+    let rest = put_counted(out, next, b"", above, b" above ");
+    put_counted(out, rest, b"", left as u64, b" open\n")
+}
+
+// The number and the master of a stream.
+fn put_whose(out: &mut [u8], at: usize, number: u64, master: u8) -> usize
+    ensures { λ r. ⌜ Wrote (now (out .entry)) at (whoseText number master) (now (out .exit)) r ⌝ }
+{
+    let name = put_counted(out, at, b"stream ", number, b" ");
+    put_name(out, name, master as u64)
+}
+
+fn put_stream(
+    out: &mut [u8],
+    at: usize,
+    number: u64,
+    master: u8,
+    bound: BitPeriods,
+    largest: BitPeriods,
+    answers: u64,
+    above: u64,
+    left: u8,
+) -> usize
+    ensures { λ r. ⌜ Wrote (now (out .entry)) at (streamLine number master bound largest answers above left) (now (out .exit)) r ⌝ }
+{
+    let periods = put_whose(out, at, number, master);
+    let counts = put_periods(out, periods, bound, largest);
+    put_counts(out, counts, answers, above, left)
+}
+
+// The lines of the first n streams.
+fn put_streams(
+    out: &mut [u8],
+    at: usize,
+    n: usize,
+    masters: &[u8; MOST],
+    bound: &[u32; MOST],
+    largest: &[u32; MOST],
+    answers: &[u64; MOST],
+    above: &[u64; MOST],
+    left: &[u8; MOST],
+) -> usize
+    requires { ⌜ n ≤ 800 ⌝ }
+    ensures { λ r. ⌜ Wrote (now (out .entry)) at (texts (streamAt (item (now (masters .entry))) (item (now (bound .entry))) (item (now (largest .entry))) (item (now (answers .entry))) (item (now (above .entry))) (item (now (left .entry)))) n) (now (out .exit)) r ⌝ }
+{
+    let mut next = at;
+    let mut i = 0;
+    while i < n {
+        next = put_stream(
+            out,
+            next,
+            i as u64 + 1,
+            masters[i],
+            BitPeriods(bound[i]),
+            BitPeriods(largest[i]),
+            answers[i],
+            above[i],
+            left[i],
+        );
+        i += 1;
+    }
+    next
+}
+
+// How many of the first n streams have an answer above their bound.
+fn exceeding(above: &[u64; MOST], n: usize) -> u64
+    requires { ⌜ n ≤ 800 ⌝ }
+    ensures { λ r. ⌜ r ≡ Shown.exceeding (item (now (above .entry))) n ⌝ }
+{
+    let mut count: u64 = 0;
+    let mut i = 0;
+    while i < n {
+        if above[i] > 0 {
+            count += 1;
+        }
+        i += 1;
+    }
+    count
+}
+
+// The index of the first of them.
+fn first(above: &[u64; MOST], n: usize) -> u64
+    requires { ⌜ n ≤ 800 ⌝ }
+    ensures { λ r. ⌜ r ≡ Shown.first (item (now (above .entry))) n ⌝ }
+{
+    let mut i = 0;
+    while i < n {
+        if above[i] != 0 {
+            return i as u64;
+        }
+        i += 1;
+    }
+    i as u64
+}
+
+fn put_last(out: &mut [u8], at: usize, above: &[u64; MOST], n: usize) -> usize
+    requires { ⌜ n ≤ 800 ⌝ }
+    ensures { λ r. ⌜ Wrote (now (out .entry)) at (lastLine (item (now (above .entry))) n) (now (out .exit)) r ⌝ }
+{
+    let count = exceeding(above, n);
+    if count == 0 {
+        return put_word(out, at, b"every answer within its bound\n");
+    }
+    let lowest = first(above, n) + 1;
+    let next = put_counted(
+        out,
+        at,
+        b"answers above the bound in ",
+        count,
+        b" streams, first stream ",
+    );
+    put_counted(out, next, b"", lowest, b"\n")
+}
+
+fn shown(streams: usize) -> usize
+    ensures { λ r. ⌜ r ≡ min streams 800 ⌝ }
+{
+    if streams < MOST { streams } else { MOST }
+}
+
+// Writes the report at the start of the lent run. More than 800 streams count as 800.
+pub fn put_capture(
+    out: &mut [u8],
+    streams: usize,
+    masters: &[u8; MOST],
+    bound: &[u32; MOST],
+    largest: &[u32; MOST],
+    answers: &[u64; MOST],
+    above: &[u64; MOST],
+    left: &[u8; MOST],
+) -> usize
+    ensures { λ r. ⌜ Wrote (now (out .entry)) 0 (captureText (item (now (masters .entry))) (item (now (bound .entry))) (item (now (largest .entry))) (item (now (answers .entry))) (item (now (above .entry))) (item (now (left .entry))) (min streams 800)) (now (out .exit)) r ⌝ }
+{
+    let n = shown(streams);
+    let lines = put_word(out, 0, b"P-NET capture\n");
+    let last = put_streams(out, lines, n, masters, bound, largest, answers, above, left);
+    put_last(out, last, above, n)
+}
+
+// Writes the report of a capture that is refused.
+pub fn put_capture_refusal(out: &mut [u8], no: u8, place: u64) -> usize
+    ensures { λ r. ⌜ Wrote (now (out .entry)) 0 (captureRefusal no place) (now (out .exit)) r ⌝ }
+{
+    let next = put_counted(out, 0, b"refused ", no as u64, b" at capture byte ");
+    put_counted(out, next, b"", place, b"\n")
+}
