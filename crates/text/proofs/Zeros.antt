@@ -1,15 +1,11 @@
 -- A run that nothing was stored in is zeros, and two of one length are equal. Assumes nothing.
-use mathlib.Core.Path.{_≡_, refl, sym, _∙_}
+use mathlib.Core.Path.{_≡_, sym, _∙_}
 use mathlib.Core.List.{List}
-use Prim.Native.Nat.{ℕ, zero, suc}
+use Prim.Native.Nat.{ℕ}
 use lib.ListN.{replicate, length-replicate}
 use lib.Seq.{ext-getD}
-use Rattle.text.specs.Text.{item, Zeros}
-
-zero-at : (n i : ℕ) → item (replicate n 0) i ≡ 0
-zero-at zero i = refl
-zero-at (suc n) zero = refl
-zero-at (suc n) (suc i) = zero-at n i
+use Rattle.common.proofs.Runs.{zero-at}
+use Rattle.text.specs.Text.{Zeros}
 
 -- the element type is written out: left to be found, a long run would be computed
 pub zeros : (n : ℕ) → Zeros n (replicate {0} {A = ℕ} n 0)
