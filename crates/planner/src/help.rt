@@ -1,4 +1,4 @@
-// What --help writes: what the bytes of a sheet are, with units.
+// What --help writes: what the bytes of a sheet and of a capture are, with units.
 use libc::STDOUT_FILENO;
 
 fn line(text: &[u8]) {
@@ -9,9 +9,12 @@ fn line(text: &[u8]) {
 fn usage() {
     line(b"planner: plans a fieldbus sheet and writes a report");
     line(b"");
-    line(b"planner < SHEET    reads the sheet from standard input");
-    line(b"planner SHEET      reads it from the file SHEET");
-    line(b"planner --help     writes this");
+    line(b"planner < SHEET          reads the sheet from standard input");
+    line(b"planner SHEET            reads it from the file SHEET");
+    line(b"planner SHEET CAPTURE    lays a tester's capture beside the bounds of a P-NET sheet");
+    line(b"planner --help           writes this");
+    line(b"");
+    line(b"- stands for standard input: planner SHEET - < CAPTURE");
 }
 
 fn kinds() {
@@ -41,6 +44,18 @@ fn rules() {
     );
 }
 
+fn captures() {
+    line(
+        b"A capture is a row of records of its own: one byte of kind, 16 for a request that enters its queue or 17 for its completed answer,",
+    );
+    line(
+        b"then the stream's number (2) and the stamp (4), a counter of bp that runs over to zero. A response is true below 4294967296 bp.",
+    );
+    line(
+        b"Its report has a line for each stream: bound, largest response, answers, answers above the bound, and 1 or 0 requests left open.",
+    );
+}
+
 fn refusals() {
     line(b"A sheet that cannot be planned is refused with a number and a place:");
     line(b"   1  it is empty, or ends inside a record     2  a kind that is not 1..6");
@@ -49,6 +64,11 @@ fn refusals() {
     line(b"   7  an identifier met before                 8  a P-NET bound above a deadline");
     line(b"   9  a PROFIBUS stream fails at L            10  no exchange fits a microcycle");
     line(b"  11  more than 4096 rows                     12  a variable misses its period");
+    line(b"  14  a stream that is not on the sheet       15  an answer with no request open");
+    line(b"  16  a request while one is open");
+    line(
+        b"In a capture 1 is a record that is cut, 2 a kind that is neither 16 nor 17, and the place is a byte of the capture.",
+    );
 }
 
 pub(crate) fn help() {
@@ -57,6 +77,8 @@ pub(crate) fn help() {
     kinds();
     line(b"");
     rules();
+    line(b"");
+    captures();
     line(b"");
     refusals();
 }

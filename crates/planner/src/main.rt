@@ -1,53 +1,14 @@
-// Reads a sheet from standard input, or from the file that its argument names, and writes its report to standard output.
+// Reads a sheet from standard input, or from the file that its argument names, and writes its report to standard output. With a
+// second name it lays that capture beside the sheet's bounds.
+mod beside;
 mod help;
+mod input;
 
+use input::read_all;
 use libc::STDERR_FILENO;
 use libc::STDIN_FILENO;
 use libc::STDOUT_FILENO;
 use report::Reported;
-ghost use Prim.Native.Nat.{_≤_};
-ghost use lib.ListN.{length};
-
-// What was read: how many bytes, and whether a read failed.
-struct Input {
-    length: usize,
-    failed: bool,
-}
-
-// One read behind the first `at` bytes.
-fn read_more(fd: i32, buf: &mut [u8], at: usize) -> Input
-    requires { ⌜ at ≤ length (now buf) ⌝ }
-    ensures { λ r. ⌜ (at ≤ r .length) × (r .length ≤ length (now (buf .entry))) ⌝ }
-{
-    let rest = &mut buf[at..];
-    let got = libc::read(fd, rest);
-    let n = io::count(got, rest);
-    Input {
-        length: at + n,
-        failed: got < 0,
-    }
-}
-
-// Reads until the input ends, a read fails or the buffer is full: bytes behind a full buffer change no report.
-fn read_all(fd: i32, buf: &mut [u8]) -> Input
-    ensures { λ r. ⌜ r .length ≤ length (now (buf .entry)) ⌝ }
-{
-    let mut at = 0;
-    while at < buf.len() {
-        let next = read_more(fd, buf, at);
-        if next.failed {
-            return next;
-        }
-        if next.length == at {
-            return next;
-        }
-        at = next.length;
-    }
-    Input {
-        length: at,
-        failed: false,
-    }
-}
 
 fn write_report(s: &[u8]) {
     let mut text = report::text_buffer();
@@ -61,7 +22,7 @@ fn write_report(s: &[u8]) {
     }
 }
 
-// Plans what can be read, or says why it cannot; then nothing is reported.
+// Plans what can be read, or says why it cannot; then nothing is reported. Bytes behind a full buffer change no report.
 fn plan(fd: i32, name: &[u8]) {
     let mut sheet = report::sheet_buffer();
     let input = read_all(fd, &mut sheet);
@@ -73,8 +34,16 @@ fn plan(fd: i32, name: &[u8]) {
     write_report(&sheet[..n]);
 }
 
+// The file of a name; `-` is standard input.
+fn open(name: &[u8]) -> i32 {
+    if check::same(name, b"-") {
+        return STDIN_FILENO;
+    }
+    os::open_read(name)
+}
+
 fn plan_file(name: &[u8]) {
-    let fd = os::open_read(name);
+    let fd = open(name);
     if fd < 0 {
         os::fail(name);
         return;
@@ -91,23 +60,72 @@ fn plan_word(word: &[u8]) {
     }
 }
 
-fn main() {
-    if os::arg_count() < 2 {
-        plan(STDIN_FILENO, b"standard input");
+// Reads the sheet; then the capture is heard.
+fn compare(sheet_fd: i32, sheet_name: &[u8], fd: i32, name: &[u8]) {
+    let mut sheet = report::sheet_buffer();
+    let input = read_all(sheet_fd, &mut sheet);
+    if input.failed {
+        os::fail(sheet_name);
         return;
     }
-    if os::arg_count() > 2 {
-        io::write_all(
-            STDERR_FILENO,
-            b"planner takes one sheet; planner --help says more\n",
-        );
+    let n = input.length;
+    beside::compare(&sheet[..n], fd, name);
+}
+
+fn compare_files(sheet_name: &[u8], name: &[u8]) {
+    let sheet_fd = open(sheet_name);
+    if sheet_fd < 0 {
+        os::fail(sheet_name);
         return;
     }
-    let mut word = io::buffer();
-    let n = os::arg(1, &mut word);
+    let fd = open(name);
+    if fd < 0 {
+        os::fail(name);
+        return;
+    }
+    if sheet_fd == fd {
+        complain(b"planner: standard input serves for the sheet or for the capture\n");
+        return;
+    }
+    compare(sheet_fd, sheet_name, fd, name);
+    libc::close(fd);
+    libc::close(sheet_fd);
+}
+
+fn complain(words: &[u8]) {
+    io::write_all(STDERR_FILENO, words);
+}
+
+// One argument, or two.
+fn by_words(count: usize) {
+    let mut first = io::buffer();
+    let n = os::arg(1, &mut first);
     if os::errno() != 0 {
         os::fail(b"argument");
         return;
     }
-    plan_word(&word[..n]);
+    if count == 2 {
+        plan_word(&first[..n]);
+        return;
+    }
+    let mut second = io::buffer();
+    let m = os::arg(2, &mut second);
+    if os::errno() != 0 {
+        os::fail(b"argument");
+        return;
+    }
+    compare_files(&first[..n], &second[..m]);
+}
+
+fn main() {
+    let count = os::arg_count();
+    if count < 2 {
+        plan(STDIN_FILENO, b"standard input");
+        return;
+    }
+    if count > 3 {
+        complain(b"planner takes one sheet, and one capture; planner --help says more\n");
+        return;
+    }
+    by_words(count);
 }

@@ -109,6 +109,11 @@ unfolding texts
 texts-same t u zero e = refl
 texts-same t u (suc n) e = rw (texts-same t u n (λ i h. e i (omega arith)), e n (omega arith))
 
+-- what is stored from the start of a run lies within it
+pub wrote-inside : {o t o' : List ℕ} {r : ℕ} → Wrote o 0 t o' r → r ≤ length o'
+unfolding behind
+wrote-inside {o} {t} {o'} {r} w = omega (arith, w .ends, length-wrote w)
+
 -- a text at the start of a run that holds it: the text, and behind it what stood there
 pub wrote-front : {o t o' : List ℕ} {r : ℕ} → Wrote o 0 t o' r → length t ≤ length o → (r ≡ length t) × (o' ≡ t ++ drop (length t) o)
 unfolding behind

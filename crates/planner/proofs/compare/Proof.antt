@@ -1,0 +1,48 @@
+-- `planner::compare` hands on what was read, which stands within the buffer. Assumes nothing.
+use mathlib.Core.Path.{sym}
+use native.Mathlib.Omega.{arith}
+use lib.Seq.{length-take-le}
+use borrow.Author.Needs.{needs}
+use Rattle.planner.proofs.compare.Statement.{statement}
+use Rattle.planner.proofs.compare.Tie as tie
+
+sheet-buffer-requires : tie.Need-sheet-buffer-requires
+sheet-buffer-requires c κs = search needs
+
+slice-aggregate-read-all : tie.Need-slice-aggregate-read-all
+slice-aggregate-read-all c = search needs
+
+read-all-requires : tie.Need-read-all-requires
+read-all-requires c κs = search needs
+
+fail-requires : tie.Need-fail-requires
+fail-requires c κs = search needs
+
+returns : tie.Need-returns
+returns c = search needs
+
+array-share-prefix-sheet : tie.Need-array-share-prefix-sheet
+array-share-prefix-sheet c = search needs
+
+slice-aggregate-compare : tie.Need-slice-aggregate-compare
+slice-aggregate-compare c = sym (length-take-le _ _ (omega (arith, c .before .before .before .read-all .ensures, c .before .before .before .read-all .kept .1 .0)))
+
+compare-requires : tie.Need-compare-requires
+compare-requires c κs = search needs
+
+returns-2 : tie.Need-returns-2
+returns-2 c = search needs
+
+pub compare-spec : {M : Type 1} → statement M
+compare-spec =
+    tie.close
+    (tie.spec
+    sheet-buffer-requires
+    slice-aggregate-read-all
+    read-all-requires
+    fail-requires
+    returns
+    array-share-prefix-sheet
+    slice-aggregate-compare
+    compare-requires
+    returns-2)

@@ -1,0 +1,113 @@
+// A tester's capture beside the bounds of a sheet, read piece by piece: nothing is kept of a capture but what `capture::take` keeps.
+use crate::input::read_all;
+use capture::MOST;
+use capture::Taken;
+use libc::STDERR_FILENO;
+use libc::STDOUT_FILENO;
+use pnet::Plan;
+ghost use Prim.Native.Nat.{_≤_};
+ghost use lib.ListN.{length};
+
+// So many whole records: a piece that fills the buffer ends with a record, and one that does not ends the capture.
+const PIECE: usize = 65_534;
+
+// No place of a capture is counted behind this one, 2^63.
+const LAST: usize = 9_223_372_036_854_775_808;
+
+fn write(text: &[u8]) {
+    if !io::write_all(STDOUT_FILENO, text) {
+        os::fail(b"standard output");
+    }
+}
+
+// A refusal of the sheet.
+fn write_refusal(no: u8, place: usize) {
+    let mut text = io::buffer();
+    let n = lines::put_refusal(&mut text, 0, no, place as u64);
+    write(&text[..n]);
+}
+
+// A refusal of the capture.
+fn write_capture_refusal(no: u8, place: usize) {
+    let mut text = io::buffer();
+    let n = capture_report::put_capture_refusal(&mut text, no, place as u64);
+    write(&text[..n]);
+}
+
+fn write_capture(
+    streams: usize,
+    masters: &[u8; MOST],
+    bound: &[u32; MOST],
+    largest: &[u32; MOST],
+    answers: &[u64; MOST],
+    above: &[u64; MOST],
+    left: &[u8; MOST],
+) {
+    let mut text = capture_report::text_buffer();
+    let n = capture_report::put_capture(
+        &mut text,
+        streams,
+        masters,
+        bound,
+        largest,
+        answers,
+        above,
+        left,
+    );
+    write(&text[..n]);
+}
+
+// Hears a capture to its end or its first refusal, and writes what it shows.
+fn hear(fd: i32, name: &[u8], streams: usize, masters: &[u8; MOST], bound: &[u32; MOST]) {
+    let mut left = [0u8; MOST];
+    let mut since = [0u32; MOST];
+    let mut answers = [0u64; MOST];
+    let mut largest = [0u32; MOST];
+    let mut above = [0u64; MOST];
+    let mut piece = [0u8; PIECE];
+    let mut before: usize = 0;
+    while before < LAST {
+        let input = read_all(fd, &mut piece);
+        if input.failed {
+            os::fail(name);
+            return;
+        }
+        let n = input.length;
+        let taken = capture::take(
+            &piece[..n],
+            streams,
+            bound,
+            &mut left,
+            &mut since,
+            &mut answers,
+            &mut largest,
+            &mut above,
+        );
+        if let Taken::Refused { no, place } = taken {
+            write_capture_refusal(no, before + place);
+            return;
+        }
+        if n < PIECE {
+            write_capture(streams, masters, bound, &largest, &answers, &above, &left);
+            return;
+        }
+        before += PIECE;
+    }
+    io::write_all(
+        STDERR_FILENO,
+        b"planner: the capture is too long to be counted\n",
+    );
+}
+
+// Lays the capture behind a descriptor beside the bounds of a sheet.
+pub(crate) fn compare(sheet: &[u8], fd: i32, name: &[u8]) {
+    let mut masters = [0u8; MOST];
+    let mut bound = [0u32; MOST];
+    match capture::bounds(sheet, MOST, &mut masters, &mut bound) {
+        Plan::Accepted {
+            masters: _,
+            streams,
+        } => hear(fd, name, streams, &masters, &bound),
+        Plan::Refused { no, place } => write_refusal(no, place),
+    }
+}
