@@ -1,11 +1,12 @@
-"""A second opinion on sheets: page 01 written again in plain Python.
+"""A second opinion on sheets and captures: pages 01 and 02 written again in plain Python.
 
 It shares no code with the planner, so that the two can only agree where both
 follow the page. It favours the page's own words over speed: the refined
 figure is worked out by the formula with its minus signs, and the WorldFIP
 table with lists of pending requests.
 
-As a command it reads a sheet from standard input and writes the report.
+As a command it reads a sheet from standard input and writes the report; with the names of a sheet and of a
+capture it writes the report of the capture.
 """
 
 import math
@@ -24,6 +25,10 @@ PnetPlan = namedtuple("PnetPlan", "bound refined rounds")
 ProfibusPlan = namedtuple("ProfibusPlan", "ttr stream")
 # rank: variable numbers (from 1, in sheet order), best rank first
 WorldfipPlan = namedtuple("WorldfipPlan", "microcycle slots rows rank")
+
+# what a capture shows of each stream: master and bound, then answers, largest response, answers above the
+# bound and requests left open
+Shown = namedtuple("Shown", "master bound answers largest above left")
 
 # place: the place just after the record
 Written = namedtuple("Written", "place record")
@@ -350,6 +355,65 @@ def plan_worldfip(data, lent=None):
     return WorldfipPlan(microcycle, slots, rows, [v + 1 for v in rank])
 
 
+# ---------------------------------------------------------------- captures
+
+REQUEST, ANSWER = 16, 17
+EVENT_LENGTH = 7
+COUNTER = 2**32
+
+
+def hear(capture, bounds):
+    """For each stream its answers, largest response, answers above and left open, or the first refusal.
+
+    Each stream's records are gathered first and its responses worked out afterwards, two by two: what is
+    refused makes requests and answers alternate.
+    """
+    own = [[] for _ in bounds]
+    for place in range(0, len(capture), EVENT_LENGTH):
+        event = capture[place : place + EVENT_LENGTH]
+        if event[0] not in (REQUEST, ANSWER):
+            return Refusal(2, place)
+        if len(event) < EVENT_LENGTH:
+            return Refusal(1, place)
+        stream = int.from_bytes(event[1:3], "big")
+        if not 1 <= stream <= len(bounds):
+            return Refusal(14, place)
+        records = own[stream - 1]
+        waiting = len(records) % 2 == 1
+        if event[0] == ANSWER and not waiting:
+            return Refusal(15, place)
+        if event[0] == REQUEST and waiting:
+            return Refusal(16, place)
+        records.append(int.from_bytes(event[3:], "big"))
+    figures = []
+    for stamps, bound in zip(own, bounds):
+        responses = [(later - earlier) % COUNTER for earlier, later in zip(stamps[::2], stamps[1::2])]
+        figures.append(
+            (len(responses), max(responses, default=0), sum(r > bound for r in responses), len(stamps) % 2)
+        )
+    return figures
+
+
+def compare_capture(data, capture, lent=None):
+    """What a capture shows beside the bounds of a sheet; `lent` is the length of the shortest lent run."""
+    sheet = read(data)
+    if isinstance(sheet, Refusal):
+        return sheet
+    if sheet.kind != 1:
+        return Refusal(3, 0)
+    if lent is not None and lent < len(sheet.streams):
+        return Refusal(13, len(sheet.streams))
+    plan = plan_pnet(data)
+    if isinstance(plan, Refusal):
+        return plan
+    masters = [stream[0] for stream in sheet.streams]
+    bounds = [plan.bound[master - 1] for master in masters]
+    figures = hear(capture, bounds)
+    if isinstance(figures, Refusal):
+        return figures
+    return [Shown(master, bound, *figure) for master, bound, figure in zip(masters, bounds, figures)]
+
+
 # ---------------------------------------------------------------- report
 
 
@@ -416,5 +480,40 @@ def report(data):
     return "".join(line + "\n" for line in report_lines(data)).encode("ascii")
 
 
+def capture_lines(data, capture):
+    # a sheet that is accepted beside an empty capture is refused by nothing but the capture
+    sheet = compare_capture(data, b"")
+    if isinstance(sheet, Refusal):
+        return [refusal_line(sheet)]
+    shown = compare_capture(data, capture)
+    if isinstance(shown, Refusal):
+        return ["refused %d at capture byte %d" % shown]
+    lines = ["P-NET capture"]
+    for number, one in enumerate(shown, start=1):
+        lines.append(
+            "stream %d M%02d bound %d bp largest %d bp %d answers %d above %d open"
+            % (number, one.master, one.bound, one.largest, one.answers, one.above, one.left)
+        )
+    above = [number for number, one in enumerate(shown, start=1) if one.above]
+    if above:
+        lines.append("answers above the bound in %d streams, first stream %d" % (len(above), above[0]))
+    else:
+        lines.append("every answer within its bound")
+    return lines
+
+
+def capture_report(data, capture):
+    """The program's standard output for this sheet and this capture, byte for byte."""
+    return "".join(line + "\n" for line in capture_lines(data, capture)).encode("ascii")
+
+
+def main(names):
+    if len(names) == 2:
+        data, capture = (open(name, "rb").read() for name in names)
+        sys.stdout.buffer.write(capture_report(data, capture))
+    else:
+        sys.stdout.buffer.write(report(sys.stdin.buffer.read()))
+
+
 if __name__ == "__main__":
-    sys.stdout.buffer.write(report(sys.stdin.buffer.read()))
+    main(sys.argv[1:])
