@@ -1,3 +1,4 @@
+pub mod Heard
 pub mod Joined
 pub mod Laws
 pub mod Records
