@@ -13,7 +13,7 @@ use Rattle.log.specs.declared.Event.{Event}
 use Rattle.log.specs.Log as Log
 use Rattle.log.specs.Log.{Before}
 use Rattle.log.specs.Records.{size, eventsIn, judge, taken, heard}
-use Rattle.log.proofs.Joined.{Leaves, later, events-behind, records-front}
+use Rattle.log.proofs.Joined.{Leaves, later, events-behind, records-whole}
 use Rattle.log.proofs.Heard.{all-taken, taken-behind, heard-behind}
 use Rattle.capture.specs.declared.Taken.the-variants as answer
 use Rattle.capture.specs.Pieces.{most, before, behind, takenIn, takenBy, answerTo, leftAfter, sinceAfter}
@@ -61,7 +61,7 @@ module _ (c : List ℕ) (n : ℕ) (left since : List ℕ) where
 
     first-events : takenIn c n b ≡ eventsIn c m
     unfolding takenIn
-    first-events = ap (eventsIn c) (all-taken c (min n most) b passed ∙ records-front c p m whole)
+    first-events = ap (eventsIn c) (all-taken c (min n most) b passed ∙ records-whole c m whole)
 
     first-leaves : Leaves most b (eventsIn c m) b'
     first-leaves = subst (λ (es : List Event). Leaves most b es b') first-events leaves
@@ -73,7 +73,8 @@ module _ (c : List ℕ) (n : ℕ) (left since : List ℕ) where
     unfolding takenIn
     both-events =
         ap (eventsIn (c ++ p)) (taken-behind c p m whole (min n most) passed first-leaves (omega arith))
-        ∙ (events-behind c p m whole (taken p (min n most) b') ∙ ap (λ (es : List Event). eventsIn p (taken p (min n most) b') ++ es) (sym first-events))
+        ∙ (events-behind c p m whole (taken p (min n most) b')
+        ∙ ap (λ (es : List Event). eventsIn p (taken p (min n most) b') ++ es) (sym first-events))
 
     -- ---- The runs behind both, place by place
 
@@ -83,7 +84,8 @@ module _ (c : List ℕ) (n : ℕ) (left since : List ℕ) where
     abbrev fs : List Event
     fs = takenIn p n b'
 
-    pub by-place : (f : List Event → ℕ → ℕ) (g : ℕ → ℕ) → ((i : ℕ) → i < most → f (fs ++ es) i ≡ g i) → tab (f (takenIn (c ++ p) n b)) most ≡ tab g most
+    pub by-place : (f : List Event → ℕ → ℕ) (g : ℕ → ℕ) → ((i : ℕ) → i < most → f (fs ++ es) i ≡ g i)
+        → tab (f (takenIn (c ++ p) n b)) most ≡ tab g most
     by-place f g e = ap (λ (x : List Event). tab (f x) most) both-events ∙ tab-same (f (fs ++ es)) g most e
 
     -- a figure that goes on from what a run had

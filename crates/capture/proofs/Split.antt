@@ -1,14 +1,13 @@
 -- Page 02, 'Ask 1': a capture that is taken piece by piece is taken as it would be in one piece, where each piece but the last ends with
 -- a record. The words are those of the contract of `take`. Assumes nothing.
 use Prim.Native.Nat.{ℕ, _+_, _*_, _%_, _^_, _<_, min, max}
-use mathlib.Core.Path.{_≡_, refl, sym, ap, _∙_}
+use mathlib.Core.Path.{_≡_, ap, _∙_}
 use mathlib.Core.List.{List, _++_}
 use native.Mathlib.Omega.{arith}
 use lib.ListN.{length, getD}
 use Rattle.common.specs.Sums.{up}
 use Rattle.log.specs.declared.Event.{Event}
 use Rattle.log.specs.Log as Log
-use Rattle.log.specs.Log.{Before}
 use Rattle.log.specs.Records.{size, records, taken, heard}
 use Rattle.log.proofs.Joined.{Leaves, left-joined, since-joined, answered-joined, largest-joined, above-joined}
 use Rattle.log.proofs.Heard.{stops, heard-front}
@@ -67,16 +66,19 @@ module _ (c p : List ℕ) (m : ℕ) (whole : length c ≡ size * m) (n : ℕ) (l
         by-place c n left since p m whole all (λ x i. Log.since (before left since) x (i + 1)) (λ i. Log.since (before left' since') fs (i + 1))
         (λ i l. since-joined kept (i + 1) (omega arith) (omega arith) fs)
 
-    pub split-answers : (answers : List ℕ) → answersAfter (c ++ p) n left since answers ≡ answersAfter p n left' since' (answersAfter c n left since answers)
+    pub split-answers : (answers : List ℕ)
+        → answersAfter (c ++ p) n left since answers ≡ answersAfter p n left' since' (answersAfter c n left since answers)
     unfolding answersAfter
     split-answers answers =
         goes-on c n left since p m whole all (λ a x. (a + x) % 2 ^ 64) (λ x i. Log.answered x (i + 1)) (λ i. Log.answered fs (i + 1)) answers
         (λ i l a. omega (arith, answered-joined es (i + 1) fs))
 
-    pub split-largest : (largest : List ℕ) → largestAfter (c ++ p) n left since largest ≡ largestAfter p n left' since' (largestAfter c n left since largest)
+    pub split-largest : (largest : List ℕ)
+        → largestAfter (c ++ p) n left since largest ≡ largestAfter p n left' since' (largestAfter c n left since largest)
     unfolding largestAfter
     split-largest largest =
-        goes-on c n left since p m whole all max (λ x i. Log.largest (before left since) x (i + 1)) (λ i. Log.largest (before left' since') fs (i + 1)) largest
+        goes-on c n left since p m whole all max (λ x i. Log.largest (before left since) x (i + 1))
+        (λ i. Log.largest (before left' since') fs (i + 1)) largest
         (λ i l a. omega (arith, largest-joined kept (i + 1) (omega arith) (omega arith) fs))
 
     pub split-above : (bound above : List ℕ)

@@ -1,6 +1,6 @@
 -- A capture that stands in memory as a whole is one piece, with nothing kept before it. Assumes nothing.
 use Prim.Native.Nat.{ℕ, zero, suc, _+_, _-_, _*_, _%_, _^_, _≤_, _<_, min, max}
-use mathlib.Core.Path.{_≡_, refl, sym, ap, subst, fun-ext, _∙_}
+use mathlib.Core.Path.{_≡_, refl, sym, ap, fun-ext, _∙_}
 use mathlib.Core.Bool.{Bool, true, false, cond, _&&_}
 use mathlib.Core.List.{List}
 use native.Mathlib.Omega.{arith}
@@ -15,7 +15,6 @@ use Rattle.log.specs.declared.Event.{Event}
 use Rattle.log.specs.Log.{Before, fresh, answers, answered, largest, above, left, shown}
 use Rattle.log.specs.Records.{size, eventAt, eventsIn, records, heard}
 use Rattle.log.proofs.Heard.{all-taken}
-use Rattle.capture.specs.declared.Taken.{Taken}
 use Rattle.capture.specs.declared.Taken.the-variants as answer
 use Rattle.capture.specs.Compared.{events}
 use Rattle.capture.specs.Pieces.{most, before, takenIn, takenBy, answerTo, leftAfter, answersAfter, largestAfter, aboveAfter}

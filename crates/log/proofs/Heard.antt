@@ -12,7 +12,7 @@ use Rattle.common.specs.Checks.Verdict.{Passed, Refused}
 use Rattle.common.proofs.Firsts.{First, first-is, found-first, found-none}
 use Rattle.log.specs.Log.{Before}
 use Rattle.log.specs.Records.{size, eventsIn, isRefused, judge, records, taken, heard}
-use Rattle.log.proofs.Joined.{Leaves, later, records-front, records-joined, judge-front, judge-behind}
+use Rattle.log.proofs.Joined.{Leaves, later, records-whole, records-joined, judge-front, judge-behind}
 
 -- ---- To the first refusal
 
@@ -65,30 +65,35 @@ refused-later d (Refused r q) = refl
 module _ (c p : List ℕ) (m : ℕ) (whole : length c ≡ size * m) (n : ℕ) where
   -- the first is refused
   module _ (b : Before) (r q : ℕ) (h : heard c n b ≡ Refused r q) where
+    s : Stops c n b r q
+    s = stops c n b r q h
+
+    l : taken c n b < m
+    l = omega (arith, s .inside, records-whole c m whole)
+
     taken-front : taken (c ++ p) n b ≡ taken c n b
     unfolding taken
     taken-front =
-        let s = stops c n b r q h in
-        let l : taken c n b < m = omega (arith, s .inside, records-front c p m whole) in
         sym (found-first (λ j. isRefused (judge (c ++ p) n b j)) (records (c ++ p)) (taken c n b)
-        (λ j i. ap isRefused (judge-front c p m whole n b j (omega arith)) ∙ first-refused c n b .fails j (omega arith) i)
+        (λ j i. ap isRefused (judge-front c p m whole n b j (omega (arith, l))) ∙ first-refused c n b .fails j (omega arith) i)
         (ap isRefused (judge-front c p m whole n b (taken c n b) l ∙ s .refusal))
-        (omega (arith, records-joined c p m whole)))
+        (omega (arith, l, records-joined c p m whole)))
 
     pub heard-front : heard (c ++ p) n b ≡ Refused r q
     heard-front =
-        let s = stops c n b r q h in
-        let l : taken c n b < m = omega (arith, s .inside, records-front c p m whole) in
-        heard-at (c ++ p) n b (omega (arith, taken-front, records-joined c p m whole))
+        heard-at (c ++ p) n b (omega (arith, l, taken-front, records-joined c p m whole))
         ∙ (ap (judge (c ++ p) n b) taken-front ∙ (judge-front c p m whole n b (taken c n b) l ∙ s .refusal))
 
   -- the first is taken, and b' is what it leaves
   module _ {top : ℕ} {b b' : Before} (h : heard c n b ≡ Passed) (leaves : Leaves top b (eventsIn c m) b') (few : n ≤ top) where
     all : taken c n b ≡ m
-    all = all-taken c n b h ∙ records-front c p m whole
+    all = all-taken c n b h ∙ records-whole c m whole
 
     judge-later : (j : ℕ) → judge (c ++ p) n b (m + j) ≡ later (length c) (judge p n b' j)
     judge-later = judge-behind c p m whole leaves n few
+
+    same : (j : ℕ) → isRefused (judge (c ++ p) n b (m + j)) ≡ isRefused (judge p n b' j)
+    same j = ap isRefused (judge-later j) ∙ refused-later (length c) (judge p n b' j)
 
     passes : (j : ℕ) → j < m + taken p n b' → isRefused (judge (c ++ p) n b j) ≡ false
     passes j l = split (ltb j m) refl
@@ -101,7 +106,7 @@ module _ (c p : List ℕ) (m : ℕ) (whole : length c ≡ size * m) (n : ℕ) wh
             let i : m ≤ j = ltb-false j m y in
             let e : j ≡ m + (j - m) = omega arith in
             ap (λ (x : ℕ). isRefused (judge (c ++ p) n b x)) e
-            ∙ (ap isRefused (judge-later (j - m)) ∙ (refused-later (length c) (judge p n b' (j - m)) ∙ first-refused p n b' .fails (j - m) (omega arith) (omega arith)))
+            ∙ (same (j - m) ∙ first-refused p n b' .fails (j - m) (omega arith) (omega arith))
 
     pub taken-behind : taken (c ++ p) n b ≡ m + taken p n b'
     unfolding taken
@@ -111,8 +116,7 @@ module _ (c p : List ℕ) (m : ℕ) (whole : length c ≡ size * m) (n : ℕ) wh
         split true y =
             let i : taken p n b' < records p = ltb-true (taken p n b') (records p) y in
             sym (found-first (λ j. isRefused (judge (c ++ p) n b j)) (records (c ++ p)) (m + taken p n b') passes
-            (ap isRefused (judge-later (taken p n b')) ∙ (refused-later (length c) (judge p n b' (taken p n b')) ∙ first-refused p n b' .holds (omega arith)))
-            (omega (arith, records-joined c p m whole)))
+            (same (taken p n b') ∙ first-refused p n b' .holds (omega arith)) (omega (arith, records-joined c p m whole)))
         split false y =
             sym (found-none (λ j. isRefused (judge (c ++ p) n b j)) (records (c ++ p)) (m + taken p n b') passes
             (omega (arith, ltb-false (taken p n b') (records p) y, first-refused p n b' .to, records-joined c p m whole)))

@@ -1,8 +1,8 @@
 -- Two pieces of a capture, the first of which ends with a record: what the second says behind the first is what the whole says.
 -- Assumes nothing.
-use Prim.Native.Nat.{ℕ, zero, suc, _+_, _-_, _*_, _≤_, _<_, max}
+use Prim.Native.Nat.{ℕ, zero, suc, _+_, _*_, _≤_, _<_, max}
 use mathlib.Core.Path.{_≡_, refl, sym, ap, _∙_}
-use mathlib.Core.Bool.{Bool, true, false, cond, not, _&&_}
+use mathlib.Core.Bool.{Bool, true, false, not, _&&_}
 use mathlib.Core.List.{List, [], _∷_, _++_}
 use native.Mathlib.Omega.{arith}
 use borrow.Author.Tests.{eqb-true, lt-ltb, le-ltb, ltb-true, ltb-false}
@@ -60,8 +60,11 @@ module _ {top : ℕ} {b b' : Before} {es : List Event} (h : Leaves top b es b') 
   unfolding above
   above-joined R [] = omega arith
   above-joined R (e ∷ fs) =
-      omega (arith, above-joined R fs,
-      under (λ t x. when (t && ltb R x) 1) (λ x y. refl) (answers e i) (shown b (fs ++ es) e) (shown b' fs e) (shown-joined fs e))
+      omega (
+        arith,
+        above-joined R fs,
+        under (λ t x. when (t && ltb R x) 1) (λ x y. refl) (answers e i) (shown b (fs ++ es) e) (shown b' fs e) (shown-joined fs e),
+      )
 
 pub answered-joined : (es : List Event) (i : ℕ) (fs : List Event) → answered (fs ++ es) i ≡ answered fs i + answered es i
 unfolding answered
@@ -111,13 +114,20 @@ checks-whole k k' n w at e l l' = rw (le-ltb k (at + size) l, le-ltb k' (at + si
 
 -- ---- The records of two pieces
 
+pub records-whole : (c : List ℕ) (m : ℕ) → length c ≡ size * m → records c ≡ m
+unfolding records up
+records-whole c m whole = omega arith
+
 module _ (c p : List ℕ) where
   event-front : (at : ℕ) → at + size ≤ length c → eventAt (c ++ p) at ≡ eventAt c at
   unfolding eventAt
   event-front at h =
       let same : (i : ℕ) → i < length c → getD (c ++ p) i 0 ≡ getD c i 0 = λ i l. List·getD-append c p 0 i l in
-      rw (same at (omega arith), be-same (c ++ p) c (at + 1) 2 (λ i lo hi. same i (omega arith)),
-      be-same (c ++ p) c (at + 3) 4 (λ i lo hi. same i (omega arith))) refl
+      rw (
+        same at (omega arith),
+        be-same (c ++ p) c (at + 1) 2 (λ i lo hi. same i (omega arith)),
+        be-same (c ++ p) c (at + 3) 4 (λ i lo hi. same i (omega arith)),
+      ) refl
 
   be-behind : (at w : ℕ) → be (c ++ p) (length c + at) w ≡ be p at w
   unfolding be
@@ -150,10 +160,6 @@ module _ (c p : List ℕ) where
         let e : m + suc j ≡ suc (m + j) = omega arith in
         rw (e, place j, event-behind (size * j), events-behind j) refl
 
-    pub records-front : records c ≡ m
-    unfolding records up
-    records-front = omega arith
-
     pub records-joined : records (c ++ p) ≡ m + records p
     unfolding records up
     records-joined = rw length-append (omega arith)
@@ -163,10 +169,12 @@ module _ (c p : List ℕ) where
     pub judge-front : (n : ℕ) (b : Before) (j : ℕ) → j < m → judge (c ++ p) n b j ≡ judge c n b j
     unfolding judge
     judge-front n b j l =
-        let here = eventAt c (size * j) in
-        ap (λ (x : Event). verdict (eventChecks (length (c ++ p)) n (left b (eventsIn (c ++ p) j) (x .stream)) (size * j) x)) (event-front (size * j) (omega arith))
-        ∙ (ap (λ (x : List Event). verdict (eventChecks (length (c ++ p)) n (left b x (here .stream)) (size * j) here)) (events-front j (omega arith))
-        ∙ checks-whole (length (c ++ p)) (length c) n (left b (eventsIn c j) (here .stream)) (size * j) here (omega (arith, length-append c p)) (omega arith))
+        let at = size * j in
+        let here = eventAt c at in
+        let k = length (c ++ p) in
+        ap (λ (x : Event). verdict (eventChecks k n (left b (eventsIn (c ++ p) j) (x .stream)) at x)) (event-front at (omega arith))
+        ∙ (ap (λ (x : List Event). verdict (eventChecks k n (left b x (here .stream)) at here)) (events-front j (omega arith))
+        ∙ checks-whole k (length c) n (left b (eventsIn c j) (here .stream)) at here (omega (arith, length-append c p)) (omega arith))
 
     pub judge-behind : {top : ℕ} {b b' : Before} → Leaves top b (eventsIn c m) b' → (n : ℕ) → n ≤ top → (j : ℕ)
         → judge (c ++ p) n b (m + j) ≡ later (length c) (judge p n b' j)
