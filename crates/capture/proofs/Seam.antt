@@ -21,6 +21,7 @@ use Rattle.capture.specs.Steps.{noOf}
 use Rattle.capture.proofs.Judged.{passed-by, refused-by}
 use Rattle.capture.proofs.Told.{told-passed}
 
+-- an answer tells a verdict, and its place
 pub taken-later : (d : ℕ) (v : Verdict) → takenBy (later d v) ≡ behind d (takenBy v)
 taken-later d Passed = refl
 taken-later d (Refused r q) = refl
@@ -69,7 +70,7 @@ module _ (c : List ℕ) (n : ℕ) (left since : List ℕ) where
     pub both-heard : heard (c ++ p) (min n most) b ≡ later (length c) (heard p (min n most) b')
     both-heard = heard-behind c p m whole (min n most) passed first-leaves (omega arith)
 
-    pub both-events : takenIn (c ++ p) n b ≡ takenIn p n b' ++ takenIn c n b
+    both-events : takenIn (c ++ p) n b ≡ takenIn p n b' ++ takenIn c n b
     unfolding takenIn
     both-events =
         ap (eventsIn (c ++ p)) (taken-behind c p m whole (min n most) passed first-leaves (omega arith))
