@@ -1,22 +1,20 @@
 -- A capture that stands in memory as a whole is one piece, with nothing kept before it. Assumes nothing.
 use Prim.Native.Nat.{ℕ, zero, suc, _+_, _-_, _*_, _%_, _^_, _≤_, _<_, min, max}
-use mathlib.Core.Path.{_≡_, refl, sym, ap, subst, fun-ext, _∙_}
+use mathlib.Core.Path.{_≡_, refl, sym, ap, fun-ext, _∙_}
 use mathlib.Core.Bool.{Bool, true, false, cond, _&&_}
 use mathlib.Core.List.{List}
 use native.Mathlib.Omega.{arith}
-use borrow.Author.Tests.{ltb-true, ltb-false}
 use lib.Dec.{ltb}
 use lib.ListN.{length, getD, replicate}
 use Rattle.common.specs.Checks.{Verdict}
 use Rattle.common.specs.Checks.Verdict.{Passed, Refused}
 use Rattle.common.specs.Runs.{tab, filled}
 use Rattle.common.specs.Sums.{up}
-use Rattle.common.proofs.Firsts.{first-is}
 use Rattle.common.proofs.Runs.{filled-same, getD-tab, zero-at}
 use Rattle.log.specs.declared.Event.{Event}
 use Rattle.log.specs.Log.{Before, fresh, answers, answered, largest, above, left, shown}
-use Rattle.log.specs.Records.{size, eventAt, eventsIn, isRefused, judge, records, taken, heard}
-use Rattle.capture.specs.declared.Taken.{Taken}
+use Rattle.log.specs.Records.{size, eventAt, eventsIn, records, heard}
+use Rattle.log.proofs.Heard.{all-taken}
 use Rattle.capture.specs.declared.Taken.the-variants as answer
 use Rattle.capture.specs.Compared.{events}
 use Rattle.capture.specs.Pieces.{most, before, takenIn, takenBy, answerTo, leftAfter, answersAfter, largestAfter, aboveAfter}
@@ -39,24 +37,6 @@ unfolding eventsIn above
 above-few b R c zero i = omega arith
 above-few b R c (suc n) i = omega (arith, above-few b R c n i, one (answers (eventAt c (size * n)) i && ltb R (shown b (eventsIn c n) (eventAt c (size * n)))))
 
--- ---- All records
-
--- where none is refused, all are taken
-pub all-taken : (c : List ℕ) (n : ℕ) (b : Before) → heard c n b ≡ Passed → taken c n b ≡ records c
-unfolding heard taken
-all-taken c n b h = split (ltb (taken c n b) (records c)) refl
-  where
-    f : ℕ → Bool
-    f j = isRefused (judge c n b j)
-
-    split : (x : Bool) → ltb (taken c n b) (records c) ≡ x → taken c n b ≡ records c
-    split true p =
-        let hit : f (taken c n b) ≡ true = first-is f (records c) 0 .holds (omega (arith, ltb-true (taken c n b) (records c) p)) in
-        let pass : judge c n b (taken c n b) ≡ Passed = rw p at h in
-        let z : _≡_ {A = ℕ} 0 1 = ap (λ (x : Bool). cond x 1 0) (sym (ap isRefused pass) ∙ hit) in
-        absurd (omega arith)
-    split false p = let first = first-is f (records c) 0 in omega (arith, ltb-false (taken c n b) (records c) p, first .to)
-
 -- ---- From nothing
 
 abbrev none : List ℕ
@@ -75,11 +55,11 @@ place : {r s p q : ℕ} → Refused r p ≡ Refused s q → p ≡ q
 place {r} {s} {p} {q} e = cc
 
 -- what an answer tells of the verdict
-told-refused : (v : Verdict) (r p : ℕ) → takenBy v ≡ answer.Refused r p → v ≡ Refused r p
+pub told-refused : (v : Verdict) (r p : ℕ) → takenBy v ≡ answer.Refused r p → v ≡ Refused r p
 told-refused Passed r p e = let z : _≡_ {A = ℕ} 0 1 = cc in absurd (omega arith)
 told-refused (Refused a b) r p e = cc
 
-told-passed : (v : Verdict) → takenBy v ≡ answer.All → v ≡ Passed
+pub told-passed : (v : Verdict) → takenBy v ≡ answer.All → v ≡ Passed
 told-passed Passed e = refl
 told-passed (Refused a b) e = let z : _≡_ {A = ℕ} 0 1 = cc in absurd (omega arith)
 

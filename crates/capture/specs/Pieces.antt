@@ -38,6 +38,11 @@ unfoldable pub answerTo : List ℕ → ℕ → List ℕ → List ℕ → Taken
 unfolding heard
 answerTo p n left since = takenBy (heard p (min n most) (before left since))
 
+-- the answer to a piece with d bytes before it: its place is counted from their start
+abbrev pub behind : ℕ → Taken → Taken
+behind d answer.All = answer.All
+behind d (answer.Refused r q) = answer.Refused r (d + q)
+
 -- ---- The runs behind it
 
 unfoldable pub leftAfter : List ℕ → ℕ → List ℕ → List ℕ → List ℕ

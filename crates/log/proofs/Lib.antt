@@ -1,3 +1,5 @@
+pub mod Heard
+pub mod Joined
 pub mod Laws
 pub mod Records
 pub mod Stamps
