@@ -1,7 +1,6 @@
 -- A capture laid beside a sheet: the answer and the runs, from what the sheet and the capture give. Assumes nothing.
 use Prim.Native.Nat.{ℕ, _+_, _≤_, _<_, min}
 use mathlib.Core.Path.{_≡_, refl, sym, ap, _∙_}
-use mathlib.Core.Bool.{false}
 use mathlib.Core.List.{List}
 use native.Mathlib.Omega.{arith}
 use borrow.Author.Tests.{ltb-false, not-false, eqb-true}
@@ -20,7 +19,6 @@ use Rattle.sheet.proofs.Known.{reading-read}
 use Rattle.segment.specs.Segment.{Segment, segmentOf}
 use Rattle.segment.proofs.Declares.{declared}
 use Rattle.pnet.specs.Planned.{segmentChecks, planOf, atPlace}
-use Rattle.pnet.specs.declared.answer.Plan.{Plan}
 use Rattle.pnet.specs.declared.answer.Plan.the-variants as answer
 use Rattle.log.specs.Log.{fresh}
 use Rattle.log.specs.Records.{heard}

@@ -16,6 +16,7 @@ use Rattle.common.specs.Runs.{tab}
 use Rattle.common.specs.Sums.{when, up}
 use Rattle.common.proofs.Firsts.{found-first, found-none}
 use Rattle.common.proofs.Runs.{tab-places}
+use Rattle.format.proofs.Ranges.{within-range}
 use Rattle.log.specs.declared.Event.{Event}
 use Rattle.log.specs.Log as Log
 use Rattle.log.specs.Log.{Before, shown}
@@ -24,7 +25,7 @@ use Rattle.log.proofs.Laws as laws
 use Rattle.log.proofs.Records.{met-whole}
 use Rattle.capture.specs.Pieces.{most, before, takenIn, leftAfter, sinceAfter, answersAfter, largestAfter, aboveAfter}
 use Rattle.capture.specs.Steps.{noOf, spot, leftWith, sinceWith, answersWith, shownBy, largestWith, aboveWith}
-use Rattle.capture.proofs.Judged.{Whole, passed-by, refused-by, whole-if, within-to}
+use Rattle.capture.proofs.Judged.{Whole, passed-by, refused-by, whole-if}
 
 -- ---- Runs of 800 places
 
@@ -232,8 +233,8 @@ module _ {c : List ℕ} {n : ℕ} {bound : List ℕ} {K₀ K : Kept} {at : ℕ} 
 
     pub next-is : Next c at
     next-is =
-        let s = within-to _ n (whole .on) in
-        subst (Next c) (sym (h .place)) record { is-known = whole .is-known; ends = whole .ends; from = s .0; to = omega (arith, s .1) }
+        let s = within-range 1 _ n (whole .on) in
+        subst (Next c) (sym (h .place)) record { is-known = whole .is-known; ends = whole .ends; from = s .least; to = omega (arith, s .most) }
 
     pub hearing-more : Hearing c n bound K₀ (keptWith bound K (eventAt c at)) (at + size)
     unfolding eventsIn

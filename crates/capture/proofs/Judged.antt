@@ -68,16 +68,6 @@ within-min i n top = ap (λ (b : Bool). leb 1 i && b) (split (leb i top) (leb i 
     split true false p q = let b = leb-false i n q in rw (p, q) (sym (lt-leb i (min n top) (omega arith)))
     split false y p q = let a = leb-false i top p in rw p (sym (lt-leb i (min n top) (omega arith)))
 
--- and lies within it
-pub within-to : (i n : ℕ) → within 1 i n ≡ true → (1 ≤ i) × (i ≤ n)
-unfolding within
-within-to i n h = split (leb 1 i) (leb i n) refl refl h
-  where
-    split : (x y : Bool) → leb 1 i ≡ x → leb i n ≡ y → (x && y) ≡ true → (1 ≤ i) × (i ≤ n)
-    split true true p q e = (leb-true 1 i p, leb-true i n q)
-    split true false p q e = let z : _≡_ {A = ℕ} 0 1 = ap (λ (b : Bool). cond b 1 0) e in absurd (omega arith)
-    split false y p q e = let z : _≡_ {A = ℕ} 0 1 = ap (λ (b : Bool). cond b 1 0) e in absurd (omega arith)
-
 -- ---- A verdict by its number
 
 -- every line of the list has the record's place

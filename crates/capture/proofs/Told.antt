@@ -18,8 +18,7 @@ use Rattle.log.proofs.Heard.{all-taken}
 use Rattle.capture.specs.declared.Taken.the-variants as answer
 use Rattle.capture.specs.Compared.{events}
 use Rattle.capture.specs.Pieces.{most, before, takenIn, takenBy, answerTo, leftAfter, answersAfter, largestAfter, aboveAfter}
-use Rattle.capture.specs.Steps.{noOf, runBy}
-use Rattle.capture.proofs.Judged.{passed-by, refused-by}
+use Rattle.capture.specs.Steps.{runBy}
 
 -- ---- Counts are small
 
@@ -47,13 +46,6 @@ begins-fresh =
     let z : _≡_ {A = ℕ → ℕ} (λ i. getD none (i - 1) 0) (λ i. 0) = fun-ext (λ i. zero-at most (i - 1)) in
     ap {A = ℕ → ℕ} {B = Before} (λ f. record { waiting = f; stamp = f }) z
 
--- verdicts are unlike, and have one place
-unlike : {r p : ℕ} → Passed ≡ Refused r p → ⊥
-unlike {r} {p} e = let z : _≡_ {A = ℕ} 0 1 = cc in absurd (omega arith)
-
-place : {r s p q : ℕ} → Refused r p ≡ Refused s q → p ≡ q
-place {r} {s} {p} {q} e = cc
-
 -- what an answer tells of the verdict
 pub told-refused : (v : Verdict) (r p : ℕ) → takenBy v ≡ answer.Refused r p → v ≡ Refused r p
 told-refused Passed r p e = let z : _≡_ {A = ℕ} 0 1 = cc in absurd (omega arith)
@@ -62,28 +54,6 @@ told-refused (Refused a b) r p e = cc
 pub told-passed : (v : Verdict) → takenBy v ≡ answer.All → v ≡ Passed
 told-passed Passed e = refl
 told-passed (Refused a b) e = let z : _≡_ {A = ℕ} 0 1 = cc in absurd (omega arith)
-
--- a refusal's place lies within the piece
-heard-inside : (c : List ℕ) (n : ℕ) (b : Before) (r p : ℕ) → heard c n b ≡ Refused r p → p < length c
-unfolding heard records up
-heard-inside c n b r p h = split (ltb (taken c n b) (records c)) refl
-  where
-    j : ℕ
-    j = taken c n b
-
-    on : judge c n b j ≡ Refused r p → j < records c → p < length c
-    on e l =
-        let some : (noOf (judge c n b j) ≡ 0 → ⊥) = λ z. absurd (unlike (sym (passed-by c n b j z) ∙ e)) in
-        let at : size * j ≡ p = place (sym (refused-by c n b j some) ∙ e) in
-        omega (arith, at, l)
-
-    split : (x : Bool) → ltb (taken c n b) (records c) ≡ x → p < length c
-    split true q = on (rw q at h) (ltb-true (taken c n b) (records c) q)
-    split false q = absurd (unlike (rw q at h))
-
-pub refused-inside : (c : List ℕ) (n : ℕ) (left since : List ℕ) (r p : ℕ) → answerTo c n left since ≡ answer.Refused r p → p < length c
-unfolding answerTo
-refused-inside c n left since r p e = heard-inside c (min n most) (before left since) r p (told-refused _ r p e)
 
 module _ (c : List ℕ) (n : ℕ) (few : n ≤ most) where
   heard-same : heard c (min n most) (before none none) ≡ heard c n fresh

@@ -1,11 +1,10 @@
 -- Page 02, 'Ask 1': what laying a capture beside a sheet's bounds answers, and what the four lent runs then hold. Assumes nothing.
-use Prim.Native.Nat.{ℕ, _+_, min}
+use Prim.Native.Nat.{ℕ, min}
 use mathlib.Core.List.{List}
 use lib.ListN.{length}
 use lib.Dec.{ltb}
 use Rattle.common.specs.Checks.{verdict}
 use Rattle.common.specs.Runs.{filled}
-use Rattle.sheet.specs.Sheets.{Sheet}
 use Rattle.sheet.specs.Whole.{Outcome, orElse, reading}
 use Rattle.sheet.specs.Whole.Outcome.{Read, Not}
 use Rattle.segment.specs.Segment.{Segment, segmentOf, bound}

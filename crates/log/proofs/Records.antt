@@ -9,7 +9,6 @@ use borrow.Author.Tests.{le-leb, lt-leb}
 use lib.Dec.{leb}
 use lib.ListN.{length, getD}
 use Rattle.format.specs.Numbers.{be}
-use Rattle.log.specs.declared.Event.{Event}
 use Rattle.log.specs.Records.{size, eventAt, known, none, metAt}
 
 -- the number in two bytes

@@ -6,11 +6,12 @@ use borrow.Author.Needs.{needs}
 use borrow.Author.Tests.{not-true, not-false}
 use denote.Ref.{now}
 use lib.ListN.{getD}
+use Rattle.format.proofs.Ranges.{within-range}
 use Rattle.log.specs.declared.Event.{Event}
 use Rattle.log.specs.Records.{eventAt}
 use Rattle.capture.specs.Pieces.{most}
 use Rattle.capture.specs.Steps.{openNo, spot}
-use Rattle.capture.proofs.Judged.{judged-unknown, judged-cut, judged-absent, judged-open, event-read, within-to}
+use Rattle.capture.proofs.Judged.{judged-unknown, judged-cut, judged-absent, judged-open, event-read}
 use Rattle.capture.proofs.refusal.Statement.{statement}
 use Rattle.capture.proofs.refusal.Tie as tie
 
@@ -50,7 +51,7 @@ cast-k c = search needs
 
 -- its stream has a place
 placed : (c : tie.After-struct-known) → (1 ≤ c .before .before .before .event-at .result .stream) × (c .before .before .before .event-at .result .stream ≤ most)
-placed c = let p = within-to _ _ (sym (c .before .before .on-sheet .ensures) ∙ not-false _ (c .before .if3 .left)) in (p .0, omega (arith, p .1))
+placed c = let p = within-range 1 _ _ (sym (c .before .before .on-sheet .ensures) ∙ not-false _ (c .before .if3 .left)) in (p .least, omega (arith, p .most))
 
 sub-k : tie.Need-sub-k
 sub-k c = placed c .0
@@ -68,9 +69,9 @@ returns-4 c w h =
     let known = sym (x .before .before .before .known .ensures) ∙ not-false _ (x .before .before .if1 .left) in
     let right = sym (c .before .before .before .before .on-sheet .ensures) ∙ not-false _ (c .before .before .before .if3 .left) in
     let is = event-read (now (a .c)) (a .at) (min (a .streams) most) w known (omega arith) _ (x .event-at .ensures) in
-    let p = within-to _ _ right in
-    let q : 1 ≤ eventAt (now (a .c)) (a .at) .stream = subst (λ (v : Event). 1 ≤ v .stream) is (p .0) in
-    let l : eventAt (now (a .c)) (a .at) .stream ≤ most = subst (λ (v : Event). v .stream ≤ most) is (omega (arith, p .1)) in
+    let p = within-range 1 _ _ right in
+    let q : 1 ≤ eventAt (now (a .c)) (a .at) .stream = subst (λ (v : Event). 1 ≤ v .stream) is (p .least) in
+    let l : eventAt (now (a .c)) (a .at) .stream ≤ most = subst (λ (v : Event). v .stream ≤ most) is (omega (arith, p .most)) in
     let same : getD (now (a .left)) (spot (x .event-at .result)) 0 ≡ w = ap (λ (v : Event). getD (now (a .left)) (spot v) 0) is ∙ sym (h q l) in
     c .open-no .ensures ∙ (ap (openNo (x .event-at .result .kind)) same
     ∙ judged-open (now (a .c)) (a .at) (min (a .streams) most) w known (omega arith) _ (x .event-at .ensures) right)

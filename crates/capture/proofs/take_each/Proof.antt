@@ -1,6 +1,6 @@
 -- `capture::take_each` meets its contract. The invariant: the records before the place are taken, and none of them is refused.
 -- Assumes nothing.
-use Prim.Native.Nat.{ℕ, _-_, _≤_, min}
+use Prim.Native.Nat.{_-_, _≤_, min}
 use mathlib.Core.Path.{_≡_, refl, sym, _∙_}
 use native.Mathlib.Omega.{arith}
 use borrow.Author.Needs.{needs}

@@ -1,5 +1,4 @@
 -- `log::known` meets its contract. Assumes nothing.
-use borrow.Author.Needs.{needs}
 use mathlib.Core.Path.{refl}
 use Rattle.log.specs.Records
 use Rattle.log.proofs.known.Statement.{statement}

@@ -1,9 +1,5 @@
 -- `log::whole_at` meets its contract: the stamp is two and two bytes. Assumes nothing.
-use Prim.Native.Nat.{_+_}
-use mathlib.Core.Path.{refl, sym, _∙_}
-use native.Mathlib.Omega.{arith}
 use borrow.Author.Needs.{needs}
-use Rattle.log.specs.Records.{eventAt}
 use Rattle.log.proofs.Records.{event-is}
 use Rattle.log.proofs.whole_at.Statement.{statement}
 use Rattle.log.proofs.whole_at.Tie as tie

@@ -1,6 +1,5 @@
 -- `planner::beside::write_capture` writes as many bytes as were stored, which stand within the buffer. Assumes nothing.
 use mathlib.Core.Path.{sym}
-use native.Mathlib.Omega.{arith}
 use lib.Seq.{length-take-le}
 use Rattle.text.proofs.Writing.{wrote-inside}
 use borrow.Author.Needs.{needs}
