@@ -1,6 +1,8 @@
 """Compare a planner's reports with the second opinion's, byte by byte.
 
-    compare.py PROGRAM... [--seed S] [--count N] [--jobs J]
+    compare.py PROGRAM... [--seed S] [--count N] [--captures N] [--jobs J]
+
+So many sheets, and then so many pairs of a sheet and a capture.
 
 PROGRAM may be several words, so that a program built for another machine can
 be run under an emulator.
@@ -11,11 +13,13 @@ import os
 import shutil
 import subprocess
 import sys
+import tempfile
 from collections import Counter
 
 sys.path.insert(0, os.path.dirname(os.path.abspath(__file__)))
 sys.dont_write_bytecode = True
 
+import captures  # noqa: E402
 import second_opinion  # noqa: E402
 import sheets  # noqa: E402
 
@@ -25,16 +29,22 @@ COUNT_THAT_MEETS_ALL = 1000
 LEAST_OF_EACH = 10
 
 ACCEPTED = ["P-NET segment", "PROFIBUS ring", "WorldFIP table"]
-OUTCOMES = ["accepted, " + head for head in ACCEPTED] + [
+OF_SHEETS = ["accepted, " + head for head in ACCEPTED] + [
     "refused %d" % number for number in range(1, 13)
+]
+OF_CAPTURES = ["every answer within its bound", "answers above the bound"] + [
+    "capture refused %d" % number for number in (1, 2, 14, 15, 16)
 ]
 
 
 def outcome(report):
-    head = report.split(b"\n", 1)[0].decode("ascii")
-    if head in ACCEPTED:
-        return "accepted, " + head
-    return " ".join(head.split()[:2])
+    lines = report.decode("ascii").splitlines()
+    if lines[0] in ACCEPTED:
+        return "accepted, " + lines[0]
+    if lines[0] == "P-NET capture":
+        return lines[-1].split(" in ")[0]
+    refused = " ".join(lines[0].split()[:2])
+    return "capture " + refused if " capture " in lines[0] else refused
 
 
 def shortened(text, most=4000):
@@ -46,12 +56,11 @@ def shortened(text, most=4000):
 
 def compare_one(task):
     """The outcome, and a description of the difference if there is one."""
-    program, name, data = task
-    expected = second_opinion.report(data)
+    words, name, given, data, expected = task
     trouble = None
     try:
         done = subprocess.run(
-            program,
+            words,
             input=data,
             stdout=subprocess.PIPE,
             stderr=subprocess.PIPE,
@@ -66,15 +75,37 @@ def compare_one(task):
     if output == expected and trouble is None:
         return outcome(expected), None
     return outcome(expected), "\n".join([
-        "sheet: %s (%d bytes)" % (name, len(data)),
-        "hex: %s" % shortened(data.hex()),
+        "%s (%d bytes)" % (name, len(given)),
+        "hex: %s" % shortened(given.hex()),
         "program: %s" % shortened(output.decode("ascii", "backslashreplace")),
         "second opinion: %s" % shortened(expected.decode("ascii")),
     ] + (["program " + trouble] if trouble else []))
 
 
+def compare_sheet(task):
+    program, name, data = task
+    return compare_one((program, "sheet: " + name, data, data, second_opinion.report(data)))
+
+
+def compare_pair(task):
+    """By two files, or with the one or the other on standard input."""
+    program, name, data, capture = task
+    expected = second_opinion.capture_report(data, capture)
+    with tempfile.TemporaryDirectory() as folder:
+        names = [os.path.join(folder, "a.sheet"), os.path.join(folder, "a.capture")]
+        for path, content in zip(names, (data, capture)):
+            with open(path, "wb") as file:
+                file.write(content)
+        way = (len(data) + len(capture)) % 3
+        if way < 2:
+            names[way] = "-"
+        given = (data, capture, b"")[way]
+        label = "sheet %s beside capture: %s" % (shortened(data.hex(), 400), name)
+        return compare_one((program + names, label, capture, given, expected))
+
+
 def arguments(words):
-    options = {"--seed": 1, "--count": 3000, "--jobs": os.cpu_count() or 1}
+    options = {"--seed": 1, "--count": 3000, "--captures": 1000, "--jobs": os.cpu_count() or 1}
     program = []
     rest = iter(words)
     for word in rest:
@@ -87,34 +118,41 @@ def arguments(words):
             program.append(word)
     if not program or options["--jobs"] < 1:
         sys.exit(__doc__.strip())
-    return program, options["--seed"], options["--count"], options["--jobs"]
+    return program, options
 
 
-def main():
-    program, seed, count, jobs = arguments(sys.argv[1:])
-    if shutil.which(program[0]) is None:
-        sys.exit("no such program: %s" % program[0])
+def compare_all(compare, tasks, count, outcomes, jobs, what):
+    """How many differ, and whether each outcome was met."""
     met = Counter()
     differing = 0
-    tasks = ((program, name, data) for name, data in sheets.sheets(seed, count))
     with multiprocessing.Pool(jobs) as pool:
-        for what, difference in pool.imap(compare_one, tasks):
-            met[what] += 1
+        for one, difference in pool.imap(compare, tasks):
+            met[one] += 1
             if difference is not None:
                 differing += 1
                 if differing <= 5:
                     print(difference + "\n")
-
-    for what in OUTCOMES:
-        print("%-26s %6d" % (what, met[what]))
-    print("compared %d sheets, %d differ" % (sum(met.values()), differing))
-    if differing:
-        return 1
-    rare = [what for what in OUTCOMES if met[what] < LEAST_OF_EACH]
+    for one in outcomes:
+        print("%-30s %6d" % (one, met[one]))
+    print("compared %d %s, %d differ" % (sum(met.values()), what, differing))
+    rare = [one for one in outcomes if met[one] < LEAST_OF_EACH]
     if count >= COUNT_THAT_MEETS_ALL and rare:
         print("met fewer than %d times: %s" % (LEAST_OF_EACH, ", ".join(rare)))
-        return 1
-    return 0
+        return False
+    return differing == 0
+
+
+def main():
+    program, options = arguments(sys.argv[1:])
+    if shutil.which(program[0]) is None:
+        sys.exit("no such program: %s" % program[0])
+    seed, jobs = options["--seed"], options["--jobs"]
+    count, pairs = options["--count"], options["--captures"]
+    tasks = ((program, name, data) for name, data in sheets.sheets(seed, count))
+    good = compare_all(compare_sheet, tasks, count, OF_SHEETS, jobs, "sheets")
+    tasks = ((program, *pair) for pair in captures.captures(seed, pairs))
+    good &= compare_all(compare_pair, tasks, pairs, OF_CAPTURES, jobs, "pairs of a sheet and a capture")
+    return 0 if good else 1
 
 
 if __name__ == "__main__":

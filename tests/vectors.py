@@ -1,6 +1,6 @@
 """Self-test of the second opinion: figures that are known beforehand.
 
-They are the cases worked by hand on page 01 and, where the page can be taken
+They are the cases worked by hand on page 01 and, where a page can be taken
 in two ways, the inputs on which the readings differ, with the answer of the
 reading that was chosen.
 """
@@ -24,6 +24,12 @@ def sheet(*records):
     return b"".join(record(*r) for r in records)
 
 
+def events(*records):
+    return b"".join(
+        bytes([kind]) + stream.to_bytes(2, "big") + stamp.to_bytes(4, "big") for kind, stream, stamp in records
+    )
+
+
 def shown(answer):
     """An answer in the words of the vectors below."""
     if isinstance(answer, Refusal):
@@ -42,6 +48,8 @@ def shown(answer):
             answer.slots,
             " ".join(str(x) for x in answer.rows),
         )
+    if isinstance(answer, list) and all(isinstance(one, opinion.Shown) for one in answer):
+        return "; ".join("%d %d %d %d" % one[2:] for one in answer)
     if isinstance(answer, opinion.Written):
         return "%s then %d" % (answer.record.hex(), answer.place)
     if isinstance(answer, bytes):
@@ -102,7 +110,7 @@ PAGE = [
     ("report", bytes([1, 4]), "refused 6 at byte 2\n"),
 ]
 
-# call, sheet in hex (for write: place, buffer length, kind and numbers), answer
+# call, sheet in hex (for write: place, buffer length, kind and numbers), for capture the capture too, answer
 READINGS = """
 pnet | 05 00000190 | 6 at 5
 pnet | 05 | 1 at 0
@@ -128,6 +136,13 @@ profibus | 03 01 00000064 0000000a 04 01 0000000a 000003e9 04 01 0000000a 000003
 worldfip | 05 00000002 06 0001 00000011 06 0002 000000f1 | 10 at 0
 worldfip | 05 00000001 06 0001 00000011 06 0002 000000f1 | 11 at 0
 worldfip | 05 00000001 06 0001 3b9ac9c1 06 0002 3b9ac9ff | 11 at 0
+capture | 0101 020100cb000003e8000003e8 | - | 0 0 0 0
+capture | 0101 020100cb000003e8000003e8 | 02 | 2 at 0
+capture | 0101 020100cb000003e8000003e8 | 10 0001 00000000 11 0001 000000fa 10 0001 00000200 11 0001 000002fb | 2 251 1 0
+capture | 0102 020100cb0000006300000063 | 02 | 8 at 1
+capture | 0101 020100cb000003e8000003e8 | 11 0002 | 1 at 0
+capture | 0101 020100cb000003e8000003e8 | 11 0000 00000000 | 14 at 0
+capture | 0101 020100cb000003e8000003e8 | 10 0001 fffffff0 11 0001 00000010 | 1 32 0 0
 """
 
 # what the page or the readings say in prose, without an input of their own
@@ -169,6 +184,29 @@ PROSE = [
      "WorldFIP table\nmicrocycle 1000000000 us 1000000000 slots 1 rows\nrow 0: 65535\n"),
     ("a miss at the end of the last row",
      lambda: opinion.plan_worldfip(sheet((5, 600), (6, 2, 1_000), (6, 1, 1_000))), "12 at 2"),
+    ("the number of streams for 13, before 8",
+     lambda: opinion.compare_capture(sheet(*FOUR_MASTERS_LATE), b"", 7), "13 at 8"),
+    ("8 before the capture's refusals",
+     lambda: opinion.compare_capture(sheet(*FOUR_MASTERS_LATE), b"\x02", 8), "8 at 5"),
+    ("another bus's sheet", lambda: opinion.compare_capture(sheet(*RING), b"", 0), "3 at 0"),
+    ("an answer before its request, one stream beside another",
+     lambda: opinion.compare_capture(
+         sheet(*TWO_MASTERS), events((16, 1, 5), (16, 3, 4), (17, 3, 4), (17, 1, 1_006), (17, 3, 9))),
+     "15 at 28"),
+    ("figures of three streams",
+     lambda: opinion.compare_capture(
+         sheet(*TWO_MASTERS), events((16, 1, 5), (16, 3, 4), (17, 3, 4), (17, 1, 1_006), (16, 3, 9))),
+     "1 1001 1 0; 0 0 0 0; 1 0 0 1"),
+    ("the report of a capture",
+     lambda: opinion.capture_report(
+         sheet(*TWO_MASTERS), events((16, 1, 5), (16, 3, 4), (17, 3, 4), (17, 1, 1_006), (16, 3, 9))),
+     "P-NET capture\n"
+     "stream 1 M01 bound 1000 bp largest 1001 bp 1 answers 1 above 0 open\n"
+     "stream 2 M01 bound 1000 bp largest 0 bp 0 answers 0 above 0 open\n"
+     "stream 3 M02 bound 500 bp largest 0 bp 1 answers 0 above 1 open\n"
+     "answers above the bound in 1 streams, first stream 1\n"),
+    ("a refused capture", lambda: opinion.capture_report(sheet(*TWO_MASTERS), events((17, 1, 0))),
+     "refused 15 at capture byte 0\n"),
     ("unknown kind to the writer", lambda: opinion.write_record(0, 9, 7, ()), "2 at 9"),
     ("a whole record", lambda: opinion.write_record(14, 2, 2, (32, 1_548, 9, 9)),
      "0220060c0000000900000009 then 14"),
@@ -176,14 +214,15 @@ PROSE = [
 ]
 
 
-def call(name, data):
+def call(name, *data):
     return {
+        "capture": opinion.compare_capture,
         "read": opinion.read,
         "pnet": opinion.plan_pnet,
         "profibus": opinion.plan_profibus,
         "worldfip": opinion.plan_worldfip,
         "report": opinion.report,
-    }[name](data)
+    }[name](*data)
 
 
 def vectors():
@@ -205,8 +244,8 @@ def vectors():
             yield line, lambda l=length, p=place, k=kind, x=numbers: (
                 opinion.write_record(l, p, k, x)), expected
         else:
-            data = bytes.fromhex(given[0].replace("-", ""))
-            yield line, lambda n=name, d=data: call(n, d), expected
+            data = [bytes.fromhex(part.replace("-", "")) for part in given]
+            yield line, lambda n=name, d=data: call(n, *d), expected
     yield from PROSE
 
 
