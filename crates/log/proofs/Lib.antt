@@ -1,3 +1,4 @@
 pub mod Laws
 pub mod Records
 pub mod Stamps
+pub mod Refusals
