@@ -3,3 +3,4 @@ pub mod Bounded
 pub mod Hearing
 pub mod Judged
 pub mod Told
+pub mod Refusals

@@ -290,8 +290,8 @@ module _ (c : List ℕ) (n : ℕ) where
       rw (← t, lt-ltb j (records c) l) v
 
   -- a number with a place exactly if the words give it
-  pub refused-exactly : (x p : ℕ) → (heard c n fresh ≡ Refused x p) ↔ Given c n x p
-  refused-exactly x p = (given-then x p, given-if x p)
+  pub given-exactly : (x p : ℕ) → (heard c n fresh ≡ Refused x p) ↔ Given c n x p
+  given-exactly x p = (given-then x p, given-if x p)
 
   all-then : heard c n fresh ≡ Passed → AllTaken c n
   unfolding heard
