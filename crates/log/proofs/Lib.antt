@@ -2,3 +2,4 @@ pub mod Laws
 pub mod Records
 pub mod Stamps
 pub mod Refusals
+pub mod Examples
