@@ -47,7 +47,7 @@ told-refused (Not a b) n p e = cc
 
 module _ (s : List ℕ) (room : ℕ) (H : Sheet) where
   -- it was read, and passes
-  passes : bounded s room ≡ Read H → (reading s ≡ Read H) × Clear (segmentChecks H (ltb room (length (H .streams))) (length (H .streams)))
+  pub passes : bounded s room ≡ Read H → (reading s ≡ Read H) × Clear (segmentChecks H (ltb room (length (H .streams))) (length (H .streams)))
   unfolding bounded
   passes e = by (reading s) refl e
     where

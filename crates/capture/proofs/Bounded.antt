@@ -5,14 +5,15 @@ use mathlib.Core.Bool.{Bool, true, false, _||_}
 use mathlib.Core.List.{List}
 use Prim.Native.Nat.{ℕ, _+_, _-_, _≤_, _<_}
 use native.Mathlib.Omega.{arith}
-use borrow.Author.Tests.{lt-ltb, le-ltb, eq-eqb, ne-eqb}
+use borrow.Author.Tests.{lt-ltb, le-ltb, le-leb, lt-leb, eq-eqb, ne-eqb}
 use lib.ListN.{length, getD}
 use lib.Dec.{ltb}
 use Rattle.common.specs.Checks.{Check, Verdict, verdict}
 use Rattle.common.specs.Checks.Verdict.{Passed, Refused}
 use Rattle.common.specs.Runs.{filled}
-use Rattle.common.proofs.Checks.{Applies, refused-if}
+use Rattle.common.proofs.Checks.{Applies, refused-if, passed-if}
 use Rattle.common.proofs.Checks.Applies.{here, later}
+use Rattle.common.proofs.Checks.Clear.{none, and}
 use Rattle.common.proofs.Runs.{filled-at}
 use Rattle.format.specs.declared.Met.{Met}
 use Rattle.sheet.specs.Sheets.{Sheet}
@@ -21,7 +22,7 @@ use Rattle.sheet.specs.Whole.Outcome.{Read, Not}
 use Rattle.sheet.specs.Steps.{sheetIn, Ready}
 use Rattle.sheet.proofs.Taken.{ready-streams}
 use Rattle.segment.specs.Segment.{Stream, Segment, segmentOf, bound}
-use Rattle.pnet.specs.Planned.{segmentChecks, planChecks, plannedBy, planned, planOf, atPlace, runOf}
+use Rattle.pnet.specs.Planned.{firstLate, segmentChecks, planChecks, plannedBy, planned, planOf, atPlace, runOf}
 use Rattle.pnet.specs.declared.answer.Plan.{Plan}
 use Rattle.pnet.specs.declared.answer.Plan.the-variants as answer
 use Rattle.pnet.specs.Arrays.{segmentIn}
@@ -53,6 +54,17 @@ module _ (s : List ℕ) (room : ℕ) where
     bounded-short k n q l =
         let short : ltb room (length (H .streams)) ≡ true = lt-ltb room (length (H .streams)) (omega (arith, q)) in
         rw (← q) (refused 13 (length (H .streams)) (later (rw (eq-eqb (H .head .kind) 1 k)) (here short)))
+
+    module _ (k : H .head .kind ≡ 1) (l : length (H .streams) ≤ room) where
+      pub bounded-late : (i : ℕ) → i ≡ firstLate (segmentOf H) → i ≤ length (H .streams) → bounded s room ≡ Not 8 i
+      bounded-late i q h =
+          let a = refused 8 (firstLate (segmentOf H)) (later (rw (eq-eqb (H .head .kind) 1 k)) (later (le-ltb room _ l) (here (le-leb _ _ (rw q at h))))) in
+          rw q a
+
+      pub bounded-read : length (H .streams) < firstLate (segmentOf H) → bounded s room ≡ Read H
+      bounded-read h =
+          let v : verdict checks ≡ Passed = passed-if (and (rw (eq-eqb (H .head .kind) 1 k)) (and (le-ltb room _ l) (and (lt-leb _ _ h) none))) in
+          checked ∙ rw v
 
 -- ---- The answer and the two runs together, as the code returns them
 

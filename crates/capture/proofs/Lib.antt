@@ -5,3 +5,4 @@ pub mod Judged
 pub mod Seam
 pub mod Split
 pub mod Told
+pub mod Refusals

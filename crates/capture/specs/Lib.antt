@@ -1,3 +1,4 @@
 pub mod Compared
 pub mod Pieces
 pub mod Steps
+pub mod Refusals

@@ -1,20 +1,25 @@
 -- A capture on the page's worked segment, byte by byte: one request of stream 1, whose answer takes 210 bp, while the counter runs over to zero.
--- So nothing that Captured supposes is empty. Assumes nothing.
+-- So nothing that Captured and CapturedBytes suppose is empty. Assumes nothing.
 use Prim.Native.Nat.{ℕ}
 use mathlib.Core.Path.{_≡_, refl}
 use mathlib.Core.List.{List, [], _∷_, List·Memᴰ·not-nil}
 use native.Mathlib.Omega.{arith}
+use lib.ListN.{length}
 use Rattle.common.specs.Checks.Verdict.{Passed}
 use Rattle.format.specs.Numbers.{be}
+use Rattle.sheet.specs.Whole.Outcome.{Read}
 use Rattle.segment.specs.Segment.{segmentOf, streamAt}
 use Rattle.pnet_run.specs.Run.{Belongs, request, answer, put, join, toward, on-way, next, Run, start, complete, arrive, serve}
 use Rattle.pnet_run.specs.Promise.{none, and, Spaced}
 use Rattle.log.specs.Log.{stampAt, fresh, largest, asks, answers, around, since, shown}
 use Rattle.log.specs.Records.{eventAt, eventsIn, heard}
+use Rattle.capture.specs.Compared.{compared}
+use Rattle.capture.specs.Refusals.{Room}
 use Rattle.demands.specs.Logged.{logOf}
 use Rattle.demands.proofs.Demand3.{accepted-as-demanded}
 use Rattle.demands.proofs.PageCase.{sheet, bytes, lent, page, accepts}
 use Rattle.demands.proofs.Captured.{the-capture-passes}
+use Rattle.demands.proofs.CapturedBytes.{the-capture-is-accepted}
 
 -- the token is at master 1 when its stream 1 asks: 7 bp reaction, 203 bp message
 unfoldable pub run : Run page 210 (toward (next (page .masters) 1) 40) (put (join (λ y. []) 1 (request 1 0)) 1 []) (request 1 0 ∷ [])
@@ -37,9 +42,22 @@ pub shows-210 : largest fresh (logOf 4294967196 run) 1 ≡ 210
 unfolding run logOf stampAt largest asks answers around since shown
 shows-210 = refl
 
+spaced : (k : ℕ) → Spaced page k (request 1 0 ∷ [])
+spaced k i b = and (λ e a j. absurd (List·Memᴰ·not-nil j)) none
+
 pub it-passes : heard capture (page .number) fresh ≡ Passed
 unfolding capture
 it-passes = the-capture-passes page (accepted-as-demanded bytes lent lent lent sheet accepts) run 4294967196 spaced capture 2 refl capture-is-the-log
-  where
-    spaced : (k : ℕ) → Spaced page k (request 1 0 ∷ [])
-    spaced k i b = and (λ e a j. absurd (List·Memᴰ·not-nil j)) none
+
+-- ---- Laid beside the sheet, with a place for each of its 8 streams in each lent run
+
+abbrev eight : List ℕ
+eight = 0 ∷ 0 ∷ 0 ∷ 0 ∷ 0 ∷ 0 ∷ 0 ∷ 0 ∷ []
+
+room : Room (length eight) (length eight) (length eight) (length eight) (length (sheet .streams))
+unfolding sheet
+room = record { for-answers = omega arith; for-largest = omega arith; for-above = omega arith; for-left = omega arith }
+
+pub it-is-accepted : compared bytes capture (length eight) (length eight) (length eight) (length eight) ≡ Read sheet
+unfolding capture
+it-is-accepted = the-capture-is-accepted bytes lent lent lent sheet accepts run 4294967196 spaced capture 2 refl capture-is-the-log eight eight eight eight room

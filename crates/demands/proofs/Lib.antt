@@ -6,4 +6,5 @@ pub mod PageCase
 pub mod Matching
 pub mod Passing
 pub mod Captured
+pub mod CapturedBytes
 pub mod CaptureCase

@@ -3,3 +3,5 @@ pub mod Joined
 pub mod Laws
 pub mod Records
 pub mod Stamps
+pub mod Refusals
+pub mod Examples

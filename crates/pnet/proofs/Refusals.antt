@@ -41,15 +41,15 @@ module _ (S : Segment) where
   unfolding firstLate
   first = first-is (late S) (S .number) 1
 
-  first-fails : firstLate S ≤ S .number → FirstFails S (firstLate S)
+  pub first-fails : firstLate S ≤ S .number → FirstFails S (firstLate S)
   first-fails l =
       record { from = first .from; to = l; above = fails-then (firstLate S) (first .holds (omega arith)); before = λ j lo hi. passes-then j (first .fails j lo hi) }
 
-  all-pass : S .number < firstLate S → (i : ℕ) → 1 ≤ i → i ≤ S .number → Passes S i
+  pub all-pass : S .number < firstLate S → (i : ℕ) → 1 ≤ i → i ≤ S .number → Passes S i
   all-pass l i lo hi = passes-then i (first .fails i lo (omega arith))
 
   -- and no other number is the first
-  fails-first : (i : ℕ) → FirstFails S i → i ≡ firstLate S
+  pub fails-first : (i : ℕ) → FirstFails S i → i ≡ firstLate S
   fails-first i f =
       let a : (i < firstLate S → ⊥) = λ l. let p = passes-then i (first .fails i (f .from) l) in omega (arith, f .above, p .in-time) in
       let b : (firstLate S < i → ⊥) =
@@ -59,7 +59,7 @@ module _ (S : Segment) where
       omega (arith, p .in-time) in
       omega (arith, a, b)
 
-  pass-first : ((i : ℕ) → 1 ≤ i → i ≤ S .number → Passes S i) → S .number < firstLate S
+  pub pass-first : ((i : ℕ) → 1 ≤ i → i ≤ S .number → Passes S i) → S .number < firstLate S
   pass-first p =
       let a : (firstLate S ≤ S .number → ⊥) =
       λ l.
