@@ -1,6 +1,6 @@
-"""Write the sample sheets and their listings, or say whether they are current.
+"""Write the sample sheets and captures and their listings, or say whether they are current.
 
-    make.py            writes every NAME.sheet and NAME.txt beside this file
+    make.py            writes every NAME.sheet, NAME.capture and NAME.txt beside this file
     make.py --check    changes nothing; exit status 1 if a file is not current
 
 The expected reports stand here as text, so that a change of the second
@@ -153,6 +153,58 @@ SAMPLES = [
     ),
 ]
 
+EVENTS = {16: "request", 17: "answer"}
+
+# name, the sheet that it is laid beside, what it shows, events (kind, stream, stamp), expected report
+CAPTURES = [
+    (
+        "capture-within",
+        "pnet-two-masters",
+        "Every answer within its bound. The counter runs over to zero between a request\n"
+        "and its answer: 704 - 4,294,967,000 around the wrap is 1,000 bp, the bound itself.\n"
+        "The last request is still open.",
+        [
+            (16, 1, 4_294_967_000),
+            (16, 3, 4_294_967_100),
+            (17, 3, 4_294_967_293),
+            (16, 2, 4_294_967_295),
+            (17, 2, 520),
+            (17, 1, 704),
+            (16, 3, 100_004),
+        ],
+        "P-NET capture\n"
+        "stream 1 M01 bound 1000 bp largest 1000 bp 1 answers 0 above 0 open\n"
+        "stream 2 M01 bound 1000 bp largest 521 bp 1 answers 0 above 0 open\n"
+        "stream 3 M02 bound 500 bp largest 193 bp 1 answers 0 above 1 open\n"
+        "every answer within its bound\n",
+    ),
+    (
+        "capture-above",
+        "pnet-two-masters",
+        "Answers above their bound: stream 3 took 501 bp once, where 500 bp were promised.",
+        [
+            (16, 1, 1_000),
+            (16, 3, 1_200),
+            (17, 3, 1_701),
+            (17, 1, 1_930),
+            (16, 3, 101_200),
+            (17, 3, 101_700),
+        ],
+        "P-NET capture\n"
+        "stream 1 M01 bound 1000 bp largest 930 bp 1 answers 0 above 0 open\n"
+        "stream 2 M01 bound 1000 bp largest 0 bp 0 answers 0 above 0 open\n"
+        "stream 3 M02 bound 500 bp largest 501 bp 2 answers 1 above 0 open\n"
+        "answers above the bound in 1 streams, first stream 3\n",
+    ),
+    (
+        "capture-refused",
+        "pnet-two-masters",
+        "Refused with 16. Stream 2 asks again while its request is open.",
+        [(16, 2, 5), (16, 3, 6), (17, 3, 250), (16, 2, 400)],
+        "refused 16 at capture byte 21\n",
+    ),
+]
+
 
 def record(kind, *numbers):
     body = b"".join(n.to_bytes(f[0], "big") for n, f in zip(numbers, FIELDS[kind]))
@@ -177,8 +229,29 @@ def listing(name, about, records, cut, report):
     return "\n".join(lines) + "\n\nReport:\n\n" + report
 
 
-def files():
-    """Every file's name and contents."""
+def event(kind, stream, stamp):
+    return bytes([kind]) + stream.to_bytes(2, "big") + stamp.to_bytes(4, "big")
+
+
+def capture_listing(name, sheet, about, events, report):
+    lines = ["%s.capture, beside %s.sheet" % (name, sheet), ""] + about.split("\n") + [""]
+    for index, (kind, stream, stamp) in enumerate(events):
+        place = index * second_opinion.EVENT_LENGTH
+        lines.append("byte %d: %s, stream %d, stamp %s bp" % (place, EVENTS[kind], stream, format(stamp, ",")))
+    return "\n".join(lines) + "\n\nReport:\n\n" + report
+
+
+def capture_files(made):
+    for name, sheet, about, events, report in CAPTURES:
+        data = b"".join(event(*e) for e in events)
+        told = second_opinion.capture_report(made[sheet + ".sheet"], data)
+        if told != report.encode("ascii"):
+            sys.exit("%s: the second opinion reports otherwise:\n%s" % (name, told.decode("ascii")))
+        yield name + ".capture", data
+        yield name + ".txt", capture_listing(name, sheet, about, events, report).encode("ascii")
+
+
+def sheet_files():
     for name, about, records, cut, report in SAMPLES:
         data = b"".join(record(*r) for r in records)
         data = data[: len(data) - cut]
@@ -187,6 +260,13 @@ def files():
                      % (name, second_opinion.report(data).decode("ascii")))
         yield name + ".sheet", data
         yield name + ".txt", listing(name, about, records, cut, report).encode("ascii")
+
+
+def files():
+    """Every file's name and contents."""
+    made = dict(sheet_files())
+    made.update(capture_files(made))
+    return made
 
 
 def contents(path):
@@ -199,7 +279,7 @@ def contents(path):
 def main():
     if sys.argv[1:] not in ([], ["--check"]):
         sys.exit(__doc__.strip())
-    expected = dict(files())
+    expected = files()
     if sys.argv[1:] == []:
         for name, data in expected.items():
             with open(os.path.join(HERE, name), "wb") as file:
@@ -208,7 +288,7 @@ def main():
         return 0
     stale = [n for n, data in expected.items() if contents(os.path.join(HERE, n)) != data]
     stale += [
-        n for n in sorted(os.listdir(HERE)) if n.endswith((".sheet", ".txt")) and n not in expected
+        n for n in sorted(os.listdir(HERE)) if n.endswith((".sheet", ".capture", ".txt")) and n not in expected
     ]
     for name in stale:
         print("not current: %s" % name)

@@ -40,7 +40,14 @@ PHRASES = (
     "48 in %d us" % second_opinion.us_up(48),
     "a kind that is not %d..%d" % (min(second_opinion.WIDTHS), max(second_opinion.WIDTHS)),
     "more than %d rows" % second_opinion.ROWS_LIMIT,
+    "%d for a request" % second_opinion.REQUEST,
+    "%d for its completed answer" % second_opinion.ANSWER,
+    "true below %d bp" % second_opinion.COUNTER,
+    "neither %d nor %d" % (second_opinion.REQUEST, second_opinion.ANSWER),
 )
+# those that a program can show: its own room is never short, so 13 is not among them
+REFUSALS = [number for number in range(1, 17) if number != 13]
+GOOD_SHEET = bytes.fromhex("0101020100cb000003e8000003e8")
 KIND = re.compile(r" {3}(\d) +(\d+)  ([^:]+): (.*)")
 FIELD = re.compile(r"(.+) \((\d)\) (?:(any)|(\d+)\.\.(\w+)(?: (bp|us))?)$")
 UNTIMED = ("masters", "master", "identifier")
@@ -104,7 +111,7 @@ def help_troubles(text):
         if words not in text:
             yield "not told: %s" % words
     numbers = [int(n) for n in re.findall(r"(?:^|  ) *(\d+)  [a-z]", text, re.M)]
-    if sorted(numbers) != list(range(1, 13)):
+    if sorted(numbers) != REFUSALS:
         yield "the refusals told are %s" % sorted(numbers)
 
 
@@ -127,7 +134,15 @@ def main(program):
         missing = os.path.join(folder, "missing.sheet")
         troubles += complaint_troubles(program, [missing], missing)
         troubles += complaint_troubles(program, [folder], folder)
-        troubles += complaint_troubles(program, [missing, missing], "--help")
+        troubles += complaint_troubles(program, [missing, missing], missing)
+        troubles += complaint_troubles(program, [missing, missing, missing], "--help")
+        sheet = os.path.join(folder, "one.sheet")
+        with open(sheet, "wb") as file:
+            file.write(GOOD_SHEET)
+        troubles += complaint_troubles(program, [sheet, missing], missing)
+        troubles += complaint_troubles(program, [sheet, folder], folder)
+        troubles += complaint_troubles(program, [folder, sheet], folder)
+        troubles += complaint_troubles(program, ["-", "-"], "standard input")
     for trouble in troubles:
         print(trouble)
     print("the program's help and complaints: %d wrong" % len(troubles))

@@ -1,4 +1,4 @@
-"""Run a planner on every sample sheet and compare its report with the one in the listing.
+"""Run a planner on every sample sheet and capture and compare its report with the one in the listing.
 
     samples.py PROGRAM...
 """
@@ -24,8 +24,18 @@ def main(program):
             if done.stdout != expected:
                 wrong += 1
                 print("%s\nexpected %r\ngot      %r" % (sheet.name, expected, done.stdout))
-    print("%d sample sheets, %d reports differ" % (len(sheets), wrong))
-    return 1 if wrong or not sheets else 0
+    captures = sorted(SAMPLES.glob("*.capture"))
+    for capture in captures:
+        listing = capture.with_suffix(".txt").read_bytes()
+        expected = listing.split(b"\nReport:\n\n", 1)[1]
+        beside = listing.split(b"\n", 1)[0].decode("ascii").split(", beside ")[1]
+        words = program + [str(SAMPLES / beside), str(capture)]
+        done = subprocess.run(words, stdout=subprocess.PIPE, check=False)
+        if done.stdout != expected:
+            wrong += 1
+            print("%s\nexpected %r\ngot      %r" % (capture.name, expected, done.stdout))
+    print("%d sample sheets, %d captures, %d reports differ" % (len(sheets), len(captures), wrong))
+    return 1 if wrong or not sheets or not captures else 0
 
 
 if __name__ == "__main__":
