@@ -30,7 +30,8 @@ MARK64 = 0xA5A5A5A5A5A5A5A5
 
 # ---------------------------------------------------------------- a reference for captures
 
-# Until the second opinion has its own: then these lines go, and `compare_capture` below is opinion.compare_capture.
+# Until the second opinion has its own: these lines then go, and
+# `compare_capture` below is `opinion.compare_capture`.
 
 Compared = namedtuple("Compared", "answers largest above left")
 
@@ -146,7 +147,11 @@ def expected_worldfip(data, length):
 
 
 CAPTURE_RUNS = (
-    (ctypes.c_uint64, MARK64), (ctypes.c_uint32, MARK32), (ctypes.c_uint64, MARK64), (ctypes.c_uint8, MARK8))
+    (ctypes.c_uint64, MARK64),
+    (ctypes.c_uint32, MARK32),
+    (ctypes.c_uint64, MARK64),
+    (ctypes.c_uint8, MARK8),
+)
 
 
 def ask_capture(library, data, capture, lengths):
@@ -179,15 +184,18 @@ def event(kind, stream, stamp):
 
 
 def capture_of(rng, bounds):
-    """Requests and answers of streams with these bounds, with responses about the bound and wraps."""
+    """Requests and answers of streams with these bounds, with wraps."""
     records = []
     open_since = {}
     clock = rng.choice([0, 2**32 - 1000, rng.randrange(2**32)])
     for _ in range(rng.choice([0, 1, 2, 10, 60])):
-        i = rng.randrange(len(bounds)) if rng.random() < 0.5 or not open_since else rng.choice(list(open_since))
+        i = rng.randrange(len(bounds))
+        if open_since and rng.random() < 0.5:
+            i = rng.choice(list(open_since))
         if i in open_since:
-            stamp = open_since.pop(i) + rng.choice([0, bounds[i] - 1, bounds[i], bounds[i] + 1, rng.randrange(2**32)])
-            records.append(event(17, i + 1, stamp))
+            b = bounds[i]
+            response = rng.choice([0, b - 1, b, b + 1, rng.randrange(2**32)])
+            records.append(event(17, i + 1, open_since.pop(i) + response))
         else:
             open_since[i] = clock
             records.append(event(16, i + 1, clock))
@@ -204,10 +212,12 @@ def captures(rng, data):
         bounds = [plan.bound[stream[0] - 1] for stream in opinion.read(data).streams]
     records = capture_of(rng, bounds)
     yield b"".join(records)
+    n = len(bounds)
     stray = event(
         rng.choice([16, 17, 16, 17, 0, 2, 15, 18, 255]),
-        rng.choice([0, 1, len(bounds), len(bounds) + 1, 800, 801, 65535, rng.randint(1, len(bounds))]),
-        rng.randrange(2**32))
+        rng.choice([0, 1, n, n + 1, 800, 801, 65535, rng.randint(1, n)]),
+        rng.randrange(2**32),
+    )
     at = rng.randint(0, len(records))
     if at > 0 and rng.random() < 0.5:
         stray = records[at - 1]  # once more: 15 or 16
@@ -258,7 +268,8 @@ def differences(library, rng, data):
             yield "WorldFIP planner, run of %d" % length
     for capture in captures(rng, data):
         for lengths in capture_lengths(data):
-            if ask_capture(library, data, capture, lengths) != expected_capture(data, capture, lengths):
+            asked = (data, capture, lengths)
+            if ask_capture(library, *asked) != expected_capture(*asked):
                 yield "capture %s, runs of %d, %d, %d and %d" % (capture.hex(), *lengths)
 
 
