@@ -1,5 +1,5 @@
 /*
- * The time of one plan, the proved planners beside the plain C ones, on sheets made here.
+ * The time of one plan, the proved planners beside the plain C ones, on sheets and captures made here.
  *
  * Both are compiled for x86-64 by the same compiler at -O3 and called in the same process. Each figure is the best of
  * several batches, so that a pause of the machine counts for nothing. No buffer is cleared between plans.
@@ -19,11 +19,24 @@ uint64_t planner_pnet(const uint8_t *s, size_t n, uint32_t *bound, size_t bn, ui
                       uint32_t *rounds, size_t cn);
 uint64_t planner_profibus(const uint8_t *s, size_t n);
 uint64_t planner_worldfip(const uint8_t *s, size_t n, uint64_t *rows, size_t rn);
+uint64_t planner_capture(const uint8_t *s, size_t n, const uint8_t *c, size_t m, uint64_t *answers, size_t an,
+                         uint32_t *largest, size_t ln, uint64_t *above, size_t bn, uint8_t *left, size_t on);
 
 static uint8_t sheet[16384];
 static size_t length;
 static uint32_t ours[3][32], theirs[3][32];
 static uint64_t our_rows[4096], their_rows[4096];
+
+enum { LONG = 150000, SHORT = 1460 }; /* records: about 1 MB and 10 KB */
+
+static uint8_t capture[7 * LONG];
+static uint32_t records; /* 0 while there is no capture */
+/* what a capture shows of each stream */
+static struct shown {
+    uint64_t answers[800], above[800];
+    uint32_t largest[800];
+    uint8_t left[800];
+} we_saw, they_saw;
 
 static void put(uint64_t value, int width)
 {
@@ -58,6 +71,34 @@ static void worldfip_sheet(uint32_t variables, uint32_t longest, uint32_t slots)
     for (uint32_t i = 0; i < variables; i++) {
         put(6, 1), put(1000 - i, 2), put((uint64_t)period * 1000, 4);
         period = period == longest ? 2 : period * 2;
+    }
+}
+
+static void event(uint32_t kind, uint32_t stream, uint32_t stamp)
+{
+    uint8_t *to = capture + 7 * records++;
+
+    to[0] = (uint8_t)kind;
+    to[1] = (uint8_t)(stream >> 8), to[2] = (uint8_t)stream;
+    for (int i = 0; i < 4; i++)
+        to[3 + i] = (uint8_t)(stamp >> (24 - 8 * i));
+}
+
+/* `count` records of streams drawn at random: a request where none is open, else its answer. Responses then lie about R. The
+   counter wraps near the beginning, and then now and again, as the bus rests after each 4096 records. */
+static void capture_of(uint32_t streams, uint32_t count)
+{
+    uint8_t waiting[800] = {0};
+    uint64_t draw = 1;
+    uint32_t clock = 0xFFFF0000;
+
+    records = 0;
+    while (records < count) {
+        draw = draw * 6364136223846793005u + 1442695040888963407u;
+        uint32_t i = (uint32_t)((draw >> 33) % streams);
+        event(waiting[i] ? 17 : 16, i + 1, clock);
+        waiting[i] ^= 1;
+        clock += records % 4096 == 0 ? 1u << 30 : 120 + (uint32_t)(draw >> 56);
     }
 }
 
@@ -100,6 +141,20 @@ static int their_worldfip(void)
     return plain_worldfip(sheet, length, their_rows, 4096, &count, &place);
 }
 
+static int our_capture(void)
+{
+    uint64_t r = planner_capture(sheet, length, capture, 7 * (size_t)records, we_saw.answers, 800, we_saw.largest, 800,
+                                 we_saw.above, 800, we_saw.left, 800);
+    return (int)(r >> 32 ? r - (1ull << 32) : 0);
+}
+
+static int their_capture(void)
+{
+    uint64_t place;
+    return plain_capture(sheet, length, capture, 7 * (size_t)records, they_saw.answers, 800, they_saw.largest, 800,
+                         they_saw.above, 800, they_saw.left, 800, &place);
+}
+
 static double now(void)
 {
     struct timespec t;
@@ -140,6 +195,10 @@ static int agree(void)
     for (int m = 0; m < 4096; m++)
         if (our_rows[m] != their_rows[m])
             return 0;
+    for (int i = 0; i < 800; i++)
+        if (we_saw.answers[i] != they_saw.answers[i] || we_saw.largest[i] != they_saw.largest[i] ||
+            we_saw.above[i] != they_saw.above[i] || we_saw.left[i] != they_saw.left[i])
+            return 0;
     return 1;
 }
 
@@ -154,7 +213,10 @@ static void line(const char *name, int (*proved)(void), int (*plain)(void))
         return;
     }
     double a = timed(proved), b = timed(plain);
-    printf("%-44s %12.0f ns %12.0f ns %8.2f %s\n", name, a, b, a / b, refusal ? "(refused)" : "");
+    printf("%-44s %12.0f ns %12.0f ns %8.2f", name, a, b, a / b);
+    if (records)
+        printf(" %12.2f %8.2f", a / records, b / records);
+    printf(" %s\n", refusal ? "(refused)" : "");
 }
 
 int main(void)
@@ -188,5 +250,22 @@ int main(void)
     line("WorldFIP, 64 variables, 4096 rows, 8 slots", our_worldfip, their_worldfip);
     worldfip_sheet(64, 4096, 100);
     line("WorldFIP, 64 variables, 4096 rows, 100 slots", our_worldfip, their_worldfip);
+
+    printf("\n%-44s %15s %15s %8s %21s\n", "capture", "proved", "plain C", "ratio", "ns a record");
+    pnet_sheet(2, 3, 100000);
+    capture_of(3, SHORT);
+    line("10 KB, 2 masters, 3 streams", our_capture, their_capture);
+    capture_of(3, LONG);
+    line("1 MB, 2 masters, 3 streams", our_capture, their_capture);
+    pnet_sheet(10, 100, 1000000);
+    capture_of(100, SHORT);
+    line("10 KB, 10 masters, 100 streams", our_capture, their_capture);
+    capture_of(100, LONG);
+    line("1 MB, 10 masters, 100 streams", our_capture, their_capture);
+    pnet_sheet(10, 800, 1000000);
+    capture_of(800, SHORT);
+    line("10 KB, 10 masters, 800 streams", our_capture, their_capture);
+    capture_of(800, LONG);
+    line("1 MB, 10 masters, 800 streams", our_capture, their_capture);
     return wrong;
 }

@@ -2,18 +2,20 @@
 
     check_plain.py [--seed S] [--count N]
 
-Each generated sheet goes to all three planners, with lent runs that are long
-enough, just long enough and one place too short. A speed comparison with a
-planner that answers something else, or that spoils lent memory, would mean
-nothing.
+Each generated sheet goes to all three planners, and with some captures to the
+fourth, with lent runs that are long enough, just long enough and one place too
+short. A speed comparison with a planner that answers something else, or that
+spoils lent memory, would mean nothing.
 """
 
 import ctypes
 import os
+import random
 import shutil
 import subprocess
 import sys
 import tempfile
+from collections import namedtuple
 
 HERE = os.path.dirname(os.path.abspath(__file__))
 sys.path.insert(0, os.path.join(HERE, os.pardir, "tests"))
@@ -22,8 +24,11 @@ sys.dont_write_bytecode = True
 import second_opinion as opinion  # noqa: E402
 import sheets  # noqa: E402
 
+MARK8 = 0xA5
 MARK32 = 0xA5A5A5A5
 MARK64 = 0xA5A5A5A5A5A5A5A5
+
+# ---------------------------------------------------------------- asking
 
 
 def build(folder):
@@ -97,6 +102,93 @@ def expected_worldfip(data, length):
     return (0, MARK64), len(plan.rows), rows
 
 
+CAPTURE_RUNS = (
+    (ctypes.c_uint64, MARK64),
+    (ctypes.c_uint32, MARK32),
+    (ctypes.c_uint64, MARK64),
+    (ctypes.c_uint8, MARK8),
+)
+
+
+def ask_capture(library, data, capture, lengths):
+    runs = [(kind * (n + 2))(*[mark] * (n + 2)) for n, (kind, mark) in zip(lengths, CAPTURE_RUNS)]
+    place = ctypes.c_uint64(MARK64)
+    lent = [word for run, n in zip(runs, lengths) for word in (run, size(n))]
+    number = library.plain_capture(
+        data, size(len(data)), capture, size(len(capture)), *lent, ctypes.byref(place))
+    return (number, place.value), [list(run) for run in runs]
+
+
+def expected_capture(data, capture, lengths):
+    runs = [[mark] * (n + 2) for n, (_, mark) in zip(lengths, CAPTURE_RUNS)]
+    answer = opinion.compare_capture(data, capture, min(lengths))
+    if isinstance(answer, opinion.Refusal):
+        return tuple(answer), runs
+    for run, name in zip(runs, ("answers", "largest", "above", "left")):
+        run[: len(answer)] = [getattr(one, name) for one in answer]
+    return (0, MARK64), runs
+
+
+# ---------------------------------------------------------------- what is asked
+
+
+def event(kind, stream, stamp):
+    return bytes([kind]) + stream.to_bytes(2, "big") + (stamp % 2**32).to_bytes(4, "big")
+
+
+def capture_of(rng, bounds):
+    """Requests and answers of streams with these bounds, with wraps."""
+    records = []
+    open_since = {}
+    clock = rng.choice([0, 2**32 - 1000, rng.randrange(2**32)])
+    for _ in range(rng.choice([0, 1, 2, 10, 60])):
+        i = rng.randrange(len(bounds))
+        if open_since and rng.random() < 0.5:
+            i = rng.choice(list(open_since))
+        if i in open_since:
+            b = bounds[i]
+            response = rng.choice([0, b - 1, b, b + 1, rng.randrange(2**32)])
+            records.append(event(17, i + 1, open_since.pop(i) + response))
+        else:
+            open_since[i] = clock
+            records.append(event(16, i + 1, clock))
+        clock += rng.choice([0, 1, 500, 2**31, rng.randrange(2**32)])
+    return records
+
+
+def captures(rng, data):
+    """A capture that is accepted where the sheet is, and two that are mostly not."""
+    plan = opinion.plan_pnet(data)
+    if isinstance(plan, opinion.Refusal):
+        bounds = [1000]
+    else:
+        bounds = [plan.bound[stream[0] - 1] for stream in opinion.read(data).streams]
+    records = capture_of(rng, bounds)
+    yield b"".join(records)
+    n = len(bounds)
+    stray = event(
+        rng.choice([16, 17, 16, 17, 0, 2, 15, 18, 255]),
+        rng.choice([0, 1, n, n + 1, 800, 801, 65535, rng.randint(1, n)]),
+        rng.randrange(2**32),
+    )
+    at = rng.randint(0, len(records))
+    if at > 0 and rng.random() < 0.5:
+        stray = records[at - 1]  # once more: 15 or 16
+    whole = b"".join(records[:at] + [stray] + records[at:])
+    yield whole
+    yield whole[: rng.randint(0, len(whole))]
+
+
+def capture_lengths(data):
+    yield (800, 800, 800, 800)
+    sheet = opinion.read(data)
+    if isinstance(sheet, opinion.Sheet) and sheet.kind == 1:
+        n = len(sheet.streams)
+        yield (n, n, n, n)
+        for short in range(4):
+            yield tuple(n - 1 if run == short else n for run in range(4))
+
+
 def pnet_lengths(data):
     yield (32, 32, 32)
     sheet = opinion.read(data)
@@ -118,7 +210,7 @@ def worldfip_lengths(data):
         yield 0
 
 
-def differences(library, data):
+def differences(library, rng, data):
     for lengths in pnet_lengths(data):
         if ask_pnet(library, data, lengths) != expected_pnet(data, lengths):
             yield "P-NET planner, runs of %d, %d and %d" % lengths
@@ -127,6 +219,11 @@ def differences(library, data):
     for length in worldfip_lengths(data):
         if ask_worldfip(library, data, length) != expected_worldfip(data, length):
             yield "WorldFIP planner, run of %d" % length
+    for capture in captures(rng, data):
+        for lengths in capture_lengths(data):
+            asked = (data, capture, lengths)
+            if ask_capture(library, *asked) != expected_capture(*asked):
+                yield "capture %s, runs of %d, %d, %d and %d" % (capture.hex(), *lengths)
 
 
 def main():
@@ -139,11 +236,12 @@ def main():
         sys.exit(__doc__.strip())
     with tempfile.TemporaryDirectory() as folder:
         library = build(folder)
+        rng = random.Random(options["--seed"])
         compared = 0
         differing = 0
         for name, data in sheets.sheets(options["--seed"], options["--count"]):
             compared += 1
-            found = list(differences(library, data))
+            found = list(differences(library, rng, data))
             if found:
                 differing += 1
                 print("%s: %s\n  %s" % (name, "; ".join(found), data[:2000].hex()))

@@ -13,5 +13,8 @@ int plain_pnet(const uint8_t *s, size_t n, uint32_t *bound, size_t bn, uint32_t 
 int plain_profibus(const uint8_t *s, size_t n, uint32_t *ttr, uint32_t *stream, uint64_t *place);
 int plain_worldfip(const uint8_t *s, size_t n, uint64_t *rows, size_t rn, uint32_t *row_count,
                    uint64_t *place);
+int plain_capture(const uint8_t *s, size_t n, const uint8_t *c, size_t m, uint64_t *answers,
+                  size_t an, uint32_t *largest, size_t ln, uint64_t *above, size_t bn,
+                  uint8_t *left, size_t on, uint64_t *place);
 
 #endif

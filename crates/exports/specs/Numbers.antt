@@ -18,3 +18,7 @@ profibusNumber (ringPlan.Refused no' place) = 4294967296 + no'
 abbrev pub worldfipNumber : fip.Plan → ℕ
 worldfipNumber (fipPlan.Accepted microcycle slots rows) = rows
 worldfipNumber (fipPlan.Refused no' place) = 4294967296 + no'
+
+abbrev pub captureNumber : pnet.Plan → ℕ
+captureNumber (pnetPlan.Accepted masters streams) = streams
+captureNumber (pnetPlan.Refused no' place) = 4294967296 + no'

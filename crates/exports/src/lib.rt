@@ -8,7 +8,8 @@ ghost use Rattle.segment.specs.Refined;
 ghost use Rattle.pnet.specs.Planned;
 ghost use Rattle.profibus.specs.Planned as Ring;
 ghost use Rattle.worldfip.specs.Answer;
-ghost use Rattle.exports.specs.Numbers.{pnetNumber, profibusNumber, worldfipNumber};
+ghost use Rattle.capture.specs.Compared.{compared, streamRun, answeredOf, largestOf, aboveOf, leftOf};
+ghost use Rattle.exports.specs.Numbers.{pnetNumber, profibusNumber, worldfipNumber, captureNumber};
 
 const REFUSED: u64 = 4294967296;
 
@@ -61,5 +62,30 @@ pub extern "C" fn planner_worldfip(s: &[u8], rows: &mut [u64]) -> u64
             rows: count,
         } => count as u64,
         worldfip::Plan::Refused { no, place: _ } => REFUSED + no as u64,
+    }
+}
+
+// The streams of a P-NET sheet that a capture is laid beside; their figures go to the four runs.
+#[no_mangle]
+pub extern "C" fn planner_capture(
+    s: &[u8],
+    c: &[u8],
+    answers: &mut [u64],
+    largest: &mut [u32],
+    above: &mut [u64],
+    left: &mut [u8],
+) -> u64
+    ensures { λ r. ⌜ r ≡ captureNumber (Planned.planOf (compared (now (s .entry)) (now (c .entry)) (length (now (answers .entry))) (length (now (largest .entry))) (length (now (above .entry))) (length (now (left .entry))))) ⌝ }
+    ensures { λ _. ⌜ now (answers .exit) ≡ streamRun (compared (now (s .entry)) (now (c .entry)) (length (now (answers .entry))) (length (now (largest .entry))) (length (now (above .entry))) (length (now (left .entry)))) (answeredOf (now (c .entry))) (now (answers .entry)) ⌝ }
+    ensures { λ _. ⌜ now (largest .exit) ≡ streamRun (compared (now (s .entry)) (now (c .entry)) (length (now (answers .entry))) (length (now (largest .entry))) (length (now (above .entry))) (length (now (left .entry)))) (largestOf (now (c .entry))) (now (largest .entry)) ⌝ }
+    ensures { λ _. ⌜ now (above .exit) ≡ streamRun (compared (now (s .entry)) (now (c .entry)) (length (now (answers .entry))) (length (now (largest .entry))) (length (now (above .entry))) (length (now (left .entry)))) (aboveOf (now (c .entry))) (now (above .entry)) ⌝ }
+    ensures { λ _. ⌜ now (left .exit) ≡ streamRun (compared (now (s .entry)) (now (c .entry)) (length (now (answers .entry))) (length (now (largest .entry))) (length (now (above .entry))) (length (now (left .entry)))) (leftOf (now (c .entry))) (now (left .entry)) ⌝ }
+{
+    match capture::compare(s, c, answers, largest, above, left) {
+        pnet::Plan::Accepted {
+            masters: _,
+            streams,
+        } => streams as u64,
+        pnet::Plan::Refused { no, place: _ } => REFUSED + no as u64,
     }
 }

@@ -1,0 +1,71 @@
+-- `exports::planner_capture` meets its contract: the answer on a capture as a number, and its runs. Assumes nothing.
+use mathlib.Core.Path.{sym, ap, _∙_}
+use Rattle.exports.specs.Numbers.{captureNumber}
+use borrow.Author.Needs.{needs}
+use Rattle.exports.proofs.planner_capture.Statement.{statement}
+use Rattle.exports.proofs.planner_capture.Tie as tie
+
+compare-requires : tie.Need-compare-requires
+compare-requires c κs = search needs
+
+enum-known-streams : tie.Need-enum-known-streams
+enum-known-streams c = search needs
+
+enum-known-no : tie.Need-enum-known-no
+enum-known-no c = search needs
+
+cast-result : tie.Need-cast-result
+cast-result c = search needs
+
+add-result : tie.Need-add-result
+add-result c = search needs
+
+same-length : tie.Need-same-length
+same-length c = search needs
+
+same-length-2 : tie.Need-same-length-2
+same-length-2 c = search needs
+
+same-length-3 : tie.Need-same-length-3
+same-length-3 c = search needs
+
+same-length-4 : tie.Need-same-length-4
+same-length-4 c = search needs
+
+returns : tie.Need-returns
+returns c = (ap captureNumber (sym (c .before .streams .given .1) ∙ c .before .before .before .before .before .before .before .before .before .before .before .compare .ensures .0), c .before .before .before .before .before .before .before .before .before .before .before .compare .ensures .1)
+
+same-length-5 : tie.Need-same-length-5
+same-length-5 c = search needs
+
+same-length-6 : tie.Need-same-length-6
+same-length-6 c = search needs
+
+same-length-7 : tie.Need-same-length-7
+same-length-7 c = search needs
+
+same-length-8 : tie.Need-same-length-8
+same-length-8 c = search needs
+
+returns-2 : tie.Need-returns-2
+returns-2 c = (ap captureNumber (sym (c .before .no .given .1) ∙ c .before .before .before .before .before .before .before .before .before .before .before .compare .ensures .0), c .before .before .before .before .before .before .before .before .before .before .before .compare .ensures .1)
+
+pub planner-capture-spec : {M : Type 1} → statement M
+planner-capture-spec =
+    tie.close
+    (tie.spec
+    compare-requires
+    enum-known-streams
+    enum-known-no
+    cast-result
+    add-result
+    same-length
+    same-length-2
+    same-length-3
+    same-length-4
+    returns
+    same-length-5
+    same-length-6
+    same-length-7
+    same-length-8
+    returns-2)
