@@ -22,8 +22,9 @@ use Rattle.pnet.specs.Planned.{segmentChecks, planOf, atPlace}
 use Rattle.pnet.specs.declared.answer.Plan.the-variants as answer
 use Rattle.log.specs.Log.{fresh}
 use Rattle.log.specs.Records.{heard}
-use Rattle.capture.specs.Compared.{boundedBy, bounded, comparedBy, compared, streamRun}
-use Rattle.capture.specs.Pieces.{most}
+use Rattle.limits.specs.Bounded.{boundedBy, bounded, streamRun}
+use Rattle.capture.specs.Compared.{comparedBy, compared}
+use Rattle.tally.specs.Pieces.{most}
 use Rattle.capture.specs.Steps.{planBy, runBy}
 
 -- ---- A sheet that is accepted with room for its streams

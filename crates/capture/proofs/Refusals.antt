@@ -24,10 +24,11 @@ use Rattle.pnet.proofs.Refusals.{first-fails, all-pass, fails-first, pass-first
 use Rattle.log.specs.Log.{fresh}
 use Rattle.log.specs.Records.{heard}
 use Rattle.log.proofs.Refusals as log
-use Rattle.capture.specs.Compared.{boundedBy, bounded, comparedBy, compared}
+use Rattle.limits.specs.Bounded.{boundedBy, bounded}
+use Rattle.capture.specs.Compared.{comparedBy, compared}
 use Rattle.capture.specs.Refusals.{Room, Bounded, Given, Accepted}
 use Rattle.capture.specs.Refusals.Given.{unread, another-bus, no-room, too-late, in-capture}
-use Rattle.capture.proofs.Bounded.{bounded-unread, bounded-other, bounded-short, bounded-late, bounded-read}
+use Rattle.limits.proofs.Bounded.{bounded-unread, bounded-other, bounded-short, bounded-late, bounded-read}
 use Rattle.capture.proofs.Beside.{passes, compared-refused}
 
 module _ (s c : List ℕ) (la lb lc ld : ℕ) where

@@ -6,7 +6,6 @@ use mathlib.Core.List.{List}
 use native.Mathlib.Omega.{arith}
 use lib.Dec.{ltb}
 use lib.ListN.{length, getD, replicate}
-use Rattle.common.specs.Checks.{Verdict}
 use Rattle.common.specs.Checks.Verdict.{Passed, Refused}
 use Rattle.common.specs.Runs.{tab, filled}
 use Rattle.common.specs.Sums.{up}
@@ -15,9 +14,10 @@ use Rattle.log.specs.declared.Event.{Event}
 use Rattle.log.specs.Log.{Before, fresh, answers, answered, largest, above, left, shown}
 use Rattle.log.specs.Records.{size, eventAt, eventsIn, records, heard}
 use Rattle.log.proofs.Heard.{all-taken}
-use Rattle.capture.specs.declared.Taken.the-variants as answer
+use Rattle.tally.proofs.Answers.{told-refused, told-passed}
+use Rattle.tally.specs.declared.Taken.the-variants as answer
 use Rattle.capture.specs.Compared.{events}
-use Rattle.capture.specs.Pieces.{most, before, takenIn, takenBy, answerTo, leftAfter, answersAfter, largestAfter, aboveAfter}
+use Rattle.tally.specs.Pieces.{most, before, takenIn, answerTo, leftAfter, answersAfter, largestAfter, aboveAfter}
 use Rattle.capture.specs.Steps.{runBy}
 
 -- ---- Counts are small
@@ -45,15 +45,6 @@ begins-fresh : before none none ≡ fresh
 begins-fresh =
     let z : _≡_ {A = ℕ → ℕ} (λ i. getD none (i - 1) 0) (λ i. 0) = fun-ext (λ i. zero-at most (i - 1)) in
     ap {A = ℕ → ℕ} {B = Before} (λ f. record { waiting = f; stamp = f }) z
-
--- what an answer tells of the verdict
-pub told-refused : (v : Verdict) (r p : ℕ) → takenBy v ≡ answer.Refused r p → v ≡ Refused r p
-told-refused Passed r p e = let z : _≡_ {A = ℕ} 0 1 = cc in absurd (omega arith)
-told-refused (Refused a b) r p e = cc
-
-pub told-passed : (v : Verdict) → takenBy v ≡ answer.All → v ≡ Passed
-told-passed Passed e = refl
-told-passed (Refused a b) e = let z : _≡_ {A = ℕ} 0 1 = cc in absurd (omega arith)
 
 module _ (c : List ℕ) (n : ℕ) (few : n ≤ most) where
   heard-same : heard c (min n most) (before none none) ≡ heard c n fresh

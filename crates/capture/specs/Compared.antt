@@ -2,31 +2,15 @@
 use Prim.Native.Nat.{ℕ, min}
 use mathlib.Core.List.{List}
 use lib.ListN.{length}
-use lib.Dec.{ltb}
-use Rattle.common.specs.Checks.{verdict}
-use Rattle.common.specs.Runs.{filled}
-use Rattle.sheet.specs.Whole.{Outcome, orElse, reading}
+use Rattle.sheet.specs.Whole.{Outcome, orElse}
 use Rattle.sheet.specs.Whole.Outcome.{Read, Not}
-use Rattle.segment.specs.Segment.{Segment, segmentOf, bound}
-use Rattle.pnet.specs.Planned.{segmentChecks, firstLate, atPlace}
+use Rattle.segment.specs.Segment.{Segment, bound}
+use Rattle.limits.specs.Bounded.{bounded, boundOf}
 use Rattle.log.specs.declared.Event.{Event}
 use Rattle.log.specs.Log.{fresh, left, answered, largest, above}
 use Rattle.log.specs.Records.{eventsIn, records, heard}
 
--- ---- The sheet
-
--- the sheet's reading refusals, 3 at 0 if it isn't P-NET, 13 with the number of streams, 8
-abbrev pub boundedBy : Outcome → ℕ → Outcome
-boundedBy (Read H) room = orElse (verdict (segmentChecks H (ltb room (length (H .streams))) (length (H .streams)))) (Read H)
-boundedBy (Not n p) room = Not n p
-
-unfoldable pub bounded : List ℕ → ℕ → Outcome
-unfolding reading verdict firstLate segmentOf
-bounded s room = boundedBy (reading s) room
-
--- ---- The capture
-
--- then those of the capture c, record by record
+-- the sheet's refusals, then those of the capture c, record by record
 abbrev pub comparedBy : Outcome → List ℕ → Outcome
 comparedBy (Read H) c = orElse (heard c (length (H .streams)) fresh) (Read H)
 comparedBy (Not n p) c = Not n p
@@ -37,14 +21,6 @@ unfolding bounded heard
 compared s c la lb lc ld = comparedBy (bounded s (min la (min lb (min lc ld)))) c
 
 -- ---- The figures of a stream
-
--- its bound: R of its master
-unfoldable pub boundOf : Segment → ℕ → ℕ
-unfolding bound
-boundOf S i = bound S (S .stream i .master)
-
-abbrev pub masterOf : Segment → ℕ → ℕ
-masterOf S i = S .stream i .master
 
 -- all records of a capture
 unfoldable pub events : List ℕ → List Event
@@ -67,8 +43,3 @@ aboveOf c S i = above fresh (boundOf S i) (events c) i
 unfoldable pub leftOf : List ℕ → Segment → ℕ → ℕ
 unfolding left events
 leftOf c S i = left fresh (events c) i
-
--- a lent run: a figure of each stream, later places as they were; on a refusal all of it as it was
-abbrev pub streamRun : Outcome → (Segment → ℕ → ℕ) → List ℕ → List ℕ
-streamRun (Read H) figure old = filled (atPlace (figure (segmentOf H))) (length (H .streams)) old
-streamRun (Not n p) figure old = old

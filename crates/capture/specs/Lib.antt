@@ -1,4 +1,3 @@
 pub mod Compared
-pub mod Pieces
 pub mod Steps
 pub mod Refusals

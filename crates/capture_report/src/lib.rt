@@ -2,6 +2,7 @@
 // out; each function answers the place just after what it wrote.
 use lines::put_bp;
 use lines::put_name;
+use sheet::MOST;
 use text::put_counted;
 use text::put_word;
 use units::BitPeriods;
@@ -10,9 +11,6 @@ ghost use Prim.Native.Nat.{_≤_, min};
 ghost use Rattle.text.specs.Text.{Zeros, Wrote, item, texts};
 ghost use Rattle.capture_report.specs.Shown;
 ghost use Rattle.capture_report.specs.Shown.{mostCapture, whoseText, periodsText, countsText, streamLine, streamAt, lastLine, captureText, captureRefusal};
-
-// No sheet has more streams.
-pub const MOST: usize = 800;
 
 // No report of a capture is longer.
 pub const MOST_TEXT: usize = 97_671;

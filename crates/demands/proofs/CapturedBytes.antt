@@ -20,7 +20,8 @@ use Rattle.log.specs.declared.Event.{Event}
 use Rattle.log.specs.Log.{fresh, largest, above}
 use Rattle.log.specs.Records.{size, eventsIn, records}
 use Rattle.log.proofs.Refusals.{passed-exactly}
-use Rattle.capture.specs.Compared.{compared, boundOf, events, largestOf, aboveOf, streamRun}
+use Rattle.capture.specs.Compared.{compared, events, largestOf, aboveOf}
+use Rattle.limits.specs.Bounded.{boundOf, streamRun}
 use Rattle.capture.specs.Refusals.{Room}
 use Rattle.capture.proofs.Refusals.{accepted-exactly}
 use Rattle.demands.specs.Logged.{logOf}

@@ -8,7 +8,8 @@ ghost use Rattle.segment.specs.Refined;
 ghost use Rattle.pnet.specs.Planned;
 ghost use Rattle.profibus.specs.Planned as Ring;
 ghost use Rattle.worldfip.specs.Answer;
-ghost use Rattle.capture.specs.Compared.{compared, streamRun, answeredOf, largestOf, aboveOf, leftOf};
+ghost use Rattle.capture.specs.Compared.{compared, answeredOf, largestOf, aboveOf, leftOf};
+ghost use Rattle.limits.specs.Bounded.{streamRun};
 ghost use Rattle.exports.specs.Numbers.{pnetNumber, profibusNumber, worldfipNumber, captureNumber};
 
 const REFUSED: u64 = 4294967296;

@@ -1,10 +1,10 @@
-// A tester's capture beside the bounds of a sheet, read piece by piece: nothing is kept of a capture but what `capture::take` keeps.
+// A tester's capture beside the bounds of a sheet, read piece by piece: nothing is kept of a capture but what `tally::take` keeps.
 use crate::input::read_all;
-use capture::MOST;
-use capture::Taken;
 use libc::STDERR_FILENO;
 use libc::STDOUT_FILENO;
 use pnet::Plan;
+use sheet::MOST;
+use tally::Taken;
 ghost use Prim.Native.Nat.{_≤_};
 ghost use lib.ListN.{length};
 
@@ -73,7 +73,7 @@ fn hear(fd: i32, name: &[u8], streams: usize, masters: &[u8; MOST], bound: &[u32
             return;
         }
         let n = input.length;
-        let taken = capture::take(
+        let taken = tally::take(
             &piece[..n],
             streams,
             bound,
@@ -103,7 +103,7 @@ fn hear(fd: i32, name: &[u8], streams: usize, masters: &[u8; MOST], bound: &[u32
 pub(crate) fn compare(sheet: &[u8], fd: i32, name: &[u8]) {
     let mut masters = [0u8; MOST];
     let mut bound = [0u32; MOST];
-    match capture::bounds(sheet, MOST, &mut masters, &mut bound) {
+    match limits::bounds(sheet, MOST, &mut masters, &mut bound) {
         Plan::Accepted {
             masters: _,
             streams,

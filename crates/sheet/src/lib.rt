@@ -9,6 +9,9 @@ ghost use Rattle.sheet.specs.Steps;
 ghost use Rattle.sheet.specs.Steps.{ownNo, lateNo, countsWith, idsWith, Begun};
 ghost use Rattle.sheet.specs.Whole.{told, countsTold, reading};
 
+// No sheet of P-NET or PROFIBUS has more streams.
+pub const MOST: usize = 800;
+
 // What reading a sheet answers.
 pub enum Reading {
     // The first record, the number of streams, and the place of the first of them.
@@ -79,7 +82,7 @@ fn late_no(counts: &[u8; 33], ids: &[u32; 64], n: usize, r: Record) -> u8
         }
         return 0;
     }
-    if 800 <= n {
+    if MOST <= n {
         return 5;
     }
     let master = r.a as usize;

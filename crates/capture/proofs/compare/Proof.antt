@@ -5,7 +5,8 @@ use native.Mathlib.Omega.{arith}
 use denote.Ref.{now}
 use lib.ListN.{length}
 use Rattle.log.specs.Log.{fresh, above}
-use Rattle.capture.specs.Compared.{boundOf, events, answeredOf, largestOf, aboveOf, leftOf}
+use Rattle.limits.specs.Bounded.{boundOf}
+use Rattle.capture.specs.Compared.{events, answeredOf, largestOf, aboveOf, leftOf}
 use Rattle.capture.proofs.Beside.{Accepts, accepts, told-refused, compared-refused, plan-compared, run-compared, sheet-run}
 use borrow.Author.Needs.{needs}
 use Rattle.capture.proofs.compare.Statement.{statement}

@@ -5,7 +5,7 @@ use native.Mathlib.Omega.{arith}
 use borrow.Author.Needs.{needs}
 use lib.ListN.{length, take, length-replicate}
 use lib.Seq.{length-take-le}
-use Rattle.capture.proofs.Split.{refused-inside}
+use Rattle.tally.proofs.Split.{refused-inside}
 use Rattle.planner.proofs.beside.hear.Statement.{statement}
 use Rattle.planner.proofs.beside.hear.Tie as tie
 

@@ -1,4 +1,4 @@
--- `capture::bounds_of` meets its contract: the planner's answer, and each stream's master and bound by its own run. Assumes nothing.
+-- `limits::bounds_of` meets its contract: the planner's answer, and each stream's master and bound by its own run. Assumes nothing.
 use mathlib.Core.Path.{sym, _∙_}
 use mathlib.Core.List.{List}
 use Prim.Native.Nat.{ℕ}
@@ -6,9 +6,9 @@ use native.Mathlib.Omega.{arith}
 use borrow.Author.Needs.{needs}
 use denote.Ref.{now}
 use lib.ListN.{replicate}
-use Rattle.capture.proofs.Bounded.{streams-few, each-are, returned-refused, returned-accepted, refused-too}
-use Rattle.capture.proofs.bounds_of.Statement.{statement}
-use Rattle.capture.proofs.bounds_of.Tie as tie
+use Rattle.limits.proofs.Bounded.{streams-few, each-are, returned-refused, returned-accepted, refused-too}
+use Rattle.limits.proofs.bounds_of.Statement.{statement}
+use Rattle.limits.proofs.bounds_of.Tie as tie
 
 -- the planner's runs before the call
 abbrev zeros : List ℕ

@@ -1,13 +1,13 @@
--- `capture::bounds` meets its contract: the reading's own refusals, then 3, then 13, and what `bounds_of` says. Assumes nothing.
+-- `limits::bounds` meets its contract: the reading's own refusals, then 3, then 13, and what `bounds_of` says. Assumes nothing.
 use mathlib.Core.Path.{sym, ap, _∙_}
 use borrow.Author.Needs.{needs}
 use denote.Ref.{now}
 use Rattle.format.specs.declared.Record.{Record}
 use Rattle.sheet.specs.Steps.{sheetIn}
 use Rattle.sheet.proofs.Taken.{Taken, taken, not-taken, taken-ready, ready-streams}
-use Rattle.capture.proofs.Bounded.{bounded-unread, bounded-other, bounded-short, returned-refused}
-use Rattle.capture.proofs.bounds.Statement.{statement}
-use Rattle.capture.proofs.bounds.Tie as tie
+use Rattle.limits.proofs.Bounded.{bounded-unread, bounded-other, bounded-short, returned-refused}
+use Rattle.limits.proofs.bounds.Statement.{statement}
+use Rattle.limits.proofs.bounds.Tie as tie
 
 -- what the reader took
 took : (c : tie.After-read3)

@@ -1,4 +1,4 @@
--- `capture::keep` meets its contract. Assumes nothing.
+-- `tally::keep` meets its contract. Assumes nothing.
 use Prim.Native.Nat.{ℕ, _+_, _%_, _^_, max}
 use mathlib.Core.Path.{refl, ap, _∙_}
 use borrow.Author.Needs.{needs}
@@ -7,9 +7,9 @@ use denote.Ref.{now}
 use lib.Dec.{ltb}
 use lib.ListN.{getD, set}
 use Rattle.common.specs.Sums.{when}
-use Rattle.capture.specs.Steps.{spot, leftWith, sinceWith, answersWith, shownBy, largestWith, aboveWith}
-use Rattle.capture.proofs.keep.Statement.{statement}
-use Rattle.capture.proofs.keep.Tie as tie
+use Rattle.tally.specs.Steps.{spot, leftWith, sinceWith, answersWith, shownBy, largestWith, aboveWith}
+use Rattle.tally.proofs.keep.Statement.{statement}
+use Rattle.tally.proofs.keep.Tie as tie
 
 cast-k : tie.Need-cast-k
 cast-k c = search needs

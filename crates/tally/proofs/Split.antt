@@ -11,10 +11,10 @@ use Rattle.log.specs.Log as Log
 use Rattle.log.specs.Records.{size, records, taken, heard}
 use Rattle.log.proofs.Joined.{Leaves, left-joined, since-joined, answered-joined, largest-joined, above-joined}
 use Rattle.log.proofs.Heard.{stops, heard-front}
-use Rattle.capture.specs.declared.Taken.the-variants as answer
-use Rattle.capture.specs.Pieces.{most, before, behind, takenIn, takenBy, answerTo, leftAfter, sinceAfter, answersAfter, largestAfter, aboveAfter}
-use Rattle.capture.proofs.Seam.{taken-later, refused-place, leaves, both-heard, by-place, goes-on}
-use Rattle.capture.proofs.Told.{told-refused}
+use Rattle.tally.specs.declared.Taken.the-variants as answer
+use Rattle.tally.specs.Pieces.{most, before, behind, takenIn, takenBy, answerTo, leftAfter, sinceAfter, answersAfter, largestAfter, aboveAfter}
+use Rattle.tally.proofs.Seam.{taken-later, refused-place, leaves, both-heard, by-place, goes-on}
+use Rattle.tally.proofs.Answers.{told-refused}
 
 -- the place of a refusal lies in the piece
 pub refused-inside : (p : List ℕ) (n : ℕ) (left since : List ℕ) (r q : ℕ) → answerTo p n left since ≡ answer.Refused r q → q < length p

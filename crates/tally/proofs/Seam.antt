@@ -15,11 +15,11 @@ use Rattle.log.specs.Log.{Before}
 use Rattle.log.specs.Records.{size, eventsIn, judge, taken, heard}
 use Rattle.log.proofs.Joined.{Leaves, later, events-behind, records-whole}
 use Rattle.log.proofs.Heard.{all-taken, taken-behind, heard-behind}
-use Rattle.capture.specs.declared.Taken.the-variants as answer
-use Rattle.capture.specs.Pieces.{most, before, behind, takenIn, takenBy, answerTo, leftAfter, sinceAfter}
-use Rattle.capture.specs.Steps.{noOf}
-use Rattle.capture.proofs.Judged.{passed-by, refused-by}
-use Rattle.capture.proofs.Told.{told-passed}
+use Rattle.tally.specs.declared.Taken.the-variants as answer
+use Rattle.tally.specs.Pieces.{most, before, behind, takenIn, takenBy, answerTo, leftAfter, sinceAfter}
+use Rattle.tally.specs.Steps.{noOf}
+use Rattle.tally.proofs.Judged.{passed-by, refused-by}
+use Rattle.tally.proofs.Answers.{told-passed}
 
 -- an answer tells a verdict, and its place
 pub taken-later : (d : ℕ) (v : Verdict) → takenBy (later d v) ≡ behind d (takenBy v)

@@ -1,4 +1,4 @@
--- `capture::by_stream` meets its contract. The invariant: both runs have their first i places filled, and `at` is the place of the
+-- `limits::by_stream` meets its contract. The invariant: both runs have their first i places filled, and `at` is the place of the
 -- next stream. Assumes nothing.
 use mathlib.Core.Path.{_≡_}
 use Prim.Native.Nat.{suc, _-_, _≤_}
@@ -9,10 +9,10 @@ use Rattle.sheet.specs.Whole.{placeOf}
 use Rattle.pnet.specs.Planned.{atPlace}
 use Rattle.pnet.specs.Arrays.{segmentIn}
 use Rattle.pnet.proofs.Bytes.{Here, here}
-use Rattle.capture.specs.Compared.{masterOf, boundOf}
-use Rattle.capture.proofs.Bounded.{Placed, placed}
-use Rattle.capture.proofs.by_stream.Statement.{statement}
-use Rattle.capture.proofs.by_stream.Tie as tie
+use Rattle.limits.specs.Bounded.{masterOf, boundOf}
+use Rattle.limits.proofs.Bounded.{Placed, placed}
+use Rattle.limits.proofs.by_stream.Statement.{statement}
+use Rattle.limits.proofs.by_stream.Tie as tie
 
 abbrev Inv-loop : tie.InvT-loop
 Inv-loop s first n each masters₀ bound₀ at₀ i₀ masters bound at i =

@@ -23,9 +23,9 @@ use Rattle.log.specs.Log.{Before, shown}
 use Rattle.log.specs.Records.{size, eventAt, eventsIn, known, metAt, eventChecks, judge, isRefused, records, taken, heard}
 use Rattle.log.proofs.Laws as laws
 use Rattle.log.proofs.Records.{met-whole}
-use Rattle.capture.specs.Pieces.{most, before, takenIn, leftAfter, sinceAfter, answersAfter, largestAfter, aboveAfter}
-use Rattle.capture.specs.Steps.{noOf, spot, leftWith, sinceWith, answersWith, shownBy, largestWith, aboveWith}
-use Rattle.capture.proofs.Judged.{Whole, passed-by, refused-by, whole-if}
+use Rattle.tally.specs.Pieces.{most, before, takenIn, leftAfter, sinceAfter, answersAfter, largestAfter, aboveAfter}
+use Rattle.tally.specs.Steps.{noOf, spot, leftWith, sinceWith, answersWith, shownBy, largestWith, aboveWith}
+use Rattle.tally.proofs.Judged.{Whole, passed-by, refused-by, whole-if}
 
 -- ---- Runs of 800 places
 

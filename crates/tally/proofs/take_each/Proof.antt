@@ -1,4 +1,4 @@
--- `capture::take_each` meets its contract. The invariant: the records before the place are taken, and none of them is refused.
+-- `tally::take_each` meets its contract. The invariant: the records before the place are taken, and none of them is refused.
 -- Assumes nothing.
 use Prim.Native.Nat.{_-_, _≤_, min}
 use mathlib.Core.Path.{_≡_, refl, sym, _∙_}
@@ -7,11 +7,11 @@ use borrow.Author.Needs.{needs}
 use denote.Ref.{now}
 use lib.ListN.{length}
 use Rattle.log.specs.Records.{judge}
-use Rattle.capture.specs.Pieces.{most, before, answerTo}
-use Rattle.capture.specs.Steps.{noOf}
-use Rattle.capture.proofs.Hearing.{kept, Hearing, hearing-none, number-is, next-is, next-read, hearing-next, hearing-refused, hearing-all, hearing-kept}
-use Rattle.capture.proofs.take_each.Statement.{statement}
-use Rattle.capture.proofs.take_each.Tie as tie
+use Rattle.tally.specs.Pieces.{most, before, answerTo}
+use Rattle.tally.specs.Steps.{noOf}
+use Rattle.tally.proofs.Hearing.{kept, Hearing, hearing-none, number-is, next-is, next-read, hearing-next, hearing-refused, hearing-all, hearing-kept}
+use Rattle.tally.proofs.take_each.Statement.{statement}
+use Rattle.tally.proofs.take_each.Tie as tie
 
 abbrev Inv-loop : tie.InvT-loop
 Inv-loop piece streams bound left₀ since₀ answers₀ largest₀ above₀ at₀ left since answers largest above at =

@@ -1,4 +1,4 @@
--- `capture::refusal` meets its contract, a law of `Judged` for each answer. Assumes nothing.
+-- `tally::refusal` meets its contract, a law of `Judged` for each answer. Assumes nothing.
 use Prim.Native.Nat.{_≤_, min}
 use mathlib.Core.Path.{_≡_, sym, ap, subst, _∙_}
 use native.Mathlib.Omega.{arith}
@@ -9,11 +9,11 @@ use lib.ListN.{getD}
 use Rattle.format.proofs.Ranges.{within-range}
 use Rattle.log.specs.declared.Event.{Event}
 use Rattle.log.specs.Records.{eventAt}
-use Rattle.capture.specs.Pieces.{most}
-use Rattle.capture.specs.Steps.{openNo, spot}
-use Rattle.capture.proofs.Judged.{judged-unknown, judged-cut, judged-absent, judged-open, event-read}
-use Rattle.capture.proofs.refusal.Statement.{statement}
-use Rattle.capture.proofs.refusal.Tie as tie
+use Rattle.tally.specs.Pieces.{most}
+use Rattle.tally.specs.Steps.{openNo, spot}
+use Rattle.tally.proofs.Judged.{judged-unknown, judged-cut, judged-absent, judged-open, event-read}
+use Rattle.tally.proofs.refusal.Statement.{statement}
+use Rattle.tally.proofs.refusal.Tie as tie
 
 shared-slice-read-known : tie.Need-shared-slice-read-known
 shared-slice-read-known c = search needs

@@ -1,8 +1,8 @@
--- `capture::exceeds` meets its contract. Assumes nothing.
+-- `tally::exceeds` meets its contract. Assumes nothing.
 use mathlib.Core.Path.{refl}
 use borrow.Author.Tests.{lt-ltb, le-ltb}
-use Rattle.capture.proofs.exceeds.Statement.{statement}
-use Rattle.capture.proofs.exceeds.Tie as tie
+use Rattle.tally.proofs.exceeds.Statement.{statement}
+use Rattle.tally.proofs.exceeds.Tie as tie
 
 returns : tie.Need-returns
 returns c = rw (lt-ltb _ _ (c .if1 .taken)) refl

@@ -16,7 +16,7 @@ use Rattle.log.specs.declared.Event.{Event}
 use Rattle.log.specs.Log.{Before, left}
 use Rattle.log.specs.Records.{size, eventAt, eventsIn, known, metAt, eventChecks, judge}
 use Rattle.log.proofs.Records.{met-whole}
-use Rattle.capture.specs.Steps.{noOf, openNo}
+use Rattle.tally.specs.Steps.{noOf, openNo}
 
 -- the record at a place of the capture c, for n streams, w requests of its stream being open
 module _ (c : List ℕ) (at n w : ℕ) where

@@ -1,8 +1,8 @@
--- `capture::open_no` meets its contract. Assumes nothing.
+-- `tally::open_no` meets its contract. Assumes nothing.
 use mathlib.Core.Path.{refl}
-use Rattle.capture.specs.Steps.{openNo}
-use Rattle.capture.proofs.open_no.Statement.{statement}
-use Rattle.capture.proofs.open_no.Tie as tie
+use Rattle.tally.specs.Steps.{openNo}
+use Rattle.tally.proofs.open_no.Statement.{statement}
+use Rattle.tally.proofs.open_no.Tie as tie
 
 returns : tie.Need-returns
 unfolding openNo

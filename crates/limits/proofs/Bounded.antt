@@ -27,7 +27,7 @@ use Rattle.pnet.specs.declared.answer.Plan.{Plan}
 use Rattle.pnet.specs.declared.answer.Plan.the-variants as answer
 use Rattle.pnet.specs.Arrays.{segmentIn}
 use Rattle.pnet.proofs.Bytes.{Here, declares, number-is}
-use Rattle.capture.specs.Compared.{boundedBy, bounded, boundOf, masterOf, streamRun}
+use Rattle.limits.specs.Bounded.{boundedBy, bounded, boundOf, masterOf, streamRun}
 
 -- ---- What is refused
 

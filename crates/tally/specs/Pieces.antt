@@ -12,8 +12,8 @@ use Rattle.log.specs.Log as Log
 use Rattle.log.specs.Log.{Before}
 use Rattle.log.specs.Records.{eventsIn, heard}
 use Rattle.log.specs.Records as Records
-use Rattle.capture.specs.declared.Taken.{Taken}
-use Rattle.capture.specs.declared.Taken.the-variants as answer
+use Rattle.tally.specs.declared.Taken.{Taken}
+use Rattle.tally.specs.declared.Taken.the-variants as answer
 
 -- no sheet has more streams
 abbrev pub most : ℕ
