@@ -349,9 +349,7 @@ fn put_digit(bytes: &mut [u8; 512], n: usize, v: u8)
 }
 
 // The bytes that a part of a line says, at the front, and how many. Other bytes than digits are passed over.
-fn put_part(bytes: &mut [u8; 512], part: &[u8]) -> usize
-    ensures { λ r. ⌜ r ≤ 512 ⌝ }
-{
+fn put_part(bytes: &mut [u8; 512], part: &[u8]) -> usize {
     let mut n: usize = 0;
     let mut i: usize = 0;
     while i < part.len() {
@@ -364,7 +362,7 @@ fn put_part(bytes: &mut [u8; 512], part: &[u8]) -> usize
         }
         i += 1;
     }
-    shorter(512, n / 2)
+    n / 2
 }
 
 // The place of a mark from a place on, or the line's end.
@@ -396,6 +394,27 @@ fn places(b: u8) -> usize
     b as usize
 }
 
+// A case at the fronts of two buffers.
+fn try_fronts(s: &[u8], n: usize, c: &[u8], m: usize, a: usize, b: usize, d: usize, e: usize)
+    requires { ⌜ (a ≤ 255) × (b ≤ 255) × (d ≤ 255) × (e ≤ 255) ⌝ }
+{
+    if s.len() < n {
+        return;
+    }
+    if c.len() < m {
+        return;
+    }
+    try_case(&s[..n], &c[..m], a, b, d, e);
+}
+
+fn try_bytes(s: &[u8; 512], n: usize, c: &[u8; 512], m: usize, r: &[u8; 512]) {
+    let a = places(r[0]);
+    let b = places(r[1]);
+    let d = places(r[2]);
+    let e = places(r[3]);
+    try_fronts(s, n, c, m, a, b, d, e);
+}
+
 fn try_parts(sheet: &[u8], seen: &[u8], lengths: &[u8]) {
     let mut s = [0u8; 512];
     let mut c = [0u8; 512];
@@ -403,11 +422,7 @@ fn try_parts(sheet: &[u8], seen: &[u8], lengths: &[u8]) {
     let n = put_part(&mut s, sheet);
     let m = put_part(&mut c, seen);
     put_part(&mut r, lengths);
-    let a = places(r[0]);
-    let b = places(r[1]);
-    let d = places(r[2]);
-    let e = places(r[3]);
-    try_case(&s[..n], &c[..m], a, b, d, e);
+    try_bytes(&s, n, &c, m, &r);
 }
 
 fn try_line(line: &[u8]) {
@@ -579,14 +594,12 @@ fn put_capture(
     z: u32,
     early: u32,
     c: &mut [u8; 11200],
-) -> usize
-    ensures { λ r. ⌜ r ≤ 11200 ⌝ }
-{
+) -> usize {
     let n = streams_of(bus);
     let mut done = [0u64; 800];
     complete(bus.masters, owner, cycle, n, k, &mut done);
     let at = put_requests(c, n, std::num::wrapping_sub_u32(z, early));
-    shorter(11200, put_answers(c, at, n, z, &done))
+    put_answers(c, at, n, z, &done)
 }
 
 fn total(run: &[u64; 800], n: usize) -> u64 {
@@ -675,6 +688,20 @@ fn last_of(owner: &[u8; 800], n: usize, k: u8) -> usize {
     last
 }
 
+fn reach_fronts(s: &[u8], n: usize, c: &[u8], m: usize, last: usize) {
+    if s.len() < n {
+        return;
+    }
+    if c.len() < m {
+        return;
+    }
+    reach(&s[..n], &c[..m], last);
+}
+
+fn reach_bytes(s: &[u8; 9602], n: usize, c: &[u8; 11200], m: usize, last: usize) {
+    reach_fronts(s, n, c, m, last);
+}
+
 fn run(bus: Bus, k: u8, z: u32, early: u32) {
     let mut bytes = [0u8; 9602];
     let mut owner = [0u8; 800];
@@ -682,13 +709,13 @@ fn run(bus: Bus, k: u8, z: u32, early: u32) {
     put_bus(bus, &mut bytes, &mut owner, &mut cycle);
     let mut c = [0u8; 11200];
     let m = put_capture(bus, &owner, &cycle, k, z, early, &mut c);
-    let end = 2 + 12 * streams_of(bus);
     say_with(b"M", (k / 10) as u64);
     say_number((k % 10) as u64);
     say_with(b" asks ", early as u64);
     say_with(b" bp early, counter from ", z as u64);
     say(b":");
-    reach(&bytes[..end], &c[..m], last_of(&owner, streams_of(bus), k));
+    let n = streams_of(bus);
+    reach_bytes(&bytes, 2 + 12 * n, &c, m, last_of(&owner, n, k));
 }
 
 // Each master in its turn is the one that the token has just left.

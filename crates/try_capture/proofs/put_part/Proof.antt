@@ -6,7 +6,6 @@ use Rattle.try_capture.proofs.put_part.Statement.{statement}
 use Rattle.try_capture.proofs.put_part.Tie as tie
 use Rattle.try_capture.proofs.digit.Reads as digit-reads
 use Rattle.try_capture.proofs.put_digit.Reads as put-digit-reads
-use Rattle.try_capture.proofs.shorter.Reads as shorter-reads
 
 abbrev Inv-loop : tie.InvT-loop
 Inv-loop bytes₀ part n₀ i₀ bytes n i = i ≤ length part
@@ -38,9 +37,6 @@ loop-less c = search needs
 loop-again : tie.Need-loop-again Inv-loop μ-loop
 loop-again c = search needs
 
-shorter-requires : tie.Need-shorter-requires Inv-loop μ-loop
-shorter-requires c κs = search needs
-
 returns : tie.Need-returns Inv-loop μ-loop
 returns c = search needs
 
@@ -58,5 +54,4 @@ put-part-spec =
     add-i
     loop-less
     loop-again
-    shorter-requires
     returns)

@@ -18,7 +18,7 @@ say-requires : tie.Need-say-requires Inv-loop μ-loop
 say-requires c κs = search needs
 
 slice-aggregate-say : tie.Need-slice-aggregate-say Inv-loop μ-loop
-slice-aggregate-say c = simp length-take (omega arith)
+slice-aggregate-say c = search needs
 
 say-requires-2 : tie.Need-say-requires-2 Inv-loop μ-loop
 say-requires-2 c κs = search needs

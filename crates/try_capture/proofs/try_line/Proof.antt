@@ -2,7 +2,6 @@
 use borrow.Author.Needs.{needs}
 use native.Mathlib.Omega.{arith}
 use lib.ListN.{length-take}
-use borrow.Author.Needs.{needs}
 use Rattle.try_capture.proofs.try_line.Statement.{statement}
 use Rattle.try_capture.proofs.try_line.Tie as tie
 use Rattle.try_capture.proofs.find.Reads as find-reads
