@@ -33,7 +33,7 @@ fn say_either(first: bool, a: &[u8], b: &[u8]) {
 }
 
 fn say_stream(answers: u64, largest: u32, above: u64, left: u8) {
-    say_with(b": answers ", answers);
+    say_with(b" answers ", answers);
     say_with(b" largest ", largest as u64);
     say_with(b" bp above ", above);
     say_with(b" open ", left as u64);
@@ -49,6 +49,7 @@ fn say_streams(
 ) {
     let mut i: usize = 0;
     while i < n {
+        say_either(i == 0, b":", b",");
         if i < 800 {
             say_stream(answers[i], largest[i], above[i], left[i]);
         }
@@ -337,8 +338,8 @@ fn digit(b: u8) -> u8 {
 }
 
 // Digit n of a run of bytes: the high one of a byte, or the low one.
-fn put_digit(bytes: &mut [u8; 512], n: usize, v: u8)
-    requires { ⌜ (n < 1024) × (v < 16) ⌝ }
+fn put_digit(bytes: &mut [u8; 1024], n: usize, v: u8)
+    requires { ⌜ (n < 2048) × (v < 16) ⌝ }
 {
     let k = n / 2;
     if n % 2 == 0 {
@@ -349,13 +350,13 @@ fn put_digit(bytes: &mut [u8; 512], n: usize, v: u8)
 }
 
 // The bytes that a part of a line says, at the front, and how many. Other bytes than digits are passed over.
-fn put_part(bytes: &mut [u8; 512], part: &[u8]) -> usize {
+fn put_part(bytes: &mut [u8; 1024], part: &[u8]) -> usize {
     let mut n: usize = 0;
     let mut i: usize = 0;
     while i < part.len() {
         let v = digit(part[i]);
         if v < 16 {
-            if n < 1024 {
+            if n < 2048 {
                 put_digit(bytes, n, v);
                 n += 1;
             }
@@ -407,7 +408,7 @@ fn try_fronts(s: &[u8], n: usize, c: &[u8], m: usize, a: usize, b: usize, d: usi
     try_case(&s[..n], &c[..m], a, b, d, e);
 }
 
-fn try_bytes(s: &[u8; 512], n: usize, c: &[u8; 512], m: usize, r: &[u8; 512]) {
+fn try_bytes(s: &[u8; 1024], n: usize, c: &[u8; 1024], m: usize, r: &[u8; 1024]) {
     let a = places(r[0]);
     let b = places(r[1]);
     let d = places(r[2]);
@@ -416,9 +417,9 @@ fn try_bytes(s: &[u8; 512], n: usize, c: &[u8; 512], m: usize, r: &[u8; 512]) {
 }
 
 fn try_parts(sheet: &[u8], seen: &[u8], lengths: &[u8]) {
-    let mut s = [0u8; 512];
-    let mut c = [0u8; 512];
-    let mut r = [6u8; 512];
+    let mut s = [0u8; 1024];
+    let mut c = [0u8; 1024];
+    let mut r = [6u8; 1024];
     let n = put_part(&mut s, sheet);
     let m = put_part(&mut c, seen);
     put_part(&mut r, lengths);

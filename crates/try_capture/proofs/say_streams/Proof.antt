@@ -1,18 +1,30 @@
 -- `try_capture::say_streams` is safe and ends. Assumes nothing.
 use Prim.Native.Nat.{_-_}
 use borrow.Author.Needs.{needs}
+use native.Mathlib.Omega.{arith}
+use lib.ListN.{length-take}
 use Rattle.try_capture.proofs.say_streams.Statement.{statement}
 use Rattle.try_capture.proofs.say_streams.Tie as tie
+use Rattle.try_capture.proofs.say_either.Reads as say-either-reads
 use Rattle.try_capture.proofs.say_stream.Reads as say-stream-reads
 
 abbrev Inv-loop : tie.InvT-loop
-Inv-loop n answers largest above left i₀ i = Unit {0}
+Inv-loop n answers largest above left i₀ t7 t8 i = Unit {0}
 
 abbrev μ-loop : tie.MeasureT-loop
-μ-loop n answers largest above left i₀ i = n - i
+μ-loop n answers largest above left i₀ t7 t8 i = n - i
 
 loop-holds : tie.Need-loop-holds Inv-loop μ-loop
 loop-holds c = tt
+
+slice-aggregate-say-either : tie.Need-slice-aggregate-say-either Inv-loop μ-loop
+slice-aggregate-say-either c = search needs
+
+slice-aggregate-say-either-2 : tie.Need-slice-aggregate-say-either-2 Inv-loop μ-loop
+slice-aggregate-say-either-2 c = search needs
+
+say-either-requires : tie.Need-say-either-requires Inv-loop μ-loop
+say-either-requires c κs = search needs
 
 mul-say-stream : tie.Need-mul-say-stream Inv-loop μ-loop
 mul-say-stream c = search needs
@@ -57,6 +69,9 @@ say-streams-spec =
     Inv-loop
     μ-loop
     loop-holds
+    slice-aggregate-say-either
+    slice-aggregate-say-either-2
+    say-either-requires
     mul-say-stream
     element-copy-out-say-stream
     mul-say-stream-2
