@@ -5,7 +5,6 @@ use lib.ListN.{length-take}
 use borrow.Author.Needs.{needs}
 use Rattle.try_capture.proofs.complete.Statement.{statement}
 use Rattle.try_capture.proofs.complete.Tie as tie
-use Rattle.simulate.proofs.simulate.Reads as simulate-reads
 
 returns : tie.Need-returns
 returns c = search needs

@@ -3,10 +3,6 @@ use Prim.Native.Nat.{_≤_, _-_}
 use borrow.Author.Needs.{needs}
 use Rattle.try_capture.proofs.put_answers.Statement.{statement}
 use Rattle.try_capture.proofs.put_answers.Tie as tie
-use Rattle.std.proofs.num.wrapping_add_u32.Reads as wrapping-add-u32-reads
-use Rattle.try_capture.proofs.low.Reads as low-reads
-use Rattle.try_capture.proofs.next_done.Reads as next-done-reads
-use Rattle.try_capture.proofs.put_event.Reads as put-event-reads
 
 abbrev Inv-loop : tie.InvT-loop
 Inv-loop c₀ from n z done at₀ last₀ i₀ c at last i = i ≤ n

@@ -3,9 +3,6 @@ use Prim.Native.Nat.{_≤_, _-_}
 use borrow.Author.Needs.{needs}
 use Rattle.try_capture.proofs.put_bus.Statement.{statement}
 use Rattle.try_capture.proofs.put_bus.Tie as tie
-use Rattle.format.proofs.put_record.Reads as put-record-reads
-use Rattle.std.proofs.num.wrapping_add_u8.Reads as wrapping-add-u8-reads
-use Rattle.try_capture.proofs.record_of.Reads as record-of-reads
 
 abbrev Inv-loop : tie.InvT-loop
 Inv-loop bus bytes₀ owner₀ cycle₀ master₀ own₀ p₀ bytes owner cycle master own p = p ≤ 800

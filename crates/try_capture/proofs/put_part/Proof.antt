@@ -4,8 +4,6 @@ use lib.ListN.{length}
 use borrow.Author.Needs.{needs}
 use Rattle.try_capture.proofs.put_part.Statement.{statement}
 use Rattle.try_capture.proofs.put_part.Tie as tie
-use Rattle.try_capture.proofs.digit.Reads as digit-reads
-use Rattle.try_capture.proofs.put_digit.Reads as put-digit-reads
 
 abbrev Inv-loop : tie.InvT-loop
 Inv-loop bytes₀ part n₀ i₀ bytes n i = i ≤ length part

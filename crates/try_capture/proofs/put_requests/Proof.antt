@@ -3,7 +3,6 @@ use Prim.Native.Nat.{_≤_, _-_}
 use borrow.Author.Needs.{needs}
 use Rattle.try_capture.proofs.put_requests.Statement.{statement}
 use Rattle.try_capture.proofs.put_requests.Tie as tie
-use Rattle.try_capture.proofs.put_event.Reads as put-event-reads
 
 abbrev Inv-loop : tie.InvT-loop
 Inv-loop c₀ n stamp at₀ i₀ c at i = i ≤ n

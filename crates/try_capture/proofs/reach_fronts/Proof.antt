@@ -4,7 +4,6 @@ use native.Mathlib.Omega.{arith}
 use lib.ListN.{length-take}
 use Rattle.try_capture.proofs.reach_fronts.Statement.{statement}
 use Rattle.try_capture.proofs.reach_fronts.Tie as tie
-use Rattle.try_capture.proofs.reach.Reads as reach-reads
 
 returns : tie.Need-returns
 returns c = search needs

@@ -1,12 +1,8 @@
 -- `try_capture::runs` is safe and ends. Assumes nothing.
 use Prim.Native.Nat.{_-_}
 use borrow.Author.Needs.{needs}
-use native.Mathlib.Omega.{arith}
-use lib.ListN.{length-take}
 use Rattle.try_capture.proofs.runs.Statement.{statement}
 use Rattle.try_capture.proofs.runs.Tie as tie
-use Rattle.try_capture.proofs.run.Reads as run-reads
-use Rattle.try_capture.proofs.say.Reads as say-reads
 
 abbrev Inv-loop : tie.InvT-loop
 Inv-loop name bus k₀ k = Unit {0}

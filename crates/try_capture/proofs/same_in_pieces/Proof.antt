@@ -3,7 +3,6 @@ use Prim.Native.Nat.{_≤_, _-_}
 use borrow.Author.Needs.{needs}
 use Rattle.try_capture.proofs.same_in_pieces.Statement.{statement}
 use Rattle.try_capture.proofs.same_in_pieces.Tie as tie
-use Rattle.try_capture.proofs.same_by.Reads as same-by-reads
 
 abbrev Inv-loop : tie.InvT-loop
 Inv-loop s c room most told answers largest above left records₀ records = records ≤ most

@@ -1,12 +1,8 @@
 -- `try_capture::say_streams` is safe and ends. Assumes nothing.
 use Prim.Native.Nat.{_-_}
 use borrow.Author.Needs.{needs}
-use native.Mathlib.Omega.{arith}
-use lib.ListN.{length-take}
 use Rattle.try_capture.proofs.say_streams.Statement.{statement}
 use Rattle.try_capture.proofs.say_streams.Tie as tie
-use Rattle.try_capture.proofs.say_either.Reads as say-either-reads
-use Rattle.try_capture.proofs.say_stream.Reads as say-stream-reads
 
 abbrev Inv-loop : tie.InvT-loop
 Inv-loop n answers largest above left i₀ t7 t8 i = Unit {0}

@@ -4,9 +4,6 @@ use lib.ListN.{length}
 use borrow.Author.Needs.{needs}
 use Rattle.try_capture.proofs.take_by.Statement.{statement}
 use Rattle.try_capture.proofs.take_by.Tie as tie
-use Rattle.capture.proofs.take.Reads as take-reads
-use Rattle.try_capture.proofs.behind.Reads as behind-reads
-use Rattle.try_capture.proofs.end_of.Reads as end-of-reads
 
 abbrev Inv-loop : tie.InvT-loop
 Inv-loop c size streams bound left₀ since₀ answers₀ largest₀ above₀ at₀ left since answers largest above at = at ≤ length c

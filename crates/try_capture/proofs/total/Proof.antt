@@ -3,7 +3,6 @@ use Prim.Native.Nat.{_-_}
 use borrow.Author.Needs.{needs}
 use Rattle.try_capture.proofs.total.Statement.{statement}
 use Rattle.try_capture.proofs.total.Tie as tie
-use Rattle.std.proofs.num.wrapping_add_u64.Reads as wrapping-add-u64-reads
 
 abbrev Inv-loop : tie.InvT-loop
 Inv-loop run n sum₀ i₀ sum i = Unit {0}

@@ -3,8 +3,6 @@ use Prim.Native.Nat.{_-_}
 use borrow.Author.Needs.{needs}
 use Rattle.try_capture.proofs.total_open.Statement.{statement}
 use Rattle.try_capture.proofs.total_open.Tie as tie
-use Rattle.std.proofs.num.wrapping_add_u64.Reads as wrapping-add-u64-reads
-use Rattle.try_capture.proofs.counted.Reads as counted-reads
 
 abbrev Inv-loop : tie.InvT-loop
 Inv-loop run n sum₀ i₀ sum i = Unit {0}

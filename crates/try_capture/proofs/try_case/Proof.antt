@@ -5,12 +5,6 @@ use lib.ListN.{length-take}
 use borrow.Author.Needs.{needs}
 use Rattle.try_capture.proofs.try_case.Statement.{statement}
 use Rattle.try_capture.proofs.try_case.Tie as tie
-use Rattle.capture.proofs.compare.Reads as compare-reads
-use Rattle.try_capture.proofs.flat.Reads as flat-reads
-use Rattle.try_capture.proofs.same_in_pieces.Reads as same-in-pieces-reads
-use Rattle.try_capture.proofs.say_answer.Reads as say-answer-reads
-use Rattle.try_capture.proofs.say_either.Reads as say-either-reads
-use Rattle.try_capture.proofs.shorter.Reads as shorter-reads
 
 array-borrow-prefix-answers : tie.Need-array-borrow-prefix-answers
 array-borrow-prefix-answers c = search needs

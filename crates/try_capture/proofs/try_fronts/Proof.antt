@@ -4,7 +4,6 @@ use native.Mathlib.Omega.{arith}
 use lib.ListN.{length-take}
 use Rattle.try_capture.proofs.try_fronts.Statement.{statement}
 use Rattle.try_capture.proofs.try_fronts.Tie as tie
-use Rattle.try_capture.proofs.try_case.Reads as try-case-reads
 
 returns : tie.Need-returns
 returns c = search needs

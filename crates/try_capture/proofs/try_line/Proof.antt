@@ -4,10 +4,6 @@ use native.Mathlib.Omega.{arith}
 use lib.ListN.{length-take}
 use Rattle.try_capture.proofs.try_line.Statement.{statement}
 use Rattle.try_capture.proofs.try_line.Tie as tie
-use Rattle.try_capture.proofs.find.Reads as find-reads
-use Rattle.try_capture.proofs.is_title.Reads as is-title-reads
-use Rattle.try_capture.proofs.say.Reads as say-reads
-use Rattle.try_capture.proofs.try_parts.Reads as try-parts-reads
 
 is-title-requires : tie.Need-is-title-requires
 is-title-requires c κs = search needs

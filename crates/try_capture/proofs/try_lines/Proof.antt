@@ -6,7 +6,6 @@ use native.Mathlib.Omega.{arith}
 use borrow.Author.Needs.{needs}
 use Rattle.try_capture.proofs.try_lines.Statement.{statement}
 use Rattle.try_capture.proofs.try_lines.Tie as tie
-use Rattle.try_capture.proofs.try_line.Reads as try-line-reads
 
 abbrev Inv-loop : tie.InvT-loop
 Inv-loop text start₀ i₀ start i = (start ≤ i) × (i ≤ length text)
