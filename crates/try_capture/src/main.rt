@@ -1,11 +1,11 @@
 // Lays captures beside sheets, page 02 'Ask 1'. A line of standard input is a case: a label, a colon, the sheet, a bar and the capture,
 // both in hexadecimal digits, and where the lent runs do not have 6 places each, a semicolon and their four lengths. Every place of
 // a run holds 170 before. Then captures of a simulated run of the bus, at its slowest, that reaches the bound.
-use capture::Taken;
 use format::Record;
 use libc::STDIN_FILENO;
 use libc::STDOUT_FILENO;
 use pnet::Plan;
+use tally::Taken;
 ghost use Prim.Native.Nat.{_≤_, _<_};
 ghost use lib.ListN.{length};
 
@@ -144,7 +144,7 @@ fn take_by(
     let mut at: usize = 0;
     while at < c.len() {
         let end = end_of(c.len(), at, size);
-        let taken = capture::take(
+        let taken = tally::take(
             &c[at..end],
             streams,
             bound,
@@ -178,7 +178,7 @@ fn by_pieces(
     let mut masters = [0u8; 800];
     let mut bound = [0u32; 800];
     let mut since = [0u32; 800];
-    let sheet = flat(capture::bounds(s, room, &mut masters, &mut bound));
+    let sheet = flat(limits::bounds(s, room, &mut masters, &mut bound));
     if sheet.no != 0 {
         return sheet;
     }
@@ -654,7 +654,7 @@ fn say_reached(
 fn reach(s: &[u8], c: &[u8], last: usize) {
     let mut masters = [0u8; 800];
     let mut bound = [0u32; 800];
-    capture::bounds(s, 800, &mut masters, &mut bound);
+    limits::bounds(s, 800, &mut masters, &mut bound);
     let mut answers = [170u64; 800];
     let mut largest = [170u32; 800];
     let mut above = [170u64; 800];
