@@ -1,0 +1,50 @@
+-- `try_capture::simulated::total` is safe and ends. Assumes nothing.
+use Prim.Native.Nat.{_-_}
+use borrow.Author.Needs.{needs}
+use Rattle.try_capture.proofs.simulated.total.Statement.{statement}
+use Rattle.try_capture.proofs.simulated.total.Tie as tie
+
+abbrev Inv-loop : tie.InvT-loop
+Inv-loop run n sum₀ i₀ sum i = Unit {0}
+
+abbrev μ-loop : tie.MeasureT-loop
+μ-loop run n sum₀ i₀ sum i = 800 - i
+
+loop-holds : tie.Need-loop-holds Inv-loop μ-loop
+loop-holds c = tt
+
+mul-wrapping-add-u64 : tie.Need-mul-wrapping-add-u64 Inv-loop μ-loop
+mul-wrapping-add-u64 c = search needs
+
+element-copy-out-wrapping-add-u64 : tie.Need-element-copy-out-wrapping-add-u64 Inv-loop μ-loop
+element-copy-out-wrapping-add-u64 c = search needs
+
+wrapping-add-u64-requires : tie.Need-wrapping-add-u64-requires Inv-loop μ-loop
+wrapping-add-u64-requires c κs = search needs
+
+add-i : tie.Need-add-i Inv-loop μ-loop
+add-i c = search needs
+
+loop-less : tie.Need-loop-less Inv-loop μ-loop
+loop-less c = search needs
+
+loop-again : tie.Need-loop-again Inv-loop μ-loop
+loop-again c = tt
+
+returns : tie.Need-returns Inv-loop μ-loop
+returns c = search needs
+
+pub total-spec : {M : Type 1} → statement M
+total-spec =
+    tie.close
+    (tie.spec
+    Inv-loop
+    μ-loop
+    loop-holds
+    mul-wrapping-add-u64
+    element-copy-out-wrapping-add-u64
+    wrapping-add-u64-requires
+    add-i
+    loop-less
+    loop-again
+    returns)
