@@ -32,7 +32,7 @@ sets-after (a ∷ p) l at i v h =
     ap (λ (x : List ℕ). sets x (suc at) p) (set-comm l i at v a (λ e. omega arith)) ∙ sets-after p (set l at a) (suc at) i v h'
 
 -- what lies past the run's end is left out
-sets-out : (q l : List ℕ) (at : ℕ) → length l ≤ at → sets l at q ≡ l
+pub sets-out : (q l : List ℕ) (at : ℕ) → length l ≤ at → sets l at q ≡ l
 sets-out [] l at h = refl
 sets-out (a ∷ q) l at h = let e : set l at a ≡ l = set-out l at a h in rw e (sets-out q l (suc at) (omega arith))
 

@@ -8,7 +8,7 @@ use crate::words::say;
 use crate::words::say_either;
 use crate::words::say_streams;
 use crate::words::say_with;
-ghost use Prim.Native.Nat.{_≤_, _<_};
+ghost use Prim.Native.Nat.{_≤_};
 ghost use lib.ListN.{length};
 
 fn say_answer(
@@ -51,44 +51,6 @@ fn try_case(s: &[u8], c: &[u8], a: usize, b: usize, d: usize, e: usize)
     let room = shorter(shorter(a, b), shorter(d, e));
     let same = same_in_pieces(s, c, room, 80, told, &answers, &largest, &above, &left);
     say_either(same, b"; same in pieces\n", b"; DIFFERS\n");
-}
-
-// The value of a hexadecimal digit, and 16 for any other byte.
-fn digit(b: u8) -> u8 {
-    match b {
-        48..=57 => b - 48,
-        97..=102 => b - 87,
-        _ => 16,
-    }
-}
-
-// Digit n of a run of bytes: the high one of a byte, or the low one.
-fn put_digit(bytes: &mut [u8; 1024], n: usize, v: u8)
-    requires { ⌜ (n < 2048) × (v < 16) ⌝ }
-{
-    let k = n / 2;
-    if n % 2 == 0 {
-        bytes[k] = v * 16;
-    } else {
-        bytes[k] = bytes[k] | v;
-    }
-}
-
-// The bytes that a part of a line says, at the front, and how many. Other bytes than digits are passed over.
-fn put_part(bytes: &mut [u8; 1024], part: &[u8]) -> usize {
-    let mut n: usize = 0;
-    let mut i: usize = 0;
-    while i < part.len() {
-        let v = digit(part[i]);
-        if v < 16 {
-            if n < 2048 {
-                put_digit(bytes, n, v);
-                n += 1;
-            }
-        }
-        i += 1;
-    }
-    n / 2
 }
 
 // The place of a mark from a place on, or the line's end.
@@ -145,9 +107,9 @@ fn try_parts(sheet: &[u8], seen: &[u8], lengths: &[u8]) {
     let mut s = [0u8; 1024];
     let mut c = [0u8; 1024];
     let mut r = [6u8; 1024];
-    let n = put_part(&mut s, sheet);
-    let m = put_part(&mut c, seen);
-    put_part(&mut r, lengths);
+    let n = hex::put_bytes(&mut s, sheet);
+    let m = hex::put_bytes(&mut c, seen);
+    hex::put_bytes(&mut r, lengths);
     try_bytes(&s, n, &c, m, &r);
 }
 

@@ -5,7 +5,6 @@ use format::Record;
 use libc::STDIN_FILENO;
 use libc::STDOUT_FILENO;
 use sheet::Reading;
-ghost use Prim.Native.Nat.{_<_};
 
 fn say(text: &[u8]) {
     io::write_all(STDOUT_FILENO, text);
@@ -55,44 +54,6 @@ fn say_sheet(sheet: &[u8; 64], n: usize) {
     say_front(sheet, n);
 }
 
-// The value of a hexadecimal digit, and 16 for any other byte.
-fn digit(b: u8) -> u8 {
-    match b {
-        48..=57 => b - 48,
-        97..=102 => b - 87,
-        _ => 16,
-    }
-}
-
-// Digit n of a sheet: the high one of a byte, or the low one.
-fn put_digit(sheet: &mut [u8; 64], n: usize, v: u8)
-    requires { ⌜ (n < 128) × (v < 16) ⌝ }
-{
-    let k = n / 2;
-    if n % 2 == 0 {
-        sheet[k] = v * 16;
-    } else {
-        sheet[k] = sheet[k] | v;
-    }
-}
-
-// The bytes that a line says, at the front of a sheet. Other bytes than digits are passed over.
-fn put_line(sheet: &mut [u8; 64], line: &[u8]) -> usize {
-    let mut n: usize = 0;
-    let mut i: usize = 0;
-    while i < line.len() {
-        let v = digit(line[i]);
-        if v < 16 {
-            if n < 128 {
-                put_digit(sheet, n, v);
-                n += 1;
-            }
-        }
-        i += 1;
-    }
-    n / 2
-}
-
 // A line that begins with # is a title.
 fn is_title(line: &[u8]) -> bool {
     if line.len() == 0 {
@@ -108,7 +69,7 @@ fn try_line(line: &[u8]) {
         return;
     }
     let mut sheet = [0u8; 64];
-    let n = put_line(&mut sheet, line);
+    let n = hex::put_bytes(&mut sheet, line);
     say_sheet(&sheet, n);
 }
 
