@@ -1,5 +1,5 @@
 -- Page 01, 'P-NET bounds', the refined figure: what W and its rounds are, for every segment and each of its masters. The first part
--- holds for any charge h(y) of at least 10 and any count a(y) that never falls as W grows; the second puts H and the page's a(y) in.
+-- holds for any charge h(y) of at least 10 and any count a(y) that never falls as W grows; the second puts H and the planner's a(y) in.
 -- Assumes nothing.
 use mathlib.Core.Path.{_≡_, ap}
 use mathlib.Core.Bool.{Bool, true, false}
@@ -9,7 +9,7 @@ use native.Mathlib.Omega.{arith}
 use Rattle.common.specs.Sums.{when, upto, up}
 use Rattle.common.proofs.Sums.{upto-mono, up-rises}
 use Rattle.segment.specs.Segment.{Segment, owns, count, hold, turnBy, boundBy, bound}
-use Rattle.segment.specs.Refined.{rightBy, valueOf, roundsOf, mostRounds, asked, right, rounds, refined}
+use Rattle.segment.specs.Refined.{rightBy, valueOf, roundsOf, mostRounds, askedBy, right, rounds, refined}
 use Rattle.segment.proofs.Sequence.{Settles, Least, value-rises, still-at-once}
 use Rattle.segment.proofs.Right.{rightOf, charge, right-is-charges, right-rises, right-at-most, right-least, right-rounds, right-rounds-at-most, right-value-at-most}
 use Rattle.segment.proofs.Holds.{hold-at-least}
@@ -64,13 +64,13 @@ module _ (h : ℕ → ℕ) (a : ℕ → ℕ → ℕ) (S : Segment) (k : ℕ) whe
       let r : roundsOf (rightBy h a S k) (1 + (S .masters - 1) * count S k) ≡ 0 = still-at-once (rightBy h a S k) v ((S .masters - 1) * count S k) in
       (simp e (zero-mul (upto h (S .masters))), ap (valueOf (rightBy h a S k)) r, r)
 
--- ---- The base
+-- ---- The planner's
 
-asked-rises : (S : Segment) (y v w : ℕ) → v ≤ w → asked S y v ≤ asked S y w
-unfolding asked
-asked-rises S y v w l =
-    upto-mono (λ i. when (owns S y i) (up v (S .stream i .spacing))) (λ i. when (owns S y i) (up w (S .stream i .spacing))) (S .number)
-    (λ i lo hi. split (owns S y i) (up-rises v w (S .stream i .spacing) l))
+pub asked-rises : (h : ℕ → ℕ) (S : Segment) (y v w : ℕ) → v ≤ w → askedBy h S y v ≤ askedBy h S y w
+unfolding askedBy
+asked-rises h S y v w l =
+    upto-mono (λ i. when (owns S y i) (up (v + boundBy h S y) (S .stream i .spacing))) (λ i. when (owns S y i) (up (w + boundBy h S y) (S .stream i .spacing))) (S .number)
+    (λ i lo hi. split (owns S y i) (up-rises (v + boundBy h S y) (w + boundBy h S y) (S .stream i .spacing) (omega arith)))
   where
     split : {x z : ℕ} (b : Bool) → x ≤ z → when b x ≤ when b z
     split true q = q
@@ -81,27 +81,27 @@ module _ (S : Segment) (k : ℕ) where
     -- W = right side
     pub refined-solves : refined S k ≡ right S k (refined S k)
     unfolding refined rounds right
-    refined-solves = least-by (hold S) (asked S) S k (λ y _ _. hold-at-least S y) (asked-rises S) lo hi .solves
+    refined-solves = least-by (hold S) (askedBy (hold S) S) S k (λ y _ _. hold-at-least S y) (asked-rises (hold S) S) lo hi .solves
 
     -- and no smaller number solves it
     pub refined-least : (w : ℕ) → w ≡ right S k w → refined S k ≤ w
     unfolding refined rounds right
-    refined-least = least-by (hold S) (asked S) S k (λ y _ _. hold-at-least S y) (asked-rises S) lo hi .least
+    refined-least = least-by (hold S) (askedBy (hold S) S) S k (λ y _ _. hold-at-least S y) (asked-rises (hold S) S) lo hi .least
 
     pub refined-at-most-bound : refined S k ≤ bound S k
     unfolding refined rounds right bound
-    refined-at-most-bound = at-most-bound-by (hold S) (asked S) S k (λ y _ _. hold-at-least S y) (asked-rises S) lo hi
+    refined-at-most-bound = at-most-bound-by (hold S) (askedBy (hold S) S) S k (λ y _ _. hold-at-least S y) (asked-rises (hold S) S) lo hi
 
     -- the round count is the first m whose m-th value equals the next one
     pub rounds-first : Settles (right S k) (rounds S k)
     unfolding rounds right
-    rounds-first = rounds-first-by (hold S) (asked S) S k (λ y _ _. hold-at-least S y) (asked-rises S) lo hi
+    rounds-first = rounds-first-by (hold S) (askedBy (hold S) S) S k (λ y _ _. hold-at-least S y) (asked-rises (hold S) S) lo hi
 
     pub rounds-at-most : rounds S k ≤ 1 + (S .masters - 1) * count S k
     unfolding rounds right
-    rounds-at-most = rounds-at-most-by (hold S) (asked S) S k (λ y _ _. hold-at-least S y) (asked-rises S) lo hi
+    rounds-at-most = rounds-at-most-by (hold S) (askedBy (hold S) S) S k (λ y _ _. hold-at-least S y) (asked-rises (hold S) S) lo hi
 
   -- a master without streams: all three are 0
   pub silent-zero : count S k ≡ 0 → (bound S k ≡ 0) × (refined S k ≡ 0) × (rounds S k ≡ 0)
   unfolding refined rounds right bound
-  silent-zero = silent-zero-by (hold S) (asked S) S k
+  silent-zero = silent-zero-by (hold S) (askedBy (hold S) S) S k

@@ -1,9 +1,9 @@
--- Page 01, 'P-NET bounds', the refined figure: W and its rounds. Assumes nothing.
+-- Page 01, 'P-NET bounds', the refined figure, with the count of page 02, Ask 2: W and its rounds. Assumes nothing.
 use Prim.Native.Nat.{ℕ, zero, suc, _+_, _-_, _*_, min}
 use mathlib.Core.Bool.{Bool, cond}
 use lib.Dec.{eqb}
 use Rattle.common.specs.Sums.{when, upto, up, firstOf}
-use Rattle.segment.specs.Segment.{Segment, owns, count, hold, turnBy}
+use Rattle.segment.specs.Segment.{Segment, owns, count, hold, turnBy, boundBy}
 
 -- ---- For any charge h(y) and any count a(y) at W
 
@@ -36,17 +36,18 @@ unfoldable pub mostRounds : Segment → ℕ → ℕ
 unfolding count
 mostRounds S k = 1 + (S .masters - 1) * count S k
 
--- ---- The base's count and charge
+-- ---- The planner's count and charge
 
--- a(y): the sum over y's streams of W/T rounded up
-unfoldable pub asked : Segment → ℕ → ℕ → ℕ
-unfolding upto owns up
-asked S y w = upto (λ i. when (owns S y i) (up w (S .stream i .spacing))) (S .number)
+-- a(y): the sum over y's streams of (W + R(y))/T rounded up, R by the charge h. Page 01 has W/T. Page 02, Ask 2, adds R(y), since a
+-- request of y may have waited that long when the window opens; it stands over page 01.
+unfoldable pub askedBy : (ℕ → ℕ) → Segment → ℕ → ℕ → ℕ
+unfolding upto owns up boundBy
+askedBy h S y w = upto (λ i. when (owns S y i) (up (w + boundBy h S y) (S .stream i .spacing))) (S .number)
 
 -- the right side for W of master k
 unfoldable pub right : Segment → ℕ → ℕ → ℕ
-unfolding rightBy hold asked
-right S k w = rightBy (hold S) (asked S) S k w
+unfolding rightBy hold askedBy
+right S k w = rightBy (hold S) (askedBy (hold S) S) S k w
 
 -- the round count, and W, the value reached then
 unfoldable pub rounds : Segment → ℕ → ℕ
