@@ -53,7 +53,7 @@ use Rattle.pnet_run.specs.Run.{
   skip,
 }
 use Rattle.pnet_run.specs.Promise.{Apart, and, Lasts, past, at-it, Answered}
-use Rattle.pnet_run.proofs.Charges.{Covers}
+use Rattle.pnet_run.proofs.Charges.{Covers, free}
 use Rattle.pnet_run.proofs.Queues.{put-same, put-other, Owned, owned-complete, owned-arrive}
 use Rattle.pnet_run.proofs.Ring.{next-in-ring, gap, gap-next, gap-lap, gap-most, gap-least}
 use Rattle.pnet_run.proofs.Waiting.{
@@ -104,7 +104,7 @@ module _ (S : Segment) (h : ℕ → ℕ) (k : ℕ) (1≤k : 1 ≤ k) (k≤n : k 
   next-in : {m : ℕ} → m ≤ S .masters → (1 ≤ next (S .masters) m) × (next (S .masters) m ≤ S .masters)
   next-in {m} l = next-in-ring (S .masters) m (omega arith) l
 
-  module _ (cover : Covers h S) where
+  module _ (cover : Covers h free S) where
     inv-start : {m d : ℕ} → 1 ≤ m → m ≤ S .masters → d ≤ 40 → Inv 0 (toward m d) (λ y. []) [] []
     inv-start a b c = record {
       token = omega arith;
@@ -145,7 +145,7 @@ module _ (S : Segment) (h : ℕ → ℕ) (k : ℕ) (1≤k : 1 ≤ k) (k≤n : k 
         inv-on i (i .token .0, i .token .1, omega (arith, most)) (in-time-sooner (omega (arith, most)) (i .queue))
       where
         most : 7 + (S .stream (r .of) .cycle + 40) ≤ h m
-        most = cover .used m (r .of) (i .owned m r (rw p (List·Memᴰ·head refl)))
+        most = omega (arith, cover .used m (r .of) (i .owned m r (rw p (List·Memᴰ·head refl))))
 
     -- ---- A completion
 

@@ -46,12 +46,17 @@ some-cycle {i = i} d b = d .ranges i (b .from-one) (b .to-last) .cycle-from
 
 -- ---- Charges
 
--- a charge for each master covers its visits: an unused one, and a used one with the pass behind it
-pub record Covers (h : ℕ → ℕ) (S : Segment) : Type 0 where
+-- a charge for each visit to a master and a surcharge for each used one: together they cover a used visit with the pass behind it, and the charge
+-- alone an unused one
+pub record Covers (h x : ℕ → ℕ) (S : Segment) : Type 0 where
   pub unused : (y : ℕ) → 1 ≤ y → y ≤ S .masters → 10 ≤ h y
-  pub used : (y i : ℕ) → Belongs S y i → 7 + (S .stream i .cycle + 40) ≤ h y
+  pub used : (y i : ℕ) → Belongs S y i → 7 + (S .stream i .cycle + 40) ≤ h y + x y
 
-pub hold-covers : (S : Segment) → Covers (hold S) S
+-- no surcharge
+abbrev pub free : ℕ → ℕ
+free y = 0
+
+pub hold-covers : (S : Segment) → Covers (hold S) free S
 hold-covers S = record {
   unused = λ y a b. hold-at-least S y;
   used = λ y i b. omega (arith, rw (b .own) at (cycle-held S i (b .from-one) (b .to-last)));

@@ -1,6 +1,7 @@
 pub mod Queues
 pub mod Ring
 pub mod Charges
+pub mod Counts
 pub mod Waiting
 pub mod Spacing
 pub mod Bound
