@@ -56,8 +56,24 @@ SAMPLES = [
         ],
         0,
         "P-NET segment\n"
-        "M01 bound 1000 bp 13021 us refined 760 bp 9896 us 2 rounds\n"
-        "M02 bound 500 bp 6511 us refined 500 bp 6511 us 2 rounds\n",
+        "M01 bound 1000 bp 13021 us refined 760 bp 9896 us 1 rounds\n"
+        "M02 bound 500 bp 6511 us refined 500 bp 6511 us 1 rounds\n",
+    ),
+    (
+        "pnet-waiting-request",
+        "Accepted. Master 2 asks every 1,000 bp at most, but a request of its may have\n"
+        "waited up to 500 bp, its bound, when the window opens: so two of its requests\n"
+        "count, and nothing is saved.",
+        [
+            (1, 2),
+            (2, 1, 203, 100_000, 100_000),
+            (2, 1, 203, 100_000, 100_000),
+            (2, 2, 203, 1_000, 1_000),
+        ],
+        0,
+        "P-NET segment\n"
+        "M01 bound 1000 bp 13021 us refined 1000 bp 13021 us 2 rounds\n"
+        "M02 bound 500 bp 6511 us refined 500 bp 6511 us 1 rounds\n",
     ),
     (
         "pnet-four-masters",
@@ -67,7 +83,7 @@ SAMPLES = [
         0,
         "P-NET segment\n"
         + "".join(
-            "M0%d bound 2000 bp 26042 us refined 2000 bp 26042 us 2 rounds\n" % y
+            "M0%d bound 2000 bp 26042 us refined 2000 bp 26042 us 1 rounds\n" % y
             for y in (1, 2, 3, 4)
         ),
     ),
@@ -91,8 +107,8 @@ SAMPLES = [
         ],
         0,
         "P-NET segment\n"
-        "M01 bound 620 bp 8073 us refined 620 bp 8073 us 2 rounds\n"
-        "M03 bound 1240 bp 16146 us refined 1000 bp 13021 us 2 rounds\n",
+        "M01 bound 620 bp 8073 us refined 620 bp 8073 us 1 rounds\n"
+        "M03 bound 1240 bp 16146 us refined 1000 bp 13021 us 1 rounds\n",
     ),
     (
         "profibus-ring",

@@ -257,7 +257,8 @@ def plan_pnet(data, lent=None):
             value = s * turn
             for y in masters:
                 if y != k:
-                    a = sum(ceiling(w, t) for t in spacings[y])
+                    # a request may have waited since R(y) before the window
+                    a = sum(ceiling(w + bound[y], t) for t in spacings[y])
                     value -= (s - min(s, a)) * (hold[y] - UNUSED_VISIT)
             return value
 

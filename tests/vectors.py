@@ -57,7 +57,7 @@ def shown(answer):
     return str(answer)
 
 
-# ---------------------------------------------------------------- page 01
+# ---------------------------------------------------------------- page 01, and the count of page 02's Ask 2
 
 UP = [(0, 0), (1, 14), (48, 625), (2_000, 26_042), (48_001, 625_014)]
 DOWN = [(26_041, 1_999), (26_042, 2_000)]
@@ -73,6 +73,8 @@ TWO_MASTERS = [
     (2, 1, 203, 100_000, 100_000),
     (2, 2, 203, 100_000, 100_000),
 ]
+# master 2's request may have waited 500 bp when master 1's window opens
+WAITING = TWO_MASTERS[:3] + [(2, 2, 203, 1_000, 1_000)]
 RING = [(3, 3, 300, 500), (4, 1, 400, 8_400), (4, 1, 500, 10_000), (4, 2, 300, 5_000)]
 TABLE = [(5, 400), (6, 17, 1_000), (6, 18, 2_000), (6, 19, 4_000), (6, 20, 4_000)]
 TABLE_LATE = TABLE[:3] + [(6, 19, 2_000)] + TABLE[4:]
@@ -83,14 +85,15 @@ EIGHTY_EACH = [(1, 10)] + [
 
 PAGE = [
     ("pnet", sheet(*FOUR_MASTERS),
-     "R 2000 2000 2000 2000; W 2000 2000 2000 2000; rounds 2 2 2 2"),
+     "R 2000 2000 2000 2000; W 2000 2000 2000 2000; rounds 1 1 1 1"),
     ("pnet", sheet(*FOUR_MASTERS_LATE), "8 at 5"),
     ("report", sheet(*FOUR_MASTERS_LATE), "refused 8 at stream 5\n"),
-    ("pnet", sheet(*TWO_MASTERS), "R 1000 500; W 760 500; rounds 2 2"),
+    ("pnet", sheet(*TWO_MASTERS), "R 1000 500; W 760 500; rounds 1 1"),
     ("report", sheet(*TWO_MASTERS),
      "P-NET segment\n"
-     "M01 bound 1000 bp 13021 us refined 760 bp 9896 us 2 rounds\n"
-     "M02 bound 500 bp 6511 us refined 500 bp 6511 us 2 rounds\n"),
+     "M01 bound 1000 bp 13021 us refined 760 bp 9896 us 1 rounds\n"
+     "M02 bound 500 bp 6511 us refined 500 bp 6511 us 1 rounds\n"),
+    ("pnet", sheet(*WAITING), "R 1000 500; W 1000 500; rounds 2 1"),
     ("profibus", sheet(*RING), "TTR 2500 by 1"),
     ("report", sheet(*RING), "PROFIBUS ring\nTTR 2500 bp limited by stream 1\n"),
     ("worldfip", sheet(*TABLE), "microcycle 1000; slots 2; rows 3 5 3 9"),
@@ -163,6 +166,13 @@ PROSE = [
     ("a silent master costs 10",
      lambda: opinion.plan_pnet(sheet((1, 3), (2, 2, 203, 1000, 1000))),
      "R 0 270 0; W 0 270 0; rounds 0 1 0"),
+    # 760 bp and the 500 bp before them hold two requests 1,259 bp apart, but one of 1,260
+    ("a window that holds two requests",
+     lambda: opinion.plan_pnet(sheet(*TWO_MASTERS[:3], (2, 2, 203, 1_259, 1_259))),
+     "R 1000 500; W 1000 500; rounds 2 1"),
+    ("a window that holds one request",
+     lambda: opinion.plan_pnet(sheet(*TWO_MASTERS[:3], (2, 2, 203, 1_260, 1_260))),
+     "R 1000 500; W 760 500; rounds 1 1"),
     ("a 65th variable met before",
      lambda: opinion.read(
          sheet((5, 1), *[(6, i, 9) for i in range(64)], (6, 0, 9))), "5 at 453"),
