@@ -103,8 +103,8 @@ def pnet_busy_master(rng):
 def pnet_chain(rng):
     """Spacings set one after another, so that each round lets one more request in.
 
-    This gives the longest searches: W passes one spacing in a round, and what
-    that adds takes it past the next.
+    This gives the longest searches: the window passes one spacing in a round,
+    and what that adds takes it past the next.
     """
     n = rng.choice([4, 8, 16, 32])
     count = rng.choice([20, 40, 80])
@@ -117,9 +117,10 @@ def pnet_chain(rng):
     spacing = {1: bounds[1]}
     order = sorted(others)
     rng.shuffle(order)
-    before = turn
+    before = 0
+    # the window of a master with one stream is W and its bound, one turn
     for y in order:
-        spacing[y] = max(turn, rng.choice([w - 1, max(before, turn), (before + w) // 2]))
+        spacing[y] = turn + rng.choice([w - 1, before, (before + w) // 2])
         before, w = w, w + 37 + others[y]
     for s in streams:
         t = spacing[s[0]]
