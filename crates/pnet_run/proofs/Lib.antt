@@ -5,6 +5,8 @@ pub mod Counts
 pub mod Waiting
 pub mod Spacing
 pub mod Bound
+pub mod Window
+pub mod Answers
 pub mod Picked
 pub mod Slowest
 pub mod Exact
