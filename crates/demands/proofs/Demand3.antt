@@ -12,7 +12,7 @@ use Rattle.common.proofs.Runs.{filled-at}
 use Rattle.sheet.specs.Sheets.{Sheet}
 use Rattle.sheet.specs.Whole.Outcome.{Read}
 use Rattle.sheet.proofs.Known.{reading-read}
-use Rattle.segment.specs.Segment.{segmentOf, count, bound, late}
+use Rattle.segment.specs.Segment.{Segment, segmentOf, count, bound, late}
 use Rattle.segment.specs.Limits.{Declared}
 use Rattle.segment.proofs.Declares.{declared}
 use Rattle.pnet.specs.Planned.{planned, atPlace, runOf}
@@ -39,16 +39,25 @@ module _ (s bounds refined rounds : List ℕ) (H : Sheet) (accepts : planned s (
 
   -- k is one of its masters
   module _ (k : ℕ) (from : 1 ≤ k) (to : k ≤ H .head .a) where
-    -- what the run for R holds at master k's place after the call
+    -- what the run for a figure of each master, lent as it was, holds at master k's place after the call
+    unfoldable pub written-for : (Segment → ℕ → ℕ) → List ℕ → ℕ
+    written-for figure old = getD (runOf (planned s (length bounds) (length refined) (length rounds)) figure old) (k - 1) 0
+
+    pub written-for-is : (figure : Segment → ℕ → ℕ) (old : List ℕ) → written-for figure old ≡ figure (segmentOf H) k
+    unfolding written-for
+    written-for-is figure old =
+        let place : k - 1 < H .head .a = omega arith in
+        let next : k - 1 + 1 ≡ k = omega arith in
+        rw accepts (filled-at (atPlace (figure (segmentOf H))) (H .head .a) (k - 1) old place ∙ ap (figure (segmentOf H)) next)
+
+    -- the run for R
     unfoldable pub written : ℕ
-    written = getD (runOf (planned s (length bounds) (length refined) (length rounds)) bound bounds) (k - 1) 0
+    unfolding written-for
+    written = written-for bound bounds
 
     pub written-is-bound : written ≡ bound (segmentOf H) k
     unfolding written
-    written-is-bound =
-        let place : k - 1 < H .head .a = omega arith in
-        let next : k - 1 + 1 ≡ k = omega arith in
-        rw accepts (filled-at (atPlace (bound (segmentOf H))) (H .head .a) (k - 1) bounds place ∙ ap (bound (segmentOf H)) next)
+    written-is-bound = written-for-is bound bounds
 
     -- 'each of that master's requests is answered within its bound, however often the other masters ask'
     pub each-request-is-answered-within-the-written-bound : {now : ℕ} {token : Token} {queues : Queues} {came : List Request} {went : List Answer}

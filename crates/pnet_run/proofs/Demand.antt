@@ -1,5 +1,5 @@
--- Demand 3, sentence by sentence. The bus and its runs are in specs/Run, the words of the promise in specs/Promise, and the bound R
--- is the planner's, s times V, of crates/segment. Assumes nothing.
+-- Demand 3, sentence by sentence, and what page 02's Ask 2 adds to it. The bus and its runs are in specs/Run, the words of the promise in
+-- specs/Promise, and the bound R and the refined figure W are the planner's, of crates/segment. Assumes nothing.
 use Prim.Native.Nat.{ℕ, _≤_}
 use mathlib.Core.Path.{_≡_}
 use mathlib.Core.Bool.{false}
@@ -9,10 +9,13 @@ use borrow.Author.Tests.{ltb-false}
 use Rattle.sheet.specs.Sheets.{Sheet}
 use Rattle.segment.specs.Segment.{Segment, segmentOf, count, hold, bound, late}
 use Rattle.segment.specs.Limits.{Declared}
+use Rattle.segment.specs.Refined.{right, refined}
+use Rattle.segment.proofs.Figures.{refined-solves}
 use Rattle.pnet_run.specs.Run.{Belongs, Request, Answer, answer, Queues, Token, Run}
 use Rattle.pnet_run.specs.Promise.{Spaced, Answered, Safe, Reached, Accepted, Even}
-use Rattle.pnet_run.proofs.Charges.{belongs-count, in-ring, hold-covers, some-cycle}
+use Rattle.pnet_run.proofs.Charges.{belongs-count, count-belongs, in-ring, hold-covers, some-cycle}
 use Rattle.pnet_run.proofs.Bound.{answered-by}
+use Rattle.pnet_run.proofs.Refined.{answered-within}
 use Rattle.pnet_run.proofs.Exact.{exact}
 use Rattle.pnet_run.proofs.Progress.{Later, goes-on}
 
@@ -26,6 +29,10 @@ accepted-if-none-is-late S declared passes = record {
   declared = declared;
   passes = λ m i d. omega (arith, rw (d .own) at (ltb-false (S .stream i .deadline) (bound S (S .stream i .master)) (passes i (d .from-one) (d .to-last))));
 }
+
+-- So its bound fits between two requests of each of its streams.
+fits-spacing : {S : Segment} → Accepted S → (m i : ℕ) → Belongs S m i → bound S m ≤ S .stream i .spacing
+fits-spacing accepted m i d = omega (arith, accepted .declared .ranges i (d .from-one) (d .to-last) .deadline-to, accepted .passes m i d)
 
 -- ---- 'any fault-free run of the virtual token bus from empty queues, with one message a visit and first-come queues. If a master's
 -- requests keep their declared spacing and no message is longer than declared, each of that master's requests is answered within
@@ -52,8 +59,32 @@ each-request-is-answered-within-the-bound sheet accepted k {now} {token} {queues
     by : (i : ℕ) → Belongs S k i → Answered (bound S k) S k now token came went
     by i d =
         let own = in-ring (accepted .declared) d in
-        answered-by S (hold S) k (own .0) (own .1) (hold-covers S) (λ j. S .stream j .spacing)
-        (λ j e. omega (arith, accepted .declared .ranges j (e .from-one) (e .to-last) .deadline-to, accepted .passes k j e)) run spaced
+        answered-by S (hold S) k (own .0) (own .1) (hold-covers S) (λ j. S .stream j .spacing) (fits-spacing accepted k) run spaced
+
+-- ---- Page 02, Ask 2: 'Then show, for every accepted sheet whose masters all keep their spacing, that every response is within the corrected
+-- figure.'
+
+-- The figure is W of crates/segment, the one that the planner writes. Here every master keeps its spacing: where another asks oftener
+-- than declared, W is not promised (Oftener has such a run), and R still is.
+
+pub each-request-is-answered-within-the-refined-figure : (sheet : Sheet) → Accepted (segmentOf sheet) → (k : ℕ)
+    → {now : ℕ} {token : Token} {queues : Queues} {came : List Request} {went : List Answer}
+    → Run (segmentOf sheet) now token queues came went → ((y : ℕ) → Spaced (segmentOf sheet) y came)
+    → Answered (refined (segmentOf sheet) k) (segmentOf sheet) k now token came went
+unfolding bound right
+each-request-is-answered-within-the-refined-figure sheet accepted k {now} {token} {queues} {came} {went} run spaced = record {
+  in-time = λ a j own. by (a .to .of) own .in-time a j own;
+  none-left = λ r j own lasts. by (r .of) own .none-left r j own lasts;
+}
+  where
+    S : Segment
+    S = segmentOf sheet
+
+    by : (i : ℕ) → Belongs S k i → Answered (refined S k) S k now token came went
+    by i d =
+        let own = in-ring (accepted .declared) d in
+        answered-within S (accepted .declared) (hold S) (hold-covers S) (fits-spacing accepted) (refined S k) k (own .0) (own .1)
+        (omega (arith, hold-covers S .used k i d)) (count-belongs d) (omega (arith, refined-solves S k (own .0) (own .1))) run spaced
 
 -- ---- 'For a master with streams, where each master's own streams are equally long and every other master is silent or has at least
 -- as many streams, some such run takes exactly the bound'
