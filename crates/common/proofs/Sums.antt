@@ -192,7 +192,7 @@ upto-grouped f e of m n in-range =
     upto-same (λ i. f i * e (of i)) (λ i. upto (λ y. e y * when (eqb (of i) y) (f i)) m) n alone
     ∙ (upto-exchange (λ i y. e y * when (eqb (of i) y) (f i)) m n
     ∙ upto-same (λ y. upto (λ i. e y * when (eqb (of i) y) (f i)) n) (λ y. upto (λ i. when (eqb (of i) y) (f i)) n * e y) m
-      (λ y lo hi. sym (upto-scale (e y) (λ i. when (eqb (of i) y) (f i)) n) ∙ mul-comm (e y) (upto (λ i. when (eqb (of i) y) (f i)) n)))
+    (λ y lo hi. sym (upto-scale (e y) (λ i. when (eqb (of i) y) (f i)) n) ∙ mul-comm (e y) (upto (λ i. when (eqb (of i) y) (f i)) n)))
   where
     at : (i y : ℕ) → Dec (y ≡ of i) → when (eqb y (of i)) (f i * e (of i)) ≡ e y * when (eqb (of i) y) (f i)
     at i y (yes q) = rw (q, eq-eqb (of i) (of i) refl) (mul-comm (f i) (e (of i)))
