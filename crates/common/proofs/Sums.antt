@@ -2,7 +2,7 @@
 use mathlib.Core.Path.{_≡_, refl, sym, ap, _∙_}
 use mathlib.Core.Logic.{_≢_}
 use Prim.Native.Nat.{ℕ, zero, suc, _+_, _-_, _*_, _/_, _≤_, _<_, zero-le, max}
-use native.Mathlib.Nat.{mul-zero, mul-le-mul, mul-add, suc-mul, div-zero, div-lt-iff-lt-mul}
+use native.Mathlib.Nat.{mul-zero, mul-comm, mul-le-mul, mul-add, suc-mul, div-zero, div-lt-iff-lt-mul}
 use native.Mathlib.Numerals.{add-one}
 use native.Mathlib.Omega.{arith}
 use native.Mathlib.Decide.{ℕ-discrete}
@@ -176,3 +176,30 @@ pub upto-first : (f : ℕ → ℕ) (n : ℕ) → upto f (suc n) ≡ f 1 + upto (
 unfolding upto
 upto-first f zero = omega arith
 upto-first f (suc n) = omega (arith, upto-first f n)
+
+-- ---- Sums of sums
+
+-- row by row or column by column
+pub upto-exchange : (f : ℕ → ℕ → ℕ) (m n : ℕ) → upto (λ i. upto (f i) m) n ≡ upto (λ y. upto (λ i. f i y) n) m
+unfolding upto
+upto-exchange f m zero = omega (arith, upto-even 0 m, mul-zero m)
+upto-exchange f m (suc n) = omega (arith, upto-exchange f m n, upto-add (λ y. upto (λ i. f i y) n) (f (suc n)) m)
+
+-- terms 1..n are grouped by `of`, which is one of 1..m for each: each group has its own factor
+pub upto-grouped : (f e of : ℕ → ℕ) (m n : ℕ) → ((i : ℕ) → 1 ≤ i → i ≤ n → (1 ≤ of i) × (of i ≤ m))
+    → upto (λ i. f i * e (of i)) n ≡ upto (λ y. upto (λ i. when (eqb (of i) y) (f i)) n * e y) m
+upto-grouped f e of m n in-range =
+    upto-same (λ i. f i * e (of i)) (λ i. upto (λ y. e y * when (eqb (of i) y) (f i)) m) n alone
+    ∙ (upto-exchange (λ i y. e y * when (eqb (of i) y) (f i)) m n
+    ∙ upto-same (λ y. upto (λ i. e y * when (eqb (of i) y) (f i)) n) (λ y. upto (λ i. when (eqb (of i) y) (f i)) n * e y) m
+    (λ y lo hi. sym (upto-scale (e y) (λ i. when (eqb (of i) y) (f i)) n) ∙ mul-comm (e y) (upto (λ i. when (eqb (of i) y) (f i)) n)))
+  where
+    at : (i y : ℕ) → Dec (y ≡ of i) → when (eqb y (of i)) (f i * e (of i)) ≡ e y * when (eqb (of i) y) (f i)
+    at i y (yes q) = rw (q, eq-eqb (of i) (of i) refl) (mul-comm (f i) (e (of i)))
+    at i y (no q) = rw (ne-eqb y (of i) q, ne-eqb (of i) y (λ z. q (sym z))) (sym (mul-zero (e y)))
+
+    -- term i is in one group alone
+    alone : (i : ℕ) → 1 ≤ i → i ≤ n → f i * e (of i) ≡ upto (λ y. e y * when (eqb (of i) y) (f i)) m
+    alone i lo hi =
+        sym (upto-only (f i * e (of i)) (of i) m (in-range i lo hi .0) (in-range i lo hi .1))
+        ∙ upto-same (λ y. when (eqb y (of i)) (f i * e (of i))) (λ y. e y * when (eqb (of i) y) (f i)) m (λ y a b. at i y (ℕ-discrete y (of i)))

@@ -1,6 +1,7 @@
 pub mod Queues
 pub mod Ring
 pub mod Charges
+pub mod Shares
 pub mod Counts
 pub mod Waiting
 pub mod Spacing
