@@ -40,6 +40,8 @@ PHRASES = (
     "48 in %d us" % second_opinion.us_up(48),
     "a kind that is not %d..%d" % (min(second_opinion.WIDTHS), max(second_opinion.WIDTHS)),
     "more than %d rows" % second_opinion.ROWS_LIMIT,
+    "however often the others ask",
+    "if every master keeps its spacing",
     "%d for a request" % second_opinion.REQUEST,
     "%d for its completed answer" % second_opinion.ANSWER,
     "true below %d bp" % second_opinion.COUNTER,

@@ -44,6 +44,15 @@ fn rules() {
     );
 }
 
+fn figures() {
+    line(
+        b"A P-NET report has a line for each master with streams. bound: each of its requests is answered within it, if that master keeps its spacing,",
+    );
+    line(
+        b"however often the others ask. refined: the same, if every master keeps its spacing. Both are in bp and in us, rounded up. rounds: of the search for refined.",
+    );
+}
+
 fn captures() {
     line(
         b"A capture is a row of records of its own: one byte of kind, 16 for a request that enters its queue or 17 for its completed answer,",
@@ -77,6 +86,8 @@ pub(crate) fn help() {
     kinds();
     line(b"");
     rules();
+    line(b"");
+    figures();
     line(b"");
     captures();
     line(b"");
