@@ -1,0 +1,138 @@
+-- The refined figure needs every master's spacing, not only the asking master's: on an accepted sheet whose refined figure for master 1 is 760 bp,
+-- a run in which master 2 alone asks oftener than declared answers a request of master 1 after 1,000 bp. Assumes nothing.
+use Prim.Native.Nat.{ℕ, zero, suc, _+_, _≤_}
+use mathlib.Core.Path.{_≡_, refl, ap}
+use mathlib.Core.Logic.{_≢_, ⊎-elim}
+use mathlib.Core.Bool.{Bool, true, false}
+use mathlib.Core.List.{List, [], _∷_, List·Memᴰ, List·Memᴰ·head, List·Memᴰ·not-nil, List·Memᴰ·cases-cons}
+use native.Mathlib.Omega.{arith}
+use Rattle.common.specs.Sums.{when}
+use Rattle.common.proofs.Sums.{upto-most}
+use Rattle.format.specs.declared.Record.{Record}
+use Rattle.segment.specs.Segment.{Segment, streamOf, segmentOf, owns, count, late}
+use Rattle.segment.specs.Refined.{refined}
+use Rattle.segment.specs.Limits.{Ranged, Declared}
+use Rattle.pnet_run.specs.Run.{Belongs, Request, request, Answer, answer, Queues, put, Token, toward, on-way, next, Run, start, arrive, travel}
+use Rattle.pnet_run.specs.Promise.{none, and, Spaced, Answered, Accepted}
+use Rattle.pnet_run.proofs.Slowest.{slowest}
+use Rattle.pnet_run.proofs.Demand.{accepted-if-none-is-late}
+
+-- ---- The sheet
+
+-- C is 203, T and D 100,000
+abbrev stream : ℕ → Record
+stream m = record { kind = 2; a = m; b = 203; c = 100000; d = 100000 }
+
+-- two masters: streams 1 and 2 are master 1's, stream 3 master 2's
+abbrev pub two : Segment
+two = segmentOf (record { head = record { kind = 1; a = 2; b = 0; c = 0; d = 0 }; streams = stream 1 ∷ stream 1 ∷ stream 2 ∷ [] })
+
+pub refined-is-760 : refined two 1 ≡ 760
+unfolding segmentOf refined
+refined-is-760 = refl
+
+-- stream by stream
+each : (P : ℕ → Type 0) → P 1 → P 2 → P 3 → (i : ℕ) → 1 ≤ i → i ≤ 3 → P i
+each P x y z zero lo hi = absurd (omega arith)
+each P x y z (suc zero) lo hi = x
+each P x y z (suc (suc zero)) lo hi = y
+each P x y z (suc (suc (suc zero))) lo hi = z
+each P x y z (suc (suc (suc (suc i)))) lo hi = absurd (omega arith)
+
+in-range : (m : ℕ) → 1 ≤ m → m ≤ 2 → Ranged 2 (streamOf (stream m))
+in-range m lo hi = record {
+  master-from = lo;
+  master-to = hi;
+  cycle-from = omega arith;
+  cycle-to = omega arith;
+  spacing-from = omega arith;
+  spacing-to = omega arith;
+  deadline-from = omega arith;
+  deadline-to = omega arith;
+}
+
+declared : Declared two
+unfolding segmentOf count
+declared = record {
+  masters-from = omega arith;
+  masters-to = omega arith;
+  number-from = omega arith;
+  number-to = omega arith;
+  ranges =
+      each (λ i. Ranged 2 (two .stream i)) (in-range 1 (omega arith) (omega arith)) (in-range 1 (omega arith) (omega arith))
+      (in-range 2 (omega arith) (omega arith));
+  counts = λ k. omega (arith, upto-most (λ i. when (owns two k i) 1) 1 3 (λ i lo hi. one (owns two k i)));
+}
+  where
+    one : (b : Bool) → when b 1 ≤ 1
+    one true = omega arith
+    one false = omega arith
+
+pub two-is-accepted : Accepted two
+unfolding segmentOf late
+two-is-accepted = accepted-if-none-is-late two declared (each (λ i. late two i ≡ false) refl refl refl)
+
+-- ---- The run
+
+-- all ask at 0: stream 3 twice, then streams 1 and 2
+abbrev pub came : List Request
+came = request 2 0 ∷ request 1 0 ∷ request 3 0 ∷ request 3 0 ∷ []
+
+-- master 2 uses its visit before each of master 1's two
+abbrev pub went : List Answer
+went = answer (request 2 0) 1000 ∷ answer (request 3 0) 750 ∷ answer (request 1 0) 500 ∷ answer (request 3 0) 250 ∷ []
+
+stream-1 : Belongs two 1 1
+unfolding segmentOf
+stream-1 = record { from-one = omega arith; to-last = omega arith; own = refl }
+
+stream-2 : Belongs two 1 2
+unfolding segmentOf
+stream-2 = record { from-one = omega arith; to-last = omega arith; own = refl }
+
+stream-3 : Belongs two 2 3
+unfolding segmentOf
+stream-3 = record { from-one = omega arith; to-last = omega arith; own = refl }
+
+-- the token is 40 bp away from master 2 when they ask; then every reaction is 7 bp and every message 203
+pub run : (q : Queues) × Run two 1000 (toward 2 40) q came went
+unfolding segmentOf put next
+run =
+    let from : Run two 0 (toward 2 40) (λ y. []) [] [] = start {m = 2} {d = 40} (omega arith) (omega arith) (omega arith) in
+    let asked : Run two 0 (toward 2 40) _ came [] = arrive (arrive (arrive (arrive from on-way stream-3) on-way stream-3) on-way stream-1) on-way stream-2 in
+    let at-250 : Run two 250 (toward 1 40) _ came _ = slowest (travel {d = 0} 40 asked) refl (omega arith) in
+    let at-500 : Run two 500 (toward 2 40) _ came _ = slowest (travel {d = 0} 40 at-250) refl (omega arith) in
+    let at-750 : Run two 750 (toward 1 40) _ came _ = slowest (travel {d = 0} 40 at-500) refl (omega arith) in
+    (_, slowest (travel {d = 0} 40 at-750) refl (omega arith))
+
+-- ---- Master 1 keeps its spacing
+
+-- a request of another stream than the first is behind it
+behind : {i a j : ℕ} {l : List Request} → List·Memᴰ (request i a) (request j 0 ∷ l) → i ≢ j → List·Memᴰ (request i a) l
+behind {i} {a} {j} {l} m n =
+    ⊎-elim (λ (e : request i a ≡ request j 0). absurd (n (ap (λ (r : Request). r .of) e))) (λ (c : List·Memᴰ (request i a) l). c) (List·Memᴰ·cases-cons m)
+
+-- each of its streams asks once, and stream 3 is not its own
+pub master-1-keeps-its-spacing : Spaced two 1 came
+master-1-keeps-its-spacing i b =
+    and (λ e a j. absurd (second e a j)) (and (λ e a j. absurd (first e a j)) (and (λ e a j. absurd (other e)) (and (λ e a j. absurd (List·Memᴰ·not-nil j)) none)))
+  where
+    first : 1 ≡ i → (a : ℕ) → List·Memᴰ (request i a) (request 3 0 ∷ request 3 0 ∷ []) → ⊥
+    first e a j = List·Memᴰ·not-nil (behind (behind j (λ z. omega arith)) (λ z. omega arith))
+
+    second : 2 ≡ i → (a : ℕ) → List·Memᴰ (request i a) (request 1 0 ∷ request 3 0 ∷ request 3 0 ∷ []) → ⊥
+    second e a j = List·Memᴰ·not-nil (behind (behind (behind j (λ z. omega arith)) (λ z. omega arith)) (λ z. omega arith))
+
+    other : 3 ≡ i → ⊥
+    other e = omega (arith, ap (λ (x : ℕ). two .stream x .master) e, stream-3 .own, b .own)
+
+-- ---- The refined figure is not safe where master 1 alone keeps its spacing
+
+pub not-without-the-others :
+    ((t : ℕ) (y : Token) (q : Queues) (came : List Request) (went : List Answer) → Run two t y q came went → Spaced two 1 came
+    → Answered (refined two 1) two 1 t y came went)
+    → ⊥
+not-without-the-others safe =
+    let answered = safe 1000 (toward 2 40) (run .0) came went (run .1) master-1-keeps-its-spacing in
+    let l : 1000 ≤ 0 + refined two 1 = answered .in-time (answer (request 2 0) 1000) (List·Memᴰ·head refl) stream-2 in
+    omega (arith, refined-is-760)
