@@ -65,7 +65,7 @@ each-request-is-answered-within-the-bound sheet accepted k {now} {token} {queues
 -- figure.'
 
 -- The figure is W of crates/segment, the one that the planner writes. Here every master keeps its spacing: where another asks oftener
--- than declared, W is not promised (Oftener has such a run), and R still is.
+-- than declared, W is not promised (TwoMasters has such a run), and R still is.
 
 pub each-request-is-answered-within-the-refined-figure : (sheet : Sheet) → Accepted (segmentOf sheet) → (k : ℕ)
     → {now : ℕ} {token : Token} {queues : Queues} {came : List Request} {went : List Answer}

@@ -14,4 +14,4 @@ pub mod Exact
 pub mod Progress
 pub mod Literal
 pub mod Demand
-pub mod Oftener
+pub mod TwoMasters

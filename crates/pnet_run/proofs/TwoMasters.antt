@@ -1,5 +1,6 @@
--- The refined figure needs every master's spacing, not only the asking master's: on an accepted sheet whose refined figure for master 1 is 760 bp,
--- a run in which master 2 alone asks oftener than declared answers a request of master 1 after 1,000 bp. Assumes nothing.
+-- The refined figure on page 01's third sheet, step by step: W of master 1 is 760 bp. A run in which every master keeps its spacing takes 760 bp; one in
+-- which master 2 asks oftener than declared takes 1,000. So on this sheet W is no larger than it must be, and it needs the spacing of
+-- every master, not of master 1 alone. Assumes nothing.
 use Prim.Native.Nat.{ℕ, zero, suc, _+_, _≤_}
 use mathlib.Core.Path.{_≡_, refl, ap}
 use mathlib.Core.Logic.{_≢_, ⊎-elim}
@@ -12,9 +13,10 @@ use Rattle.format.specs.declared.Record.{Record}
 use Rattle.segment.specs.Segment.{Segment, streamOf, segmentOf, owns, count, late}
 use Rattle.segment.specs.Refined.{refined}
 use Rattle.segment.specs.Limits.{Ranged, Declared}
-use Rattle.pnet_run.specs.Run.{Belongs, Request, request, Answer, answer, Queues, put, Token, toward, on-way, next, Run, start, arrive, travel}
-use Rattle.pnet_run.specs.Promise.{none, and, Spaced, Answered, Accepted}
-use Rattle.pnet_run.proofs.Slowest.{slowest}
+use Rattle.pnet_run.specs.Run.{Belongs, Request, request, Answer, answer, Queues, put, Token, toward, on-way, next, Run, start, arrive, travel, skip}
+use Rattle.pnet_run.specs.Promise.{none, and, Spaced, Answered, Reached, Accepted}
+use Rattle.pnet_run.proofs.Picked.{picked}
+use Rattle.pnet_run.proofs.Slowest.{slowest, asked, queuesTo, askedTo, all-asked, asked-each, asked-spaced}
 use Rattle.pnet_run.proofs.Demand.{accepted-if-none-is-late}
 
 -- ---- The sheet
@@ -72,16 +74,6 @@ pub two-is-accepted : Accepted two
 unfolding segmentOf late
 two-is-accepted = accepted-if-none-is-late two declared (each (λ i. late two i ≡ false) refl refl refl)
 
--- ---- The run
-
--- all ask at 0: stream 3 twice, then streams 1 and 2
-abbrev pub came : List Request
-came = request 2 0 ∷ request 1 0 ∷ request 3 0 ∷ request 3 0 ∷ []
-
--- master 2 uses its visit before each of master 1's two
-abbrev pub went : List Answer
-went = answer (request 2 0) 1000 ∷ answer (request 3 0) 750 ∷ answer (request 1 0) 500 ∷ answer (request 3 0) 250 ∷ []
-
 stream-1 : Belongs two 1 1
 unfolding segmentOf
 stream-1 = record { from-one = omega arith; to-last = omega arith; own = refl }
@@ -94,13 +86,51 @@ stream-3 : Belongs two 2 3
 unfolding segmentOf
 stream-3 = record { from-one = omega arith; to-last = omega arith; own = refl }
 
--- the token is 40 bp away from master 2 when they ask; then every reaction is 7 bp and every message 203
-pub run : (q : Queues) × Run two 1000 (toward 2 40) q came went
+-- ---- Every stream asks once
+
+-- the token is 40 bp away from master 2 when all ask; then every reaction is 7 bp and every message 203. Master 2 has nothing left
+-- to send when the token comes for the second time
+once : (q : Queues) × (went : List Answer) × Run two 760 (toward 2 40) q (askedTo 3) (answer (asked 2) 760 ∷ went)
+unfolding segmentOf put next picked owns askedTo
+once =
+    let asking : Run two 0 (toward 2 40) (queuesTo two 3) (askedTo 3) [] = all-asked two (omega arith) (omega arith) (omega arith) in
+    let at-250 : Run two 250 (toward 1 40) _ (askedTo 3) _ = slowest (travel {d = 0} 40 asking) refl (omega arith) in
+    let at-500 : Run two 500 (toward 2 40) _ (askedTo 3) _ = slowest (travel {d = 0} 40 at-250) refl (omega arith) in
+    let at-550 : Run two 550 (toward 1 0) _ (askedTo 3) _ = skip {d = 0} 10 (travel {d = 0} 40 at-500) refl (omega arith) refl in
+    (_, _, slowest at-550 refl (omega arith))
+
+pub some-run-takes-760 : Reached 760 two 1
+unfolding segmentOf
+some-run-takes-760 = record {
+  now = 760;
+  token = toward 2 40;
+  queues = once .0;
+  came = askedTo 3;
+  went = answer (asked 2) 760 ∷ once .1;
+  run = once .2;
+  spaced = asked-spaced two;
+  slow = asked 2;
+  arrived = asked-each 3 2 (omega arith) (omega arith);
+  own = stream-2;
+  exact = List·Memᴰ·head refl;
+}
+
+-- ---- Master 2 asks twice at once
+
+-- all ask at 0: stream 3 twice, then streams 1 and 2
+abbrev pub came : List Request
+came = request 2 0 ∷ request 1 0 ∷ request 3 0 ∷ request 3 0 ∷ []
+
+-- master 2 uses its visit before each of master 1's two
+abbrev pub went : List Answer
+went = answer (request 2 0) 1000 ∷ answer (request 3 0) 750 ∷ answer (request 1 0) 500 ∷ answer (request 3 0) 250 ∷ []
+
+pub twice : (q : Queues) × Run two 1000 (toward 2 40) q came went
 unfolding segmentOf put next
-run =
+twice =
     let from : Run two 0 (toward 2 40) (λ y. []) [] [] = start {m = 2} {d = 40} (omega arith) (omega arith) (omega arith) in
-    let asked : Run two 0 (toward 2 40) _ came [] = arrive (arrive (arrive (arrive from on-way stream-3) on-way stream-3) on-way stream-1) on-way stream-2 in
-    let at-250 : Run two 250 (toward 1 40) _ came _ = slowest (travel {d = 0} 40 asked) refl (omega arith) in
+    let asking : Run two 0 (toward 2 40) _ came [] = arrive (arrive (arrive (arrive from on-way stream-3) on-way stream-3) on-way stream-1) on-way stream-2 in
+    let at-250 : Run two 250 (toward 1 40) _ came _ = slowest (travel {d = 0} 40 asking) refl (omega arith) in
     let at-500 : Run two 500 (toward 2 40) _ came _ = slowest (travel {d = 0} 40 at-250) refl (omega arith) in
     let at-750 : Run two 750 (toward 1 40) _ came _ = slowest (travel {d = 0} 40 at-500) refl (omega arith) in
     (_, slowest (travel {d = 0} 40 at-750) refl (omega arith))
@@ -133,6 +163,6 @@ pub not-without-the-others :
     → Answered (refined two 1) two 1 t y came went)
     → ⊥
 not-without-the-others safe =
-    let answered = safe 1000 (toward 2 40) (run .0) came went (run .1) master-1-keeps-its-spacing in
+    let answered = safe 1000 (toward 2 40) (twice .0) came went (twice .1) master-1-keeps-its-spacing in
     let l : 1000 ≤ 0 + refined two 1 = answered .in-time (answer (request 2 0) 1000) (List·Memᴰ·head refl) stream-2 in
     omega (arith, refined-is-760)
