@@ -1,15 +1,15 @@
 -- The bound holds in every run, however often the other masters ask: for any charge that covers the longest visit to each master,
--- and for arrivals so far apart that the bound by that charge fits between them. And in such a run the bound by a lower charge holds
--- too, with a surcharge for each used visit of which the answer came since the request did. Assumes nothing.
+-- and for arrivals so far apart that the bound by that charge fits between them. In such runs it also holds for a charge with a
+-- surcharge, if the surcharges of the visits that ended with an answer since the request came are added. Assumes nothing.
 --
 -- The argument. Let `toll` be the longest time, as the token stands, until k has answered its next request and passed the token
--- on, if each visit takes its charge at most. While time passes the toll falls at least as fast, and at a completion by k it grows by one
--- turn of the token. A visit that is used may take its surcharge longer: where its service begins, the toll grows by that, and what
--- each waiting request is allowed grows by the same, while the service is under way and, from its completion on, as a surcharge
--- spent since the request came. So if the first request in k's queue is through by now + toll, the next one turn later, and so on, all
--- within what they are allowed, all stays true. When a request of k arrives, its stream has none waiting, since that one would have been
--- answered: so it finds fewer than s in the queue, and is through within s turns. That there is room is seen with no surcharge;
--- it is then known for every charge and surcharge.
+-- on, if each visit to come takes no more than its charge. While time passes the toll falls at least as fast, but where a service
+-- begins it may grow, by the surcharge of that visit at most; and at a completion by k it grows by one turn of the token. What a
+-- waiting request is allowed grows with the toll: a surcharge is under way until the completion, and spent from then on. So if the first
+-- request in k's queue is through by now + toll, the next one turn later, and so on, each within what it is allowed, all stays
+-- true. When a request of k arrives, its stream has none waiting, since that one would have been answered: so it finds fewer than
+-- s in the queue, and is through within s turns. That one would have been answered is shown without a surcharge, by a charge that
+-- covers every visit; once each arrival is known to find room, any other charge and surcharge may be counted with.
 use Prim.Native.Nat.{ℕ, suc, _+_, _≤_, _<_}
 use mathlib.Core.Path.{_≡_, refl, sym, _∙_}
 use mathlib.Core.Bool.{Bool, true, false}
@@ -310,7 +310,7 @@ module _ (S : Segment) (h : ℕ → ℕ) (k : ℕ) (1≤k : 1 ≤ k) (k≤n : k 
   pub answered-by : {t : ℕ} {y : Token} {q : Queues} {came : List Request} {went : List Answer}
       → Run S t y q came went → KeptApart came → Answered (boundBy h S k) S k t y came went
   answered-by {q = q} {went = went} z apart = record {
-    in-time = answers-in-time z apart;
+    in-time = λ a j o. omega (arith, answers-in-time z apart a j o);
     none-left = λ r j o l. ⊎-elim (λ (c : List·Memᴰ r (q k)). absurd (not-after z apart r c l)) (λ (c : (u : ℕ) × List·Memᴰ (answer r u) went). c) (came-kept z k r j o);
   }
 
