@@ -1,31 +1,27 @@
 -- The bound holds in every run, however often the other masters ask: for any charge that covers the longest visit to each master,
--- and for arrivals so far apart that the bound by that charge fits between them. Assumes nothing.
+-- and for arrivals so far apart that the bound by that charge fits between them. In such runs it also holds for a charge with a
+-- surcharge, if the surcharges of the visits that ended with an answer since the request came are added. Assumes nothing.
 --
 -- The argument. Let `toll` be the longest time, as the token stands, until k has answered its next request and passed the token
--- on. While time passes the toll falls at least as fast, and at a completion by k it grows by one turn of the token. So if the first
--- request in k's queue is through by now + toll, the next one turn later, and so on, all stays true. When a request of k arrives,
--- its stream has none waiting, since that one would have been answered: so it finds fewer than s in the queue, and is through
--- within s turns.
+-- on, if each visit to come takes no more than its charge. While time passes the toll falls at least as fast, but where a service
+-- begins it may grow, by the surcharge of that visit at most; and at a completion by k it grows by one turn of the token. What a
+-- waiting request is allowed grows with the toll: a surcharge is under way until the completion, and spent from then on. So if the first
+-- request in k's queue is through by now + toll, the next one turn later, and so on, each within what it is allowed, all stays
+-- true. When a request of k arrives, its stream has none waiting, since that one would have been answered: so it finds fewer than
+-- s in the queue, and is through within s turns. That one would have been answered is shown without a surcharge, by a charge that
+-- covers every visit; once each arrival is known to find room, any other charge and surcharge may be counted with.
 use Prim.Native.Nat.{ℕ, suc, _+_, _≤_, _<_}
 use mathlib.Core.Path.{_≡_, refl, sym, _∙_}
-use mathlib.Core.Logic.{_≢_, _⊎_, inl, inr, ⊎-elim}
-use mathlib.Core.List.{
-  List,
-  [],
-  _∷_,
-  _++_,
-  List·Memᴰ,
-  List·Memᴰ·head,
-  List·Memᴰ·tail,
-  List·Memᴰ·not-nil,
-  List·Memᴰ·cases-cons,
-  Memᴰ·append-left,
-  Memᴰ·append-right,
-}
+use mathlib.Core.Bool.{Bool, true, false}
+use mathlib.Core.Logic.{_≢_, ⊎-elim}
+use mathlib.Core.List.{List, [], _∷_, _++_, List·Memᴰ, List·Memᴰ·head, List·Memᴰ·not-nil, List·Memᴰ·cases-cons}
 use native.Mathlib.Nat.{mul-le-mul-right}
 use native.Mathlib.Decide.{ℕ-discrete}
 use native.Mathlib.Omega.{arith}
+use lib.Dec.{leb}
 use lib.ListN.{length}
+use borrow.Author.Tests.{le-leb}
+use Rattle.common.specs.Sums.{when}
 use Rattle.segment.specs.Segment.{Segment, turnBy, boundBy, count}
 use Rattle.pnet_run.specs.Run.{
   Belongs,
@@ -54,18 +50,20 @@ use Rattle.pnet_run.specs.Run.{
 }
 use Rattle.pnet_run.specs.Promise.{Apart, and, Lasts, past, at-it, Answered}
 use Rattle.pnet_run.proofs.Charges.{Covers, free}
-use Rattle.pnet_run.proofs.Queues.{put-same, put-other, Owned, owned-complete, owned-arrive}
+use Rattle.pnet_run.proofs.Counts.{spent, underWay}
+use Rattle.pnet_run.proofs.Queues.{put-same, put-other, owned}
+use Rattle.pnet_run.proofs.Past.{queue-came, queue-past, came-kept}
 use Rattle.pnet_run.proofs.Ring.{next-in-ring, gap, gap-next, gap-lap, gap-most, gap-least}
 use Rattle.pnet_run.proofs.Waiting.{
   InTime,
   none,
   Absent,
   absent-if,
+  in-time-by,
   in-time-sooner,
   in-time-rest,
   in-time-each,
   in-time-differs,
-  in-time-more,
   in-time-snoc,
   room-for,
 }
@@ -77,151 +75,155 @@ apart-latest (and f p) e a j = omega (arith, f e a j)
 pub apart-before : {d i : ℕ} {r : Request} {came : List Request} → Apart d i (r ∷ came) → Apart d i came
 apart-before (and f p) = p
 
-module _ (S : Segment) (h : ℕ → ℕ) (k : ℕ) (1≤k : 1 ≤ k) (k≤n : k ≤ S .masters) where
+-- ---- What is spent
+
+-- an answer of master m's that is given now counts for all that came by now
+spent-now : (x : ℕ → ℕ) {S : Segment} {m t a : ℕ} (r : Request) (went : List Answer) → Belongs S m (r .of) → a ≤ t
+    → spent x S a (answer r t ∷ went) ≡ x m + spent x S a went
+unfolding spent
+spent-now x {t = t} {a = a} r went own l = rw (le-leb a t l, own .own)
+
+-- without a surcharge, nothing
+spent-free : (S : Segment) (a : ℕ) (went : List Answer) → spent free S a went ≡ 0
+unfolding spent
+spent-free S a [] = refl
+spent-free S a (w ∷ went) = go (leb a (w .at)) (spent-free S a went)
+  where
+    go : (b : Bool) → spent free S a went ≡ 0 → when b 0 + spent free S a went ≡ 0
+    go true e = omega arith
+    go false e = omega arith
+
+underWay-free : (y : Token) → underWay free y ≡ 0
+underWay-free (toward m d) = refl
+underWay-free (serving m c) = refl
+
+-- ---- Room at each arrival
+
+module _ (S : Segment) (k : ℕ) where
+  -- none of stream i waits, and fewer wait than k has streams
+  abbrev Room : ℕ → Queues → Type 0
+  Room i q = Absent i (q k) × (suc (length (q k)) ≤ count S k)
+
+  -- each request of k found room when it arrived
+  unfoldable Roomy : {t : ℕ} {y : Token} {q : Queues} {came : List Request} {went : List Answer} → Run S t y q came went → Type 0
+  Roomy (start a b c) = Unit {0}
+  Roomy (complete z p) = Roomy z
+  Roomy (arrive {m = m} {i = i} {q = q} z o d) = (m ≡ k → Room i q) × Roomy z
+  Roomy (travel e z) = Roomy z
+  Roomy (work e z) = Roomy z
+  Roomy (serve e u v z p a b c d f g) = Roomy z
+  Roomy (skip e z p a b) = Roomy z
+
+-- ---- A charge h and a surcharge x
+
+module _ (S : Segment) (h x : ℕ → ℕ) (k : ℕ) (1≤k : 1 ≤ k) (k≤n : k ≤ S .masters) where
   abbrev toGo : ℕ → ℕ
   toGo m = gap h (S .masters) k m
 
-  -- the longest time until k has answered its next request and passed the token on
+  -- the longest time until k has answered its next request and passed the token on, if no further surcharge is spent
   abbrev toll : Token → ℕ
   toll (toward m d) = d + (h m + toGo m)
   toll (serving m c) = c + (40 + toGo m)
 
   abbrev Sane : Token → Type 0
   Sane (toward m d) = (1 ≤ m) × (m ≤ S .masters) × (d ≤ 40)
-  Sane (serving m c) = (1 ≤ m) × (m ≤ S .masters) × (c + 40 ≤ h m)
+  Sane (serving m c) = (1 ≤ m) × (m ≤ S .masters) × (c + 40 ≤ h m + x m)
 
-  abbrev Queue : List Request → ℕ → List Request → Type 0
-  Queue = InTime (turnBy h S) (boundBy h S k)
+  -- what a request that came at the instant a is allowed, its token pass included
+  abbrev allowed : Token → List Answer → ℕ → ℕ
+  allowed y went a = boundBy h S k + 40 + (underWay x y + spent x S a went)
+
+  abbrev Queue : ℕ → Token → List Request → List Answer → Type 0
+  Queue t y l went = InTime (turnBy h S) (allowed y went) (t + toll y) l
 
   -- what holds of master k at every stage of a run
-  record Inv (t : ℕ) (y : Token) (q : Queues) (came : List Request) (went : List Answer) : Type 0 where
+  record Inv (t : ℕ) (y : Token) (q : Queues) (went : List Answer) : Type 0 where
     token : Sane y
-    owned : Owned S q
-    queue : Queue came (t + toll y) (q k)
-    done : (a : Answer) → List·Memᴰ a went → Belongs S k (a .to .of) → a .at ≤ a .to .since + boundBy h S k
-    every : (r : Request) → List·Memᴰ r came → Belongs S k (r .of) → List·Memᴰ r (q k) ⊎ ((u : ℕ) × List·Memᴰ (answer r u) went)
+    queue : Queue t y (q k) went
 
   next-in : {m : ℕ} → m ≤ S .masters → (1 ≤ next (S .masters) m) × (next (S .masters) m ≤ S .masters)
   next-in {m} l = next-in-ring (S .masters) m (omega arith) l
 
-  module _ (cover : Covers h free S) where
-    inv-start : {m d : ℕ} → 1 ≤ m → m ≤ S .masters → d ≤ 40 → Inv 0 (toward m d) (λ y. []) [] []
-    inv-start a b c = record {
-      token = omega arith;
-      owned = λ m r j. absurd (List·Memᴰ·not-nil j);
-      queue = none;
-      done = λ a j. absurd (List·Memᴰ·not-nil j);
-      every = λ r j. absurd (List·Memᴰ·not-nil j);
-    }
+  module _ (cover : Covers h x S) where
+    -- ---- Time passes
 
-    -- ---- Time passes: all stays but the instant and the token
+    inv-travel : {t m d : ℕ} {q : Queues} {went : List Answer} (e : ℕ) → Inv t (toward m (e + d)) q went → Inv (t + e) (toward m d) q went
+    inv-travel e i = record { token = omega arith; queue = in-time-sooner (omega arith) (i .queue) }
 
-    inv-on : {t u : ℕ} {x y : Token} {q : Queues} {came : List Request} {went : List Answer} → Inv t x q came went → Sane y
-        → Queue came (u + toll y) (q k) → Inv u y q came went
-    inv-on i o g = record { token = o; owned = i .owned; queue = g; done = i .done; every = i .every }
+    inv-work : {t m c : ℕ} {q : Queues} {went : List Answer} (e : ℕ) → Inv t (serving m (e + c)) q went → Inv (t + e) (serving m c) q went
+    inv-work e i = record { token = omega arith; queue = in-time-sooner (omega arith) (i .queue) }
 
-    inv-travel : {t m d : ℕ} {q : Queues} {came : List Request} {went : List Answer} (e : ℕ)
-        → Inv t (toward m (e + d)) q came went → Inv (t + e) (toward m d) q came went
-    inv-travel e i = inv-on i (omega arith) (in-time-sooner (omega arith) (i .queue))
-
-    inv-work : {t m c : ℕ} {q : Queues} {came : List Request} {went : List Answer} (e : ℕ)
-        → Inv t (serving m (e + c)) q came went → Inv (t + e) (serving m c) q came went
-    inv-work e i = inv-on i (omega arith) (in-time-sooner (omega arith) (i .queue))
-
-    inv-skip : {t m d : ℕ} {q : Queues} {came : List Request} {went : List Answer} (e : ℕ) → Inv t (toward m 0) q came went
-        → q m ≡ [] → e + d ≤ 10 → Inv (t + e) (toward (next (S .masters) m) d) q came went
-    inv-skip {t} {m} {d} {q} {came} e i p s = inv-on i (n .0, n .1, omega arith) (go (ℕ-discrete m k))
+    inv-skip : {t m d : ℕ} {q : Queues} {went : List Answer} (e : ℕ) → Inv t (toward m 0) q went → q m ≡ [] → e + d ≤ 10
+        → Inv (t + e) (toward (next (S .masters) m) d) q went
+    inv-skip {t} {m} {d} {q} {went} e i p s = record { token = omega (arith, next-in (i .token .1)); queue = queue′ (ℕ-discrete m k) }
       where
-        n : (1 ≤ next (S .masters) m) × (next (S .masters) m ≤ S .masters)
-        n = next-in (i .token .1)
+        queue′ : Dec (m ≡ k) → Queue (t + e) (toward (next (S .masters) m) d) (q k) went
+        queue′ (yes z) = rw (← z, p) none
+        queue′ (no z) = in-time-sooner (omega (arith, gap-next h (S .masters) k 1≤k k≤n m (i .token .1) z, cover .unused m (i .token .0) (i .token .1))) (i .queue)
 
-        go : Dec (m ≡ k) → Queue came (t + e + toll (toward (next (S .masters) m) d)) (q k)
-        go (yes z) = rw (← z, p) none
-        go (no z) = in-time-sooner (omega (arith, gap-next h (S .masters) k 1≤k k≤n m (i .token .1) z, cover .unused m (i .token .0) (i .token .1))) (i .queue)
-
-    inv-serve : {t m c : ℕ} {q : Queues} {r : Request} {rest came : List Request} {went : List Answer} (e : ℕ)
-        → Inv t (toward m 0) q came went → q m ≡ r ∷ rest → e + c ≤ 7 + S .stream (r .of) .cycle → Inv (t + e) (serving m c) q came went
-    inv-serve {t} {m} {c} {q} {r} e i p s =
-        inv-on i (i .token .0, i .token .1, omega (arith, most)) (in-time-sooner (omega (arith, most)) (i .queue))
-      where
-        most : 7 + (S .stream (r .of) .cycle + 40) ≤ h m
-        most = omega (arith, cover .used m (r .of) (i .owned m r (rw p (List·Memᴰ·head refl))))
+    -- here the toll may grow, and what is allowed grows with it
+    inv-serve : {t m c i : ℕ} {q : Queues} {went : List Answer} (e : ℕ)
+        → Inv t (toward m 0) q went → Belongs S m i → e + c ≤ 7 + S .stream i .cycle → Inv (t + e) (serving m c) q went
+    inv-serve {m = m} {i = i} e I own s =
+        let most = cover .used m i own in
+        record {
+          token = (I .token .0, I .token .1, omega arith);
+          queue = in-time-by (x m) (λ p j. omega arith) (omega arith) (I .queue);
+        }
 
     -- ---- A completion
 
-    inv-complete : {t m d : ℕ} {q : Queues} {r : Request} {rest came : List Request} {went : List Answer}
-        → Inv t (serving m 0) q came went → q m ≡ r ∷ rest → d ≤ 40
-        → Inv t (toward (next (S .masters) m) d) (put q m rest) came (answer r t ∷ went)
+    -- what was under way is spent, for all that wait
+    inv-complete : {t m d : ℕ} {q : Queues} {r : Request} {rest : List Request} {went : List Answer} → Inv t (serving m 0) q went → q m ≡ r ∷ rest
+        → Belongs S m (r .of) → ((p : Request) → List·Memᴰ p (q k) → p .since ≤ t) → d ≤ 40
+        → Inv t (toward (next (S .masters) m) d) (put q m rest) (answer r t ∷ went)
     unfolding turnBy
-    inv-complete {t} {m} {d} {q} {r} {rest} {came} {went} i p b = record {
-      token = omega (arith, next-in (i .token .1));
-      owned = owned-complete S (i .owned) p;
-      queue = queue′ (ℕ-discrete m k);
-      done = λ a j o. ⊎-elim (λ (c : a ≡ answer r t). rw c (now (rw c at o))) (λ (c : List·Memᴰ a went). i .done a c o) (List·Memᴰ·cases-cons j);
-      every = λ s j o. ⊎-elim (λ (c : List·Memᴰ s (q k)). still s c (ℕ-discrete m k)) (λ (c : (u : ℕ) × List·Memᴰ (answer s u) went). inr (c .0, List·Memᴰ·tail (c .1))) (i .every s j o);
-    }
+    inv-complete {t} {m} {d} {q} {r} {rest} {went} i p own before b = record { token = omega (arith, next-in (i .token .1)); queue = queue′ (ℕ-discrete m k) }
       where
-        own : Belongs S m (r .of)
-        own = i .owned m r (rw p (List·Memᴰ·head refl))
+        paid : Queue t (serving m 0) (q k) went → InTime (turnBy h S) (allowed (toward m 0) (answer r t ∷ went)) (t + toll (serving m 0)) (q k)
+        paid g = in-time-by 0 (λ s j. omega (arith, spent-now x r went own (before s j))) (omega arith) g
 
-        here : m ≡ k → q k ≡ r ∷ rest
-        here e = rw (← e) p
-
-        now : Belongs S k (r .of) → t ≤ r .since + boundBy h S k
-        now o = omega (arith, in-time-each {r = r} (i .queue) (rw (here (sym (own .own) ∙ o .own)) (List·Memᴰ·head refl)))
-
-        still : (s : Request) → List·Memᴰ s (q k) → Dec (m ≡ k) → List·Memᴰ s (put q m rest k) ⊎ ((u : ℕ) × List·Memᴰ (answer s u) (answer r t ∷ went))
-        still s j (yes e) =
-            ⊎-elim (λ (c : s ≡ r). inr (t, List·Memᴰ·head (rw c))) (λ (c : List·Memᴰ s rest). inl (rw (e, put-same q k rest) c))
-            (List·Memᴰ·cases-cons (rw (here e) at j))
-        still s j (no e) = inl (rw (put-other q m rest k (λ z. e (sym z))) j)
-
-        queue′ : Dec (m ≡ k) → Queue came (t + toll (toward (next (S .masters) m) d)) (put q m rest k)
-        queue′ (yes e) = rw (e, put-same q k rest) (in-time-sooner (omega (arith, gap-lap h (S .masters) k 1≤k k≤n)) (in-time-rest (rw (here e) at (i .queue))))
-        queue′ (no e) = rw (put-other q m rest k (λ z. e (sym z))) (in-time-sooner (omega (arith, gap-next h (S .masters) k 1≤k k≤n m (i .token .1) e)) (i .queue))
+        queue′ : Dec (m ≡ k) → Queue t (toward (next (S .masters) m) d) (put q m rest k) (answer r t ∷ went)
+        queue′ (yes e) =
+            let here : q k ≡ r ∷ rest = rw (← e) p in
+            rw (e, put-same q k rest) (in-time-sooner (omega (arith, gap-lap h (S .masters) k 1≤k k≤n)) (in-time-rest (rw (here, e) at (paid (i .queue)))))
+        queue′ (no e) =
+            rw (put-other q m rest k (λ z. e (sym z))) (in-time-sooner (omega (arith, gap-next h (S .masters) k 1≤k k≤n m (i .token .1) e)) (paid (i .queue)))
 
     -- ---- An arrival
 
-    toll-most : (y : Token) → Sane y → toll y ≤ turnBy h S + 40
+    toll-most : (y : Token) → Sane y → toll y ≤ turnBy h S + 40 + underWay x y
     unfolding turnBy
     toll-most (toward m d) o = omega (arith, gap-most h (S .masters) k 1≤k k≤n m (o .0) (o .1))
     toll-most (serving m c) o = omega (arith, gap-most h (S .masters) k 1≤k k≤n m (o .0) (o .1))
 
     -- where k finds room, the request will be answered in time
-    in-time-arrive : {t i : ℕ} {y : Token} {q : Queues} {came : List Request} {went : List Answer} → Inv t y q came went
-        → Absent i (q k) → suc (length (q k)) ≤ count S k → Queue (request i t ∷ came) (t + toll y) (q k ++ (request i t ∷ []))
+    inv-arrive : {t m i : ℕ} {y : Token} {q : Queues} {went : List Answer} → Inv t y q went → (m ≡ k → Room S k i q) → Inv t y (join q m (request i t)) went
     unfolding boundBy
-    in-time-arrive {t} {i} {y} I a room =
-        in-time-snoc (List·Memᴰ·head refl) a (omega (arith, toll-most y (I .token), mul-le-mul-right (turnBy h S) room)) (in-time-more (request i t) (I .queue))
-
-    inv-arrive : {t m i : ℕ} {y : Token} {q : Queues} {came : List Request} {went : List Answer} → Inv t y q came went → Belongs S m i
-        → (m ≡ k → Absent i (q k) × (suc (length (q k)) ≤ count S k)) → Inv t y (join q m (request i t)) (request i t ∷ came) went
-    inv-arrive {t} {m} {i} {y} {q} {came} {went} I d room = record {
-      token = I .token;
-      owned = owned-arrive S r (I .owned) d;
-      queue = queue′ (ℕ-discrete m k);
-      done = I .done;
-      every = λ p j o. ⊎-elim
-          (λ (c : p ≡ r). let e : m ≡ k = sym (d .own) ∙ rw c at (o .own) in inl (rw (e, put-same q k (q k ++ (r ∷ [])), c) (Memᴰ·append-right (q k) (List·Memᴰ·head refl))))
-          (λ (c : List·Memᴰ p came). ⊎-elim (λ (j′ : List·Memᴰ p (q k)). inl (still p j′ (ℕ-discrete m k))) (λ j′. inr j′) (I .every p c o))
-          (List·Memᴰ·cases-cons j);
-    }
+    inv-arrive {t} {m} {i} {y} {q} {went} I room = record { token = I .token; queue = queue′ (ℕ-discrete m k) }
       where
         r : Request
         r = request i t
 
-        still : (p : Request) → List·Memᴰ p (q k) → Dec (m ≡ k) → List·Memᴰ p (join q m r k)
-        still p j (yes e) = rw (e, put-same q k (q k ++ (r ∷ []))) (Memᴰ·append-left (r ∷ []) j)
-        still p j (no e) = rw (put-other q m (q m ++ (r ∷ [])) k (λ z. e (sym z))) j
+        queue′ : Dec (m ≡ k) → Queue t y (join q m r k) went
+        queue′ (yes e) =
+            rw (e, put-same q k (q k ++ (r ∷ [])))
+            (in-time-snoc r (room e .0) (omega (arith, toll-most y (I .token), mul-le-mul-right (turnBy h S) (room e .1))) (I .queue))
+        queue′ (no e) = rw (put-other q m (q m ++ (r ∷ [])) k (λ z. e (sym z))) (I .queue)
 
-        queue′ : Dec (m ≡ k) → Queue (r ∷ came) (t + toll y) (join q m r k)
-        queue′ (yes e) = rw (e, put-same q k (q k ++ (r ∷ []))) (in-time-arrive I (room e .0) (room e .1))
-        queue′ (no e) = rw (put-other q m (q m ++ (r ∷ [])) k (λ z. e (sym z))) (in-time-more r (I .queue))
+    -- ---- Every run with room
+
+    inv : {t : ℕ} {y : Token} {q : Queues} {came : List Request} {went : List Answer} (z : Run S t y q came went) → Roomy S k z → Inv t y q went
+    unfolding Roomy
+    inv (start a b c) s = record { token = omega arith; queue = none }
+    inv (complete {m = m} {r = r} z p) s = inv-complete (inv z s) p (owned z m r (rw p (List·Memᴰ·head refl))) (queue-past z k) (omega arith)
+    inv (arrive z o d) s = inv-arrive (inv z (s .1)) (s .0)
+    inv (travel e z) s = inv-travel e (inv z s)
+    inv (work e z) s = inv-work e (inv z s)
+    inv (serve {m = m} {r = r} e u v z p a b c d f g) s = inv-serve e (inv z s) (owned z m r (rw p (List·Memᴰ·head refl))) (omega arith)
+    inv (skip e z p a b) s = inv-skip e (inv z s) p (omega arith)
 
     -- ---- What waits is not late
-
-    long : (i : ℕ) → Belongs S k i → 40 < h k
-    long i d = omega (arith, cover .used k i d)
 
     toll-some : (y : Token) → Sane y → 40 < h k → 40 ≤ toll y
     toll-some (toward m d) o b = omega (arith, gap-least h (S .masters) k 1≤k k≤n m (o .1))
@@ -231,62 +233,103 @@ module _ (S : Segment) (h : ℕ → ℕ) (k : ℕ) (1≤k : 1 ≤ k) (k≤n : k 
     toll-settled o (on-way {m = m}) b = omega (arith, gap-least h (S .masters) k 1≤k k≤n m (o .1))
     toll-settled o at-work b = omega arith
 
-    waits : {t : ℕ} {y : Token} {q : Queues} {came : List Request} {went : List Answer} → Inv t y q came went → (r : Request) → List·Memᴰ r (q k)
-        → (t ≤ r .since + boundBy h S k) × (Settled y → t < r .since + boundBy h S k)
-    waits {t} {y} I r j =
+    waits : {t : ℕ} {y : Token} {q : Queues} {went : List Answer} → 40 < h k → Inv t y q went → (r : Request) → List·Memᴰ r (q k)
+        → (t ≤ r .since + (boundBy h S k + (underWay x y + spent x S (r .since) went)))
+        × (Settled y → t < r .since + (boundBy h S k + (underWay x y + spent x S (r .since) went)))
+    waits {y = y} b I r j =
         let g = in-time-each (I .queue) j in
-        let b = long (r .of) (I .owned k r j) in
         (omega (arith, toll-some y (I .token) b), λ s. omega (arith, toll-settled (I .token) s b))
 
-    -- ---- Every run
+-- ---- The bound
 
-    module _ (least : ℕ → ℕ) (fits : (i : ℕ) → Belongs S k i → boundBy h S k ≤ least i) where
-      abbrev KeptApart : List Request → Type 0
-      KeptApart came = (i : ℕ) → Belongs S k i → Apart (least i) i came
+module _ (S : Segment) (h : ℕ → ℕ) (k : ℕ) (1≤k : 1 ≤ k) (k≤n : k ≤ S .masters) (cover : Covers h free S)
+    (least : ℕ → ℕ) (fits : (i : ℕ) → Belongs S k i → boundBy h S k ≤ least i) where
+  abbrev KeptApart : List Request → Type 0
+  KeptApart came = (i : ℕ) → Belongs S k i → Apart (least i) i came
 
-      -- nothing of stream i waits when its next request arrives
-      alone : {t i : ℕ} {y : Token} {q : Queues} {came : List Request} {went : List Answer} → Inv t y q came went → Settled y → Belongs S k i
-          → ((a : ℕ) → List·Memᴰ (request i a) came → a + least i ≤ t) → (r : Request) → List·Memᴰ r (q k) → i ≢ r .of
-      alone {i = i} I s d before r j e =
-          omega (arith, fits i d, waits I r j .1 s, before (r .since) (rw e (in-time-each {r = r} (I .queue) j .1)))
+  -- what holds with no surcharge
+  plain : {t : ℕ} {y : Token} {q : Queues} {came : List Request} {went : List Answer} (z : Run S t y q came went) → Roomy S k z → Inv S h free k 1≤k k≤n t y q went
+  plain z s = inv S h free k 1≤k k≤n cover z s
 
-      room : {t i : ℕ} {y : Token} {q : Queues} {came : List Request} {went : List Answer} → Inv t y q came went → Settled y → Belongs S k i
-          → ((a : ℕ) → List·Memᴰ (request i a) came → a + least i ≤ t) → Absent i (q k) × (suc (length (q k)) ≤ count S k)
-      room {i = i} {q = q} I s d before =
-          let f = alone I s d before in
-          (absent-if i (q k) f, room-for S k i d (I .queue) (λ r j. I .owned k r j) f)
+  not-late : {t : ℕ} {y : Token} {q : Queues} {came : List Request} {went : List Answer} (z : Run S t y q came went) → Roomy S k z
+      → (r : Request) → List·Memᴰ r (q k) → (t ≤ r .since + boundBy h S k) × (Settled y → t < r .since + boundBy h S k)
+  not-late {y = y} {went = went} z s r j =
+      let long : 40 < h k = omega (arith, cover .used k (r .of) (owned z k r j)) in
+      let w = waits S h free k 1≤k k≤n cover long (plain z s) r j in
+      let none : underWay free y + spent free S (r .since) went ≡ 0 = omega (arith, underWay-free y, spent-free S (r .since) went) in
+      (omega arith, λ o. omega (arith, w .1 o))
 
-      inv : {t : ℕ} {y : Token} {q : Queues} {came : List Request} {went : List Answer} → Run S t y q came went → KeptApart came → Inv t y q came went
-      inv (start {m = m} {d = d} a b c) s = inv-start {m = m} {d = d} a b (omega arith)
-      inv (complete z p) s = inv-complete (inv z s) p (omega arith)
-      inv (arrive {i = i} z o d) s = let I = inv z (λ j e. apart-before (s j e)) in inv-arrive I d (λ e. room I o (rw e at d) (apart-latest (s i (rw e at d)) refl))
-      inv (travel e z) s = inv-travel e (inv z s)
-      inv (work e z) s = inv-work e (inv z s)
-      inv (serve e x c z p a b d f g o) s = inv-serve e (inv z s) p (omega arith)
-      inv (skip e z p a b) s = inv-skip e (inv z s) p (omega arith)
+  -- nothing of stream i waits when its next request arrives, so there is room
+  alone : {t i : ℕ} {y : Token} {q : Queues} {came : List Request} {went : List Answer} (z : Run S t y q came went) → Roomy S k z → Settled y
+      → Belongs S k i → KeptApart (request i t ∷ came) → (r : Request) → List·Memᴰ r (q k) → i ≢ r .of
+  alone {i = i} z s o d apart r j e =
+      omega (arith, fits i d, not-late z s r j .1 o, apart-latest (apart i d) refl (r .since) (rw e (queue-came z k r j)))
 
-      not-after : {t : ℕ} {y : Token} {q : Queues} {came : List Request} {went : List Answer} → Inv t y q came went → (r : Request) → List·Memᴰ r (q k)
-          → Lasts t y (r .since + boundBy h S k) → ⊥
-      not-after I r j (past l) = omega (arith, waits I r j .0)
-      not-after I r j (at-it e s) = omega (arith, waits I r j .1 s)
+  room : {t i : ℕ} {y : Token} {q : Queues} {came : List Request} {went : List Answer} (z : Run S t y q came went) → Roomy S k z → Settled y
+      → Belongs S k i → KeptApart (request i t ∷ came) → Room S k i q
+  room {i = i} {q = q} z s o d apart =
+      let f = alone z s o d apart in
+      (absent-if i (q k) f, room-for S k i d (plain z s .queue) (owned z k) f)
 
-      pub answered-by : {t : ℕ} {y : Token} {q : Queues} {came : List Request} {went : List Answer}
-          → Run S t y q came went → KeptApart came → Answered (boundBy h S k) S k t y came went
-      answered-by {q = q} {went = went} z s =
-          let I = inv z s in
-          record {
-            in-time = λ a j o. omega (arith, I .done a j o);
-            none-left = λ r j o l. ⊎-elim (λ (c : List·Memᴰ r (q k)). absurd (not-after I r c l)) (λ (c : (u : ℕ) × List·Memᴰ (answer r u) went). c) (I .every r j o);
-          }
+  roomy : {t : ℕ} {y : Token} {q : Queues} {came : List Request} {went : List Answer} (z : Run S t y q came went) → KeptApart came → Roomy S k z
+  unfolding Roomy
+  roomy (start a b c) apart = tt
+  roomy (complete z p) apart = roomy z apart
+  roomy (arrive z o d) apart = let s = roomy z (λ j e. apart-before (apart j e)) in (λ e. room z s o (rw e at d) apart, s)
+  roomy (travel e z) apart = roomy z apart
+  roomy (work e z) apart = roomy z apart
+  roomy (serve e u v z p a b c d f g) apart = roomy z apart
+  roomy (skip e z p a b) apart = roomy z apart
 
-      -- ---- What waits in k's queue
+  pub queued-by : {t : ℕ} {y : Token} {q : Queues} {came : List Request} {went : List Answer} → Run S t y q came went → KeptApart came
+      → (r : Request) → List·Memᴰ r (q k) → t ≤ r .since + boundBy h S k
+  queued-by z apart r j = not-late z (roomy z apart) r j .0
 
-      -- the first is of another stream than each behind it
-      pub first-differs : {t : ℕ} {y : Token} {q : Queues} {r p : Request} {rest came : List Request} {went : List Answer}
-          → Run S t y q came went → KeptApart came → q k ≡ r ∷ rest → List·Memᴰ p rest → r .of ≢ p .of
-      first-differs z s e j = in-time-differs (rw e at (inv z s .queue)) j
+  -- what was answered waited when it was
+  answers-in-time : {t : ℕ} {y : Token} {q : Queues} {came : List Request} {went : List Answer} → Run S t y q came went → KeptApart came
+      → (a : Answer) → List·Memᴰ a went → Belongs S k (a .to .of) → a .at ≤ a .to .since + boundBy h S k
+  answers-in-time (start a b c) apart w j own = absurd (List·Memᴰ·not-nil j)
+  answers-in-time (complete {t = t} {m = m} {q = q} {r = r} {rest = rest} {went = went} z p) apart w j own =
+      ⊎-elim (λ (c : w ≡ answer r t). rw c (queued-by z apart r (here (rw c at own)))) (λ (c : List·Memᴰ w went). answers-in-time z apart w c own) (List·Memᴰ·cases-cons j)
+    where
+      here : Belongs S k (r .of) → List·Memᴰ r (q k)
+      here o =
+          let e : m ≡ k = sym (owned z m r (rw p (List·Memᴰ·head refl)) .own) ∙ o .own in
+          rw (← e, p) (List·Memᴰ·head refl)
+  answers-in-time (arrive z o d) apart w j own = answers-in-time z (λ i e. apart-before (apart i e)) w j own
+  answers-in-time (travel e z) apart w j own = answers-in-time z apart w j own
+  answers-in-time (work e z) apart w j own = answers-in-time z apart w j own
+  answers-in-time (serve e u v z p a b c d f g) apart w j own = answers-in-time z apart w j own
+  answers-in-time (skip e z p a b) apart w j own = answers-in-time z apart w j own
 
-      -- none is of the stream whose request arrives
-      pub none-waits : {t i : ℕ} {y : Token} {q : Queues} {came : List Request} {went : List Answer} → Run S t y q came went → Settled y → Belongs S k i
-          → KeptApart (request i t ∷ came) → (r : Request) → List·Memᴰ r (q k) → i ≢ r .of
-      none-waits {i = i} z o d s = alone (inv z (λ j e. apart-before (s j e))) o d (apart-latest (s i d) refl)
+  not-after : {t : ℕ} {y : Token} {q : Queues} {came : List Request} {went : List Answer} → Run S t y q came went → KeptApart came
+      → (r : Request) → List·Memᴰ r (q k) → Lasts t y (r .since + boundBy h S k) → ⊥
+  not-after z apart r j (past l) = omega (arith, not-late z (roomy z apart) r j .0)
+  not-after z apart r j (at-it e s) = omega (arith, not-late z (roomy z apart) r j .1 s)
+
+  pub answered-by : {t : ℕ} {y : Token} {q : Queues} {came : List Request} {went : List Answer}
+      → Run S t y q came went → KeptApart came → Answered (boundBy h S k) S k t y came went
+  answered-by {q = q} {went = went} z apart = record {
+    in-time = λ a j o. omega (arith, answers-in-time z apart a j o);
+    none-left = λ r j o l. ⊎-elim (λ (c : List·Memᴰ r (q k)). absurd (not-after z apart r c l)) (λ (c : (u : ℕ) × List·Memᴰ (answer r u) went). c) (came-kept z k r j o);
+  }
+
+  -- ---- What waits in k's queue
+
+  -- the first is of another stream than each behind it
+  pub first-differs : {t : ℕ} {y : Token} {q : Queues} {r p : Request} {rest came : List Request} {went : List Answer}
+      → Run S t y q came went → KeptApart came → q k ≡ r ∷ rest → List·Memᴰ p rest → r .of ≢ p .of
+  first-differs z apart e j = in-time-differs (rw e at (plain z (roomy z apart) .queue)) j
+
+  -- none is of the stream whose request arrives
+  pub none-waits : {t i : ℕ} {y : Token} {q : Queues} {came : List Request} {went : List Answer} → Run S t y q came went → Settled y → Belongs S k i
+      → KeptApart (request i t ∷ came) → (r : Request) → List·Memᴰ r (q k) → i ≢ r .of
+  none-waits z o d apart = alone z (roomy z (λ j e. apart-before (apart j e))) o d apart
+
+  -- ---- The bound by another charge, with a surcharge for each used visit
+
+  pub credit-by : (g x : ℕ → ℕ) → Covers g x S → 40 < g k
+      → {t : ℕ} {y : Token} {q : Queues} {came : List Request} {went : List Answer} → Run S t y q came went → KeptApart came → (r : Request) → List·Memᴰ r (q k)
+      → (t ≤ r .since + (boundBy g S k + (underWay x y + spent x S (r .since) went)))
+      × (Settled y → t < r .since + (boundBy g S k + (underWay x y + spent x S (r .since) went)))
+  credit-by g x c long z apart r j = waits S g x k 1≤k k≤n c long (inv S g x k 1≤k k≤n c z (roomy z apart)) r j

@@ -5,7 +5,7 @@
 use Prim.Native.Nat.{ℕ, zero, suc, _+_, _-_, _*_, _≤_, _<_}
 use mathlib.Core.Path.{_≡_, refl, ap, sym, _∙_, subst}
 use mathlib.Core.Logic.{_≢_, ⊎-elim}
-use mathlib.Core.List.{List, [], _∷_, List·Memᴰ, List·Memᴰ·head, List·Memᴰ·tail, Memᴰ·of-map}
+use mathlib.Core.List.{List, [], _∷_, List·Memᴰ, List·Memᴰ·head, Memᴰ·of-map}
 use native.Mathlib.Nat.{le-refl}
 use native.Mathlib.Decide.{ℕ-discrete, decLe}
 use native.Mathlib.Omega.{arith}
@@ -32,7 +32,7 @@ use Rattle.pnet_run.specs.Run.{
   skip,
 }
 use Rattle.pnet_run.specs.Promise.{Reached, Even}
-use Rattle.pnet_run.proofs.Queues.{put-same, put-other, put-cases, owned}
+use Rattle.pnet_run.proofs.Queues.{put-same, put-other, put-rest, owned}
 use Rattle.pnet_run.proofs.Ring.{next-in-ring, gap, gap-own, gap-next, gap-lap, gap-most, gap-apart}
 use Rattle.pnet_run.proofs.Charges.{some-cycle, hold-alike}
 use Rattle.pnet_run.proofs.Picked.{picked, length-picked}
@@ -114,7 +114,7 @@ module _ (S : Segment) (k : ℕ) (1≤k : 1 ≤ k) (k≤n : k ≤ S .masters) (d
     queues = put (g .queues) m rest;
     run = slowest (g .run) p (some-cycle declared own);
     left = λ y lo hi some. at y lo hi some (ℕ-discrete y m);
-    fresh = λ y s i. ⊎-elim (λ (c : (y ≡ m) × List·Memᴰ s rest). g .fresh m s (rw p (List·Memᴰ·tail (c .1)))) (λ (c : List·Memᴰ s (g .queues y)). g .fresh y s c) (put-cases (g .queues) m y rest i);
+    fresh = λ y s i. g .fresh y s (put-rest (g .queues) m y p i);
   }
     where
       own : Belongs S m (r .of)

@@ -1,4 +1,5 @@
 pub mod Queues
+pub mod Past
 pub mod Ring
 pub mod Charges
 pub mod Shares

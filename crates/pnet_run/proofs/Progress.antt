@@ -10,12 +10,12 @@ use Rattle.pnet_run.proofs.Queues.{put-same, put-other, owned}
 
 -- ---- A master that serves has a request to serve
 
-record Some (q : Queues) (m : ℕ) : Type 0 where
-  oldest : Request
-  rest : List Request
-  is : q m ≡ oldest ∷ rest
+pub record Some (q : Queues) (m : ℕ) : Type 0 where
+  pub oldest : Request
+  pub rest : List Request
+  pub is : q m ≡ oldest ∷ rest
 
-abbrev Serves : Token → Queues → Type 0
+abbrev pub Serves : Token → Queues → Type 0
 Serves (toward m d) q = Unit {0}
 Serves (serving m c) q = Some q m
 
@@ -30,7 +30,7 @@ serves-join : (y : Token) (q : Queues) (o : ℕ) (r : Request) → Serves y q �
 serves-join (toward m d) q o r s = tt
 serves-join (serving m c) q o r s = some-join q m o r s
 
-serves : {S : Segment} {t : ℕ} {y : Token} {q : Queues} {came : List Request} {went : List Answer} → Run S t y q came went → Serves y q
+pub serves : {S : Segment} {t : ℕ} {y : Token} {q : Queues} {came : List Request} {went : List Answer} → Run S t y q came went → Serves y q
 serves (start a b c) = tt
 serves (complete z p) = tt
 serves (arrive {t = t} {m = m} {i = i} {y = y} {q = q} z o d) = serves-join y q m (request i t) (serves z)

@@ -3,7 +3,7 @@ use Prim.Native.Nat.{ℕ, suc, _+_, _*_, _≤_, zero-le}
 use mathlib.Core.Path.{_≡_, refl, ap, sym, _∙_}
 use mathlib.Core.Bool.{cond}
 use mathlib.Core.Logic.{_≢_, ⊎-elim}
-use mathlib.Core.List.{List, [], _∷_, _++_, List·Memᴰ, List·Memᴰ·head, List·Memᴰ·tail, List·Memᴰ·not-nil, List·Memᴰ·cases-cons, Memᴰ·cast}
+use mathlib.Core.List.{List, [], _∷_, _++_, List·Memᴰ, List·Memᴰ·head, List·Memᴰ·tail, List·Memᴰ·not-nil, List·Memᴰ·cases-cons}
 use native.Mathlib.Omega.{arith}
 use lib.Dec.{eqb}
 use lib.ListN.{length}
@@ -36,38 +36,40 @@ absent-snoc r (and m a) n = and m (absent-snoc r a n)
 
 -- ---- In time
 
--- requests that arrived, of different streams; the first is answered, and the token passed on, by the instant x at the latest, each
--- other one a turn of the token later than the one before it; and each within R of its arrival, with 40 bp for the pass
-pub data InTime (turn R : ℕ) (came : List Request) : ℕ → List Request → Type 0 where
-  none : {x : ℕ} → InTime turn R came x []
-  and : {x : ℕ} {r : Request} {l : List Request} → x ≤ r .since + (R + 40) → List·Memᴰ r came → Absent (r .of) l
-      → InTime turn R came (x + turn) l → InTime turn R came x (r ∷ l)
+-- requests of different streams: the first is answered, and the token passed on, by the instant x at the latest, each other one a turn
+-- of the token later than the one before it; and each within what is allowed to one of its arrival
+pub data InTime (turn : ℕ) (allowed : ℕ → ℕ) : ℕ → List Request → Type 0 where
+  none : {x : ℕ} → InTime turn allowed x []
+  and : {x : ℕ} {r : Request} {l : List Request} → x ≤ r .since + allowed (r .since) → Absent (r .of) l
+      → InTime turn allowed (x + turn) l → InTime turn allowed x (r ∷ l)
 
-module _ {turn R : ℕ} {came : List Request} where
-  pub in-time-sooner : {x y : ℕ} {l : List Request} → y ≤ x → InTime turn R came x l → InTime turn R came y l
-  in-time-sooner b none = none
-  in-time-sooner {y = y} b (and {r = r} o c a g) = and {x = y} {r = r} (omega arith) c a (in-time-sooner (omega arith) g)
+-- x may grow by what the allowance of each grows by
+pub in-time-by : {turn : ℕ} {from to : ℕ → ℕ} {x y : ℕ} {l : List Request} (d : ℕ)
+    → ((r : Request) → List·Memᴰ r l → from (r .since) + d ≤ to (r .since)) → y ≤ x + d → InTime turn from x l → InTime turn to y l
+in-time-by d more b none = none
+in-time-by {y = y} d more b (and {r = r} o a g) =
+    and {x = y} {r = r} (omega (arith, more r (List·Memᴰ·head refl))) a (in-time-by d (λ s j. more s (List·Memᴰ·tail j)) (omega arith) g)
 
-  pub in-time-rest : {x : ℕ} {r : Request} {l : List Request} → InTime turn R came x (r ∷ l) → InTime turn R came (x + turn) l
-  in-time-rest (and o c a g) = g
+module _ {turn : ℕ} {allowed : ℕ → ℕ} where
+  pub in-time-sooner : {x y : ℕ} {l : List Request} → y ≤ x → InTime turn allowed x l → InTime turn allowed y l
+  in-time-sooner b g = in-time-by 0 (λ r j. omega arith) (omega arith) g
 
-  pub in-time-differs : {x : ℕ} {r s : Request} {l : List Request} → InTime turn R came x (r ∷ l) → List·Memᴰ s l → r .of ≢ s .of
-  in-time-differs (and o c a g) = absent-then a
+  pub in-time-rest : {x : ℕ} {r : Request} {l : List Request} → InTime turn allowed x (r ∷ l) → InTime turn allowed (x + turn) l
+  in-time-rest (and o a g) = g
 
-  pub in-time-each : {x : ℕ} {l : List Request} {r : Request} → InTime turn R came x l → List·Memᴰ r l → (x ≤ r .since + (R + 40)) × List·Memᴰ r came
+  pub in-time-differs : {x : ℕ} {r s : Request} {l : List Request} → InTime turn allowed x (r ∷ l) → List·Memᴰ s l → r .of ≢ s .of
+  in-time-differs (and o a g) = absent-then a
+
+  pub in-time-each : {x : ℕ} {l : List Request} {r : Request} → InTime turn allowed x l → List·Memᴰ r l → x ≤ r .since + allowed (r .since)
   in-time-each none j = absurd (List·Memᴰ·not-nil j)
-  in-time-each {x} {l} {r} (and {r = s} {l = l′} o c a g) j =
-      ⊎-elim (λ (e : r ≡ s). (rw e o, Memᴰ·cast e c)) (λ (j′ : List·Memᴰ r l′). let i = in-time-each g j′ in (omega arith, i .1)) (List·Memᴰ·cases-cons j)
-
-  pub in-time-more : {x : ℕ} {l : List Request} (r : Request) → InTime turn R came x l → InTime turn R (r ∷ came) x l
-  in-time-more r none = none
-  in-time-more r (and o c a g) = and o (List·Memᴰ·tail c) a (in-time-more r g)
+  in-time-each {x} {l} {r} (and {r = s} {l = l′} o a g) j =
+      ⊎-elim (λ (e : r ≡ s). rw e o) (λ (j′ : List·Memᴰ r l′). omega (arith, in-time-each g j′)) (List·Memᴰ·cases-cons j)
 
   -- one more, behind the last
-  pub in-time-snoc : {x : ℕ} {l : List Request} {r : Request} → List·Memᴰ r came → Absent (r .of) l
-      → x + length l * turn ≤ r .since + (R + 40) → InTime turn R came x l → InTime turn R came x (l ++ (r ∷ []))
-  in-time-snoc {x = x} {r = r} c none b none = and {x = x} {r = r} (omega arith) c none none
-  in-time-snoc {r = r} c (and n m) b (and o d a g) = and o d (absent-snoc r a (λ e. n (sym e))) (in-time-snoc c m (omega arith) g)
+  pub in-time-snoc : {x : ℕ} {l : List Request} (r : Request) → Absent (r .of) l → x + length l * turn ≤ r .since + allowed (r .since)
+      → InTime turn allowed x l → InTime turn allowed x (l ++ (r ∷ []))
+  in-time-snoc {x = x} r none b none = and {x = x} {r = r} (omega arith) none none
+  in-time-snoc r (and n m) b (and o a g) = and o (absent-snoc r a (λ e. n (sym e))) (in-time-snoc r m (omega arith) g)
 
 -- ---- As many requests as streams at most
 
@@ -87,10 +89,10 @@ upto-without : (f : ℕ → ℕ) (n m : ℕ) → 1 ≤ m → m ≤ n → upto f 
 upto-without f n m a b = omega (arith, upto-but-one f (without f m) n m a b (λ y z. sym (without-other f m y z)), without-same f m)
 
 -- where f counts each stream that is in the queue, the queue is no longer than the sum of f
-fewer : {turn R x : ℕ} {came l : List Request} (f : ℕ → ℕ) (n : ℕ) → InTime turn R came x l
+fewer : {turn x : ℕ} {allowed : ℕ → ℕ} {l : List Request} (f : ℕ → ℕ) (n : ℕ) → InTime turn allowed x l
     → ((r : Request) → List·Memᴰ r l → (1 ≤ r .of) × (r .of ≤ n) × (1 ≤ f (r .of))) → length l ≤ upto f n
 fewer f n none c = zero-le
-fewer f n (and {r = r} o i a g) c =
+fewer f n (and {r = r} o a g) c =
     let z = c r (List·Memᴰ·head refl) in
     omega (
       arith,
@@ -99,7 +101,7 @@ fewer f n (and {r = r} o i a g) c =
     )
 
 -- a queue of k's streams that lacks stream i of k is shorter than k has streams
-pub room-for : {turn R x : ℕ} {came l : List Request} (S : Segment) (k i : ℕ) → Belongs S k i → InTime turn R came x l
+pub room-for : {turn x : ℕ} {allowed : ℕ → ℕ} {l : List Request} (S : Segment) (k i : ℕ) → Belongs S k i → InTime turn allowed x l
     → ((r : Request) → List·Memᴰ r l → Belongs S k (r .of)) → ((r : Request) → List·Memᴰ r l → i ≢ r .of) → suc (length l) ≤ count S k
 unfolding count
 room-for S k i d g own other =
