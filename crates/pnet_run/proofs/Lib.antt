@@ -13,6 +13,7 @@ pub mod Picked
 pub mod Slowest
 pub mod Exact
 pub mod Progress
+pub mod Refined
 pub mod Literal
 pub mod Demand
 pub mod TwoMasters

@@ -221,9 +221,9 @@ module _ (S : Segment) (declared : Declared S) (h : ℕ → ℕ) (cover : Covers
         calm-new {t} (toward m d) z s = omega (arith, spent-enough z s t (omega (arith, not-zero)))
         calm-new {t} (serving m c) z s = served-enough z s (serves z .is) t (le-refl t) (omega (arith, not-zero))
 
-        calm-arrive : {t m i : ℕ} {y : Token} {q : Queues} {came : List Request} {went : List Answer} → Run S t y q came went → AllSpaced came
+        calm-arrive : {t : ℕ} {y : Token} {q : Queues} {came : List Request} {went : List Answer} (m i : ℕ) → Run S t y q came went → AllSpaced came
             → Calm y q went → Calm y (join q m (request i t)) went
-        calm-arrive {t} {m} {i} {y} {q} {came} {went} z s c = record {
+        calm-arrive {t} {y} {q} m i z s c = record {
           waits = λ u j. ⊎-elim (λ (e : (k ≡ m) × (u ≡ request i t)). rw (e .1) (calm-new y z s)) (λ (e : List·Memᴰ u (q k)). c .waits u e)
               (join-cases q m k (request i t) j);
           done = c .done;
@@ -232,7 +232,8 @@ module _ (S : Segment) (declared : Declared S) (h : ℕ → ℕ) (cover : Covers
         calm : {t : ℕ} {y : Token} {q : Queues} {came : List Request} {went : List Answer} → Run S t y q came went → AllSpaced came → Calm y q went
         calm (start a b c) s = record { waits = λ r j. absurd (List·Memᴰ·not-nil j); done = λ w j. absurd (List·Memᴰ·not-nil j) }
         calm (complete z p) s = calm-complete z s p (calm z s)
-        calm (arrive z o d) s = let e = λ m i b. apart-before (s m i b) in calm-arrive z e (calm z e)
+        calm (arrive {m = m} {i = i} {came = came} z o d) s =
+            let e : AllSpaced came = λ y j b. apart-before (s y j b) in calm-arrive m i z e (calm z e)
         calm (travel e z) s = let c = calm z s in record { waits = c .waits; done = c .done }
         calm (work e z) s = let c = calm z s in record { waits = c .waits; done = c .done }
         calm (serve e u c z p a b d f w o) s = calm-serve z s p (calm z s)
