@@ -11,10 +11,10 @@
 -- s in the queue, and is through within s turns. That one would have been answered is shown without a surcharge, by a charge that
 -- covers every visit; once each arrival is known to find room, any other charge and surcharge may be counted with.
 use Prim.Native.Nat.{ℕ, suc, _+_, _≤_, _<_}
-use mathlib.Core.Path.{_≡_, refl, sym, _∙_}
+use mathlib.Core.Path.{_≡_, refl, sym}
 use mathlib.Core.Bool.{Bool, true, false}
-use mathlib.Core.Logic.{_≢_, ⊎-elim}
-use mathlib.Core.List.{List, [], _∷_, _++_, List·Memᴰ, List·Memᴰ·head, List·Memᴰ·not-nil, List·Memᴰ·cases-cons}
+use mathlib.Core.Logic.{_≢_}
+use mathlib.Core.List.{List, [], _∷_, _++_, List·Memᴰ, List·Memᴰ·head}
 use native.Mathlib.Nat.{mul-le-mul-right}
 use native.Mathlib.Decide.{ℕ-discrete}
 use native.Mathlib.Omega.{arith}
@@ -48,11 +48,12 @@ use Rattle.pnet_run.specs.Run.{
   serve,
   skip,
 }
-use Rattle.pnet_run.specs.Promise.{Apart, and, Lasts, past, at-it, Answered}
+use Rattle.pnet_run.specs.Promise.{Apart, and, Answered}
 use Rattle.pnet_run.proofs.Charges.{Covers, free}
 use Rattle.pnet_run.proofs.Counts.{spent, underWay}
 use Rattle.pnet_run.proofs.Queues.{put-same, put-other, owned}
-use Rattle.pnet_run.proofs.Past.{queue-came, queue-past, came-kept}
+use Rattle.pnet_run.proofs.Past.{queue-came, queue-past}
+use Rattle.pnet_run.proofs.Answering.{NotLate, answered-in-time}
 use Rattle.pnet_run.proofs.Ring.{next-in-ring, gap, gap-next, gap-lap, gap-most, gap-least}
 use Rattle.pnet_run.proofs.Waiting.{
   InTime,
@@ -234,11 +235,10 @@ module _ (S : Segment) (h x : ℕ → ℕ) (k : ℕ) (1≤k : 1 ≤ k) (k≤n : 
     toll-settled o at-work b = omega arith
 
     waits : {t : ℕ} {y : Token} {q : Queues} {went : List Answer} → 40 < h k → Inv t y q went → (r : Request) → List·Memᴰ r (q k)
-        → (t ≤ r .since + (boundBy h S k + (underWay x y + spent x S (r .since) went)))
-        × (Settled y → t < r .since + (boundBy h S k + (underWay x y + spent x S (r .since) went)))
+        → NotLate (boundBy h S k + (underWay x y + spent x S (r .since) went)) (r .since) t y
     waits {y = y} b I r j =
         let g = in-time-each (I .queue) j in
-        (omega (arith, toll-some y (I .token) b), λ s. omega (arith, toll-settled (I .token) s b))
+        record { by-then = omega (arith, toll-some y (I .token) b); before = λ s. omega (arith, toll-settled (I .token) s b) }
 
 -- ---- The bound
 
@@ -252,18 +252,18 @@ module _ (S : Segment) (h : ℕ → ℕ) (k : ℕ) (1≤k : 1 ≤ k) (k≤n : k 
   plain z s = inv S h free k 1≤k k≤n cover z s
 
   not-late : {t : ℕ} {y : Token} {q : Queues} {came : List Request} {went : List Answer} (z : Run S t y q came went) → Roomy S k z
-      → (r : Request) → List·Memᴰ r (q k) → (t ≤ r .since + boundBy h S k) × (Settled y → t < r .since + boundBy h S k)
+      → (r : Request) → List·Memᴰ r (q k) → NotLate (boundBy h S k) (r .since) t y
   not-late {y = y} {went = went} z s r j =
       let long : 40 < h k = omega (arith, cover .used k (r .of) (owned z k r j)) in
       let w = waits S h free k 1≤k k≤n cover long (plain z s) r j in
       let none : underWay free y + spent free S (r .since) went ≡ 0 = omega (arith, underWay-free y, spent-free S (r .since) went) in
-      (omega arith, λ o. omega (arith, w .1 o))
+      record { by-then = omega (arith, w .by-then); before = λ o. omega (arith, w .before o) }
 
   -- nothing of stream i waits when its next request arrives, so there is room
   alone : {t i : ℕ} {y : Token} {q : Queues} {came : List Request} {went : List Answer} (z : Run S t y q came went) → Roomy S k z → Settled y
       → Belongs S k i → KeptApart (request i t ∷ came) → (r : Request) → List·Memᴰ r (q k) → i ≢ r .of
   alone {i = i} z s o d apart r j e =
-      omega (arith, fits i d, not-late z s r j .1 o, apart-latest (apart i d) refl (r .since) (rw e (queue-came z k r j)))
+      omega (arith, fits i d, not-late z s r j .before o, apart-latest (apart i d) refl (r .since) (rw e (queue-came z k r j)))
 
   room : {t i : ℕ} {y : Token} {q : Queues} {came : List Request} {went : List Answer} (z : Run S t y q came went) → Roomy S k z → Settled y
       → Belongs S k i → KeptApart (request i t ∷ came) → Room S k i q
@@ -281,38 +281,13 @@ module _ (S : Segment) (h : ℕ → ℕ) (k : ℕ) (1≤k : 1 ≤ k) (k≤n : k 
   roomy (serve e u v z p a b c d f g) apart = roomy z apart
   roomy (skip e z p a b) apart = roomy z apart
 
-  pub queued-by : {t : ℕ} {y : Token} {q : Queues} {came : List Request} {went : List Answer} → Run S t y q came went → KeptApart came
-      → (r : Request) → List·Memᴰ r (q k) → t ≤ r .since + boundBy h S k
-  queued-by z apart r j = not-late z (roomy z apart) r j .0
-
-  -- what was answered waited when it was
-  answers-in-time : {t : ℕ} {y : Token} {q : Queues} {came : List Request} {went : List Answer} → Run S t y q came went → KeptApart came
-      → (a : Answer) → List·Memᴰ a went → Belongs S k (a .to .of) → a .at ≤ a .to .since + boundBy h S k
-  answers-in-time (start a b c) apart w j own = absurd (List·Memᴰ·not-nil j)
-  answers-in-time (complete {t = t} {m = m} {q = q} {r = r} {rest = rest} {went = went} z p) apart w j own =
-      ⊎-elim (λ (c : w ≡ answer r t). rw c (queued-by z apart r (here (rw c at own)))) (λ (c : List·Memᴰ w went). answers-in-time z apart w c own) (List·Memᴰ·cases-cons j)
-    where
-      here : Belongs S k (r .of) → List·Memᴰ r (q k)
-      here o =
-          let e : m ≡ k = sym (owned z m r (rw p (List·Memᴰ·head refl)) .own) ∙ o .own in
-          rw (← e, p) (List·Memᴰ·head refl)
-  answers-in-time (arrive z o d) apart w j own = answers-in-time z (λ i e. apart-before (apart i e)) w j own
-  answers-in-time (travel e z) apart w j own = answers-in-time z apart w j own
-  answers-in-time (work e z) apart w j own = answers-in-time z apart w j own
-  answers-in-time (serve e u v z p a b c d f g) apart w j own = answers-in-time z apart w j own
-  answers-in-time (skip e z p a b) apart w j own = answers-in-time z apart w j own
-
-  not-after : {t : ℕ} {y : Token} {q : Queues} {came : List Request} {went : List Answer} → Run S t y q came went → KeptApart came
-      → (r : Request) → List·Memᴰ r (q k) → Lasts t y (r .since + boundBy h S k) → ⊥
-  not-after z apart r j (past l) = omega (arith, not-late z (roomy z apart) r j .0)
-  not-after z apart r j (at-it e s) = omega (arith, not-late z (roomy z apart) r j .1 s)
+  pub waits-in-time : {t : ℕ} {y : Token} {q : Queues} {came : List Request} {went : List Answer} → Run S t y q came went → KeptApart came
+      → (r : Request) → List·Memᴰ r (q k) → NotLate (boundBy h S k) (r .since) t y
+  waits-in-time z apart = not-late z (roomy z apart)
 
   pub answered-by : {t : ℕ} {y : Token} {q : Queues} {came : List Request} {went : List Answer}
       → Run S t y q came went → KeptApart came → Answered (boundBy h S k) S k t y came went
-  answered-by {q = q} {went = went} z apart = record {
-    in-time = λ a j o. omega (arith, answers-in-time z apart a j o);
-    none-left = λ r j o l. ⊎-elim (λ (c : List·Memᴰ r (q k)). absurd (not-after z apart r c l)) (λ (c : (u : ℕ) × List·Memᴰ (answer r u) went). c) (came-kept z k r j o);
-  }
+  answered-by = answered-in-time S k (boundBy h S k) KeptApart (λ r came apart i d. apart-before (apart i d)) (λ t y q came went. waits-in-time)
 
   -- ---- What waits in k's queue
 
@@ -330,6 +305,5 @@ module _ (S : Segment) (h : ℕ → ℕ) (k : ℕ) (1≤k : 1 ≤ k) (k≤n : k 
 
   pub credit-by : (g x : ℕ → ℕ) → Covers g x S → 40 < g k
       → {t : ℕ} {y : Token} {q : Queues} {came : List Request} {went : List Answer} → Run S t y q came went → KeptApart came → (r : Request) → List·Memᴰ r (q k)
-      → (t ≤ r .since + (boundBy g S k + (underWay x y + spent x S (r .since) went)))
-      × (Settled y → t < r .since + (boundBy g S k + (underWay x y + spent x S (r .since) went)))
+      → NotLate (boundBy g S k + (underWay x y + spent x S (r .since) went)) (r .since) t y
   credit-by g x c long z apart r j = waits S g x k 1≤k k≤n c long (inv S g x k 1≤k k≤n c z (roomy z apart)) r j

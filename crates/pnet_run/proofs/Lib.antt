@@ -1,5 +1,6 @@
 pub mod Queues
 pub mod Past
+pub mod Answering
 pub mod Ring
 pub mod Charges
 pub mod Shares

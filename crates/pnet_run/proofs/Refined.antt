@@ -12,19 +12,10 @@
 -- the response itself would prove nothing of the least solution; so a + W is fixed at the arrival, and the counts are held to it
 -- from then on. A visit that ended before a is not counted; its token pass, up to 40 bp, is in Bound's toll.
 use Prim.Native.Nat.{ℕ, _+_, _-_, _*_, _≤_, _<_}
-use mathlib.Core.Path.{_≡_, refl, sym, ap, _∙_}
+use mathlib.Core.Path.{_≡_, refl}
 use mathlib.Core.Bool.{Bool, true, false, _&&_}
 use mathlib.Core.Logic.{_⊎_, ⊎-elim}
-use mathlib.Core.List.{
-  List,
-  [],
-  _∷_,
-  List·Memᴰ,
-  List·Memᴰ·head,
-  List·Memᴰ·tail,
-  List·Memᴰ·not-nil,
-  List·Memᴰ·cases-cons,
-}
+use mathlib.Core.List.{List, _∷_, List·Memᴰ, List·Memᴰ·head, List·Memᴰ·not-nil, List·Memᴰ·cases-cons}
 use native.Mathlib.Nat.{le-refl, mul-le-mul, mul-le-mul-right}
 use native.Mathlib.Omega.{arith}
 use lib.Dec.{eqb, leb}
@@ -46,7 +37,6 @@ use Rattle.pnet_run.specs.Run.{
   Token,
   toward,
   serving,
-  Settled,
   on-way,
   next,
   Run,
@@ -58,12 +48,13 @@ use Rattle.pnet_run.specs.Run.{
   serve,
   skip,
 }
-use Rattle.pnet_run.specs.Promise.{Spaced, Lasts, past, at-it, Answered}
-use Rattle.pnet_run.proofs.Charges.{Covers, free, in-ring, count-belongs}
+use Rattle.pnet_run.specs.Promise.{Spaced, Answered}
+use Rattle.pnet_run.proofs.Charges.{Covers, free, in-ring}
 use Rattle.pnet_run.proofs.Counts.{cameSince, answeredSince, spent, underWay}
 use Rattle.pnet_run.proofs.Queues.{put-rest, join-cases, owned}
-use Rattle.pnet_run.proofs.Past.{came-past, queue-past, went-own, came-kept}
-use Rattle.pnet_run.proofs.Bound.{apart-before, answered-by, queued-by, credit-by}
+use Rattle.pnet_run.proofs.Past.{came-past, queue-past, went-own}
+use Rattle.pnet_run.proofs.Answering.{NotLate, answered-in-time}
+use Rattle.pnet_run.proofs.Bound.{apart-before, waits-in-time, answered-by, credit-by}
 use Rattle.pnet_run.proofs.Window.{window}
 use Rattle.pnet_run.proofs.Answers.{all-came, spent-counted}
 use Rattle.pnet_run.proofs.Shares.{requests, requests-cover, share, extra, share-own, shares-cover, shares-are-the-right-side}
@@ -149,7 +140,7 @@ module _ (S : Segment) (declared : Declared S) (h : ℕ → ℕ) (cover : Covers
           waited : a - boundBy h S m ≤ r .since
           waited =
               let ring = in-ring declared of-m in
-              omega (arith, queued-by S h m (ring .0) (ring .1) cover least (fits m) z (s m) r (rw p (List·Memᴰ·head refl)))
+              omega (arith, waits-in-time S h m (ring .0) (ring .1) cover least (fits m) z (s m) r (rw p (List·Memᴰ·head refl)) .by-then)
 
           go : (o i : ℕ) → Belongs S o i → (x : Bool) → eqb (r .of) i ≡ x → when (x && leb a t) 1 + answeredSince i a went ≤ requests h S W i
           go o i d true e =
@@ -179,41 +170,29 @@ module _ (S : Segment) (declared : Declared S) (h : ℕ → ℕ) (cover : Covers
                   (omega (arith, share-own h S W k, upto-term (share h S W k) (S .masters) k 1≤k k≤n)),
             )
 
-        -- while a request of k waits, the used visits cost no more than W has for them; and each answer of k was in time
-        record Calm (y : Token) (q : Queues) (went : List Answer) : Type 0 where
-          waits : (r : Request) → List·Memᴰ r (q k) → underWay more y + spent more S (r .since) went ≤ most
-          done : (w : Answer) → List·Memᴰ w went → Belongs S k (w .to .of) → w .at ≤ w .to .since + W
+        -- while a request of k waits, the used visits cost no more than W has for them
+        abbrev Calm : Token → Queues → List Answer → Type 0
+        Calm y q went = (r : Request) → List·Memᴰ r (q k) → underWay more y + spent more S (r .since) went ≤ most
 
-        before : {t : ℕ} {y : Token} {q : Queues} {came : List Request} {went : List Answer} → Run S t y q came went → AllSpaced came → Calm y q went
-            → (r : Request) → List·Memᴰ r (q k) → (t ≤ r .since + W) × (Settled y → t < r .since + W)
-        before z s c r j =
+        waits : {t : ℕ} {y : Token} {q : Queues} {came : List Request} {went : List Answer} → Run S t y q came went → AllSpaced came → Calm y q went
+            → (r : Request) → List·Memᴰ r (q k) → NotLate W (r .since) t y
+        waits z s c r j =
             let b = credit-by S h k 1≤k k≤n cover least (fits k) (share h S W k) more (shares-cover h S W k cover) (omega (arith, share-own h S W k)) z (s k) r j in
-            let w = c .waits r j in
-            (omega (arith, enough, b .0), λ f. omega (arith, enough, b .1 f))
+            let w = c r j in
+            record { by-then = omega (arith, enough, b .by-then); before = λ f. omega (arith, enough, b .before f) }
 
         -- ---- Each step keeps that
 
-        calm-serve : {t m c : ℕ} {q : Queues} {r : Request} {rest came : List Request} {went : List Answer} → Run S t (toward m 0) q came went
-            → AllSpaced came → q m ≡ r ∷ rest → Calm (toward m 0) q went → Calm (serving m c) q went
-        calm-serve z s p c = record {
-          waits = λ r j. served-enough z s p (r .since) (queue-past z k r j) (before z s c r j .1 on-way);
-          done = c .done;
-        }
+        calm-serve : {t m : ℕ} {q : Queues} {r : Request} {rest came : List Request} {went : List Answer} (left : ℕ) → Run S t (toward m 0) q came went
+            → AllSpaced came → q m ≡ r ∷ rest → Calm (toward m 0) q went → Calm (serving m left) q went
+        calm-serve left z s p c u j = served-enough z s p (u .since) (queue-past z k u j) (waits z s c u j .before on-way)
 
         calm-complete : {t m : ℕ} {q : Queues} {r : Request} {rest came : List Request} {went : List Answer} → Run S t (serving m 0) q came went
-            → AllSpaced came → q m ≡ r ∷ rest → Calm (serving m 0) q went
-            → Calm (toward (next (S .masters) m) 40) (put q m rest) (answer r t ∷ went)
+            → q m ≡ r ∷ rest → Calm (serving m 0) q went → Calm (toward (next (S .masters) m) 40) (put q m rest) (answer r t ∷ went)
         unfolding spent
-        calm-complete {t} {m} {q} {r} {rest} {came} {went} z s p c = record {
-          waits = λ u j. let i = put-rest q m k p j in rw (le-leb (u .since) t (queue-past z k u i), of-m .own) (omega (arith, c .waits u i));
-          done = λ w j o. ⊎-elim (λ (e : w ≡ answer r t). rw e (now (rw e at o))) (λ (e : List·Memᴰ w went). c .done w e o) (List·Memᴰ·cases-cons j);
-        }
-          where
-            of-m : Belongs S m (r .of)
-            of-m = owned z m r (rw p (List·Memᴰ·head refl))
-
-            now : Belongs S k (r .of) → t ≤ r .since + W
-            now o = before z s c r (rw (sym (o .own) ∙ of-m .own, p) (List·Memᴰ·head refl)) .0
+        calm-complete {t} {m} {q} {r} z p c u j =
+            let i = put-rest q m k p j in
+            rw (le-leb (u .since) t (queue-past z k u i), owned z m r (rw p (List·Memᴰ·head refl)) .own) (omega (arith, c u i))
 
         -- at its arrival nothing that ended before counts for it
         calm-new : {t : ℕ} (y : Token) {q : Queues} {came : List Request} {went : List Answer} → Run S t y q came went → AllSpaced came
@@ -223,32 +202,21 @@ module _ (S : Segment) (declared : Declared S) (h : ℕ → ℕ) (cover : Covers
 
         calm-arrive : {t : ℕ} {y : Token} {q : Queues} {came : List Request} {went : List Answer} (m i : ℕ) → Run S t y q came went → AllSpaced came
             → Calm y q went → Calm y (join q m (request i t)) went
-        calm-arrive {t} {y} {q} m i z s c = record {
-          waits = λ u j. ⊎-elim (λ (e : (k ≡ m) × (u ≡ request i t)). rw (e .1) (calm-new y z s)) (λ (e : List·Memᴰ u (q k)). c .waits u e)
-              (join-cases q m k (request i t) j);
-          done = c .done;
-        }
+        calm-arrive {t} {y} {q} m i z s c u j =
+            ⊎-elim (λ (e : (k ≡ m) × (u ≡ request i t)). rw (e .1) (calm-new y z s)) (λ (e : List·Memᴰ u (q k)). c u e) (join-cases q m k (request i t) j)
+
+        earlier : (r : Request) (came : List Request) → AllSpaced (r ∷ came) → AllSpaced came
+        earlier r came s m i b = apart-before (s m i b)
 
         calm : {t : ℕ} {y : Token} {q : Queues} {came : List Request} {went : List Answer} → Run S t y q came went → AllSpaced came → Calm y q went
-        calm (start a b c) s = record { waits = λ r j. absurd (List·Memᴰ·not-nil j); done = λ w j. absurd (List·Memᴰ·not-nil j) }
-        calm (complete z p) s = calm-complete z s p (calm z s)
-        calm (arrive {m = m} {i = i} {came = came} z o d) s =
-            let e : AllSpaced came = λ y j b. apart-before (s y j b) in calm-arrive m i z e (calm z e)
-        calm (travel e z) s = let c = calm z s in record { waits = c .waits; done = c .done }
-        calm (work e z) s = let c = calm z s in record { waits = c .waits; done = c .done }
-        calm (serve e u c z p a b d f w o) s = calm-serve z s p (calm z s)
-        calm (skip e z p a b) s = let c = calm z s in record { waits = c .waits; done = c .done }
-
-        not-after : {t : ℕ} {y : Token} {q : Queues} {came : List Request} {went : List Answer} → Run S t y q came went → AllSpaced came
-            → (r : Request) → List·Memᴰ r (q k) → Lasts t y (r .since + W) → ⊥
-        not-after z s r j (past l) = omega (arith, before z s (calm z s) r j .0)
-        not-after z s r j (at-it e f) = omega (arith, before z s (calm z s) r j .1 f)
+        calm (start a b c) s = λ r j. absurd (List·Memᴰ·not-nil j)
+        calm (complete z p) s = calm-complete z p (calm z s)
+        calm (arrive {t = t} {m = m} {i = i} {came = came} z o d) s = let e = earlier (request i t) came s in calm-arrive m i z e (calm z e)
+        calm (travel e z) s = calm z s
+        calm (work e z) s = calm z s
+        calm (serve {c = left} e u c z p a b d f w o) s = calm-serve left z s p (calm z s)
+        calm (skip e z p a b) s = calm z s
 
         pub answered-within : {t : ℕ} {y : Token} {q : Queues} {came : List Request} {went : List Answer}
             → Run S t y q came went → AllSpaced came → Answered W S k t y came went
-        answered-within {q = q} {went = went} z s =
-            record {
-              in-time = calm z s .done;
-              none-left = λ r j o l. ⊎-elim (λ (c : List·Memᴰ r (q k)). absurd (not-after z s r c l)) (λ (c : (u : ℕ) × List·Memᴰ (answer r u) went). c)
-                  (came-kept z k r j o);
-            }
+        answered-within = answered-in-time S k W AllSpaced earlier (λ t y q came went z s. waits z s (calm z s))
