@@ -117,8 +117,8 @@ fn visits(spacings: &[u32; 2640], y: usize, n: usize, window: u32, s: u32) -> u3
     a
 }
 
-// What master k saves at y: nothing at itself. The window of y's requests is W and R(y), which may have waited that long when
-// it opens (page 02, Ask 2); turn is V.
+// What master k saves at y: nothing at itself. The window of y's requests is W and R(y), since a request of y may have waited that
+// long when W begins (page 02, Ask 2); turn is V.
 fn saved_at(
     counts: &[u32; 33],
     holds: &[u32; 33],

@@ -1,5 +1,5 @@
--- `saved_at` meets its contract: at k itself nothing is saved, else what `visits` leaves of s, times what a visit costs beyond 10. The
--- window is below 2·80·V, so it fits. Assumes nothing.
+-- `saved_at` meets its contract: at k itself nothing is saved, else what `visits` leaves of s, times what a visit costs beyond 10. W and
+-- R(y) are each at most 80·V, so the window fits. Assumes nothing.
 use Prim.Native.Nat.{_*_, _≤_}
 use native.Mathlib.Omega.{arith}
 use Rattle.pnet.specs.Arrays.{at}
