@@ -6,8 +6,8 @@ use Rattle.units.specs.Units.{us, microsUp}
 use Rattle.text.specs.Text.{word, places, holds, widthOf, decimal, item, texts}
 use Rattle.lines.specs.Lines.{inBp, inUs, inBoth, nameOf, figuresOf, masterLine, masterText, ringText, nameText, nameAt, rowLine, tableHead, placeText, placeEnd, refusalText}
 
--- the third case's first master; a silent master has no line
-masters : (masterText 1 1000 760 2 ≡ word "M01 bound 1000 bp 13021 us refined 760 bp 9896 us 2 rounds\n") × (masterText 3 0 0 0 ≡ [])
+-- the third case's first master, its rounds by the count of page 02, Ask 2; a silent master has no line
+masters : (masterText 1 1000 760 1 ≡ word "M01 bound 1000 bp 13021 us refined 760 bp 9896 us 1 rounds\n") × (masterText 3 0 0 0 ≡ [])
 unfolding masterText masterLine nameOf figuresOf inBoth inBp inUs microsUp up decimal places widthOf holds firstOf
 masters = (refl, refl)
 

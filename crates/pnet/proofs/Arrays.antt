@@ -34,18 +34,22 @@ module _ (spacings : List ℕ) (y w : ℕ) where
 
 -- ---- What is saved at a master
 
-module _ (counts holds spacings : List ℕ) (k w y : ℕ) where
-  pub saved-own : y ≡ k → 0 ≡ savedIn counts holds spacings k w y
+module _ (counts holds spacings : List ℕ) (turn k w y : ℕ) where
+  pub saved-own : y ≡ k → 0 ≡ savedIn counts holds spacings turn k w y
   unfolding savedIn saving
   saved-own e = simp (eq-eqb y k e)
 
-  pub saved-other : (a : ℕ) → (y ≡ k → ⊥) → a ≡ min (at counts k) (askedIn spacings y w (at counts y))
-      → (at counts k - a) * (at holds y - 10) ≡ savedIn counts holds spacings k w y
+  pub saved-other : (a : ℕ) → (y ≡ k → ⊥) → a ≡ min (at counts k) (askedIn spacings y (w + at counts y * turn) (at counts y))
+      → (at counts k - a) * (at holds y - 10) ≡ savedIn counts holds spacings turn k w y
   unfolding savedIn saving
   saved-other a e q = simp (ne-eqb y k e, q)
 
 pub saved-small : (s a H : ℕ) → s ≤ 80 → H ≤ 1595 → (s - a) * (H - 10) ≤ 126800
 saved-small s a H l m = mul-le-mul {n₁ = s - a} {m₁ = H - 10} {n₂ = 80} {m₂ = 1585} (omega arith) (omega arith)
+
+-- R of a master is small where V is
+pub product-small : (s v : ℕ) → s ≤ 80 → v ≤ 51040 → s * v ≤ 4083200
+product-small s v l m = mul-le-mul {n₁ = s} {m₁ = v} {n₂ = 80} {m₂ = 51040} l m
 
 pub bound-is : (counts holds : List ℕ) (N k turn : ℕ) → turn ≡ turnIn holds N → at counts k * turn ≡ boundIn counts holds N k
 unfolding boundIn
@@ -61,24 +65,25 @@ late-is masters deadlines counts turn i =
 
 -- ---- The right side of a master, as the segment's laws have it
 
--- a(y) of all of y's streams
-unfoldable pub askedAt : List ℕ → List ℕ → ℕ → ℕ → ℕ
+-- a(y) of all of y's streams, at W
+unfoldable pub askedAt : List ℕ → List ℕ → ℕ → ℕ → ℕ → ℕ
 unfolding askedIn
-askedAt counts spacings y w = askedIn spacings y w (at counts y)
+askedAt counts spacings turn y w = askedIn spacings y (w + at counts y * turn) (at counts y)
 
-asked-rises : (counts spacings : List ℕ) (y v w : ℕ) → v ≤ w → askedAt counts spacings y v ≤ askedAt counts spacings y w
+asked-rises : (counts spacings : List ℕ) (turn y v w : ℕ) → v ≤ w → askedAt counts spacings turn y v ≤ askedAt counts spacings turn y w
 unfolding askedAt askedIn
-asked-rises counts spacings y v w l =
-    upto-mono (λ j. up v (at spacings (80 * y + (j - 1)))) (λ j. up w (at spacings (80 * y + (j - 1)))) (at counts y)
-    (λ j lo hi. up-rises v w (at spacings (80 * y + (j - 1))) l)
+asked-rises counts spacings turn y v w l =
+    let R = at counts y * turn in
+    upto-mono (λ j. up (v + R) (at spacings (80 * y + (j - 1)))) (λ j. up (w + R) (at spacings (80 * y + (j - 1)))) (at counts y)
+    (λ j lo hi. up-rises (v + R) (w + R) (at spacings (80 * y + (j - 1))) (omega arith))
 
 module _ (counts holds spacings : List ℕ) (N k : ℕ) (kept : Kept N counts holds spacings) where
   charged : (y : ℕ) → 1 ≤ y → y ≤ N → 10 ≤ at holds y
   charged y lo hi = kept .each y lo hi .hold-from
 
-  pub saved-at-most : (w : ℕ) → upto (savedIn counts holds spacings k w) N ≤ boundIn counts holds N k
+  pub saved-at-most : (w : ℕ) → upto (savedIn counts holds spacings (turnIn holds N) k w) N ≤ boundIn counts holds N k
   unfolding boundIn savedIn turnIn askedAt
-  saved-at-most w = savings-at-most (at holds) (askedAt counts spacings) N (at counts k) k charged w
+  saved-at-most w = savings-at-most (at holds) (askedAt counts spacings (turnIn holds N)) N (at counts k) k charged w
 
   -- V and R are small
   pub turn-small : turnIn holds N ≤ 51040
@@ -91,7 +96,7 @@ module _ (counts holds spacings : List ℕ) (N k : ℕ) (kept : Kept N counts ho
 
     pub bound-small : boundIn counts holds N k ≤ 4083200
     unfolding boundIn
-    bound-small = mul-le-mul {n₁ = at counts k} {m₁ = turnIn holds N} {n₂ = 80} {m₂ = 51040} few-streams turn-small
+    bound-small = product-small (at counts k) (turnIn holds N) few-streams turn-small
 
     pub rounds-small : (N - 1) * at counts k ≤ 2480
     rounds-small = mul-le-mul {n₁ = N - 1} {m₁ = at counts k} {n₂ = 31} {m₂ = 80} (omega (arith, kept .few)) few-streams
@@ -100,11 +105,11 @@ module _ (counts holds spacings : List ℕ) (N k : ℕ) (kept : Kept N counts ho
     pub moving-small : (m w : ℕ) → Moving (rightIn counts holds spacings N k) m w → w ≤ 4083200
     unfolding rightIn boundIn savedIn turnIn askedAt rightOf
     moving-small m w on =
-        omega (arith, on .value, bound-small, right-value-at-most (at holds) (askedAt counts spacings) N (at counts k) k charged (asked-rises counts spacings) m)
+        omega (arith, on .value, bound-small, right-value-at-most (at holds) (askedAt counts spacings (turnIn holds N)) N (at counts k) k charged (asked-rises counts spacings (turnIn holds N)) m)
 
     pub moving-few : (m w : ℕ) → Moving (rightIn counts holds spacings N k) m w → m ≤ 1 + (N - 1) * at counts k
     unfolding rightIn boundIn savedIn turnIn askedAt rightOf
-    moving-few m w on = right-moves-at-most (at holds) (askedAt counts spacings) N (at counts k) k charged (asked-rises counts spacings) lo hi m (on .moved)
+    moving-few m w on = right-moves-at-most (at holds) (askedAt counts spacings (turnIn holds N)) N (at counts k) k charged (asked-rises counts spacings (turnIn holds N)) lo hi m (on .moved)
 
     -- where it ends
     pub found : (m w x : ℕ) → Moving (rightIn counts holds spacings N k) m w → x ≡ rightIn counts holds spacings N k w → x ≡ w

@@ -1,5 +1,5 @@
 -- Page 01, 'Sheets worked by hand', the P-NET cases, from the sheets' bytes: R 2,000 passes D = 2,000 and 1,999 is refused with 8; R, W and
--- rounds of the third case, with a later place kept. Assumes nothing.
+-- rounds of the third case, and of the same with T = D = 1,000 for master 2 (page 02, Ask 2), with a later place kept. Assumes nothing.
 use Prim.Native.Nat.{ℕ}
 use mathlib.Core.Path.{_≡_, refl}
 use mathlib.Core.List.{List, [], _∷_, _++_}
@@ -11,7 +11,7 @@ use Rattle.format.specs.Kinds.{kinds, fieldsOf, widths, sizeOf, known, fieldAt,
 use Rattle.sheet.specs.Sheets.{streamsOf, headOf, sheetOf, fits, countOf, mostInAll, hasMaster, overLimit, metBefore}
 use Rattle.sheet.specs.Whole.{placeOf, recordsOf, recordChecks, endChecks, judge, ended, readFrom, reading}
 use Rattle.segment.specs.Segment.{segmentOf, streamAt, owns, count, longest, hold, turnBy, boundBy, turn, bound, late}
-use Rattle.segment.specs.Refined.{saving, rightBy, valueOf, stands, roundsOf, mostRounds, asked, right, rounds, refined}
+use Rattle.segment.specs.Refined.{saving, rightBy, valueOf, stands, roundsOf, mostRounds, askedBy, right, rounds, refined}
 use Rattle.pnet.specs.declared.answer.Plan.the-variants as answer
 use Rattle.pnet.specs.Planned.{firstLate, planChecks, planned, planOf, runOf}
 
@@ -25,9 +25,16 @@ four z =
     1 ∷ 4 ∷ (stream 1 0 7 208 ++ stream 1 0 7 208 ++ stream 2 0 7 208 ++ stream 2 0 7 208
     ++ stream 3 0 7 208 ++ stream 3 0 7 208 ++ stream 4 0 7 208 ++ stream 4 0 7 z)
 
--- N = 2; master 1 two streams, master 2 one; T = D = 100,000
-abbrev two : List ℕ
-two = 1 ∷ 2 ∷ (stream 1 1 134 160 ++ stream 1 1 134 160 ++ stream 2 1 134 160)
+-- N = 2; master 1 two streams, T = D = 100,000, and master 2 one
+abbrev two : List ℕ → List ℕ
+two last = 1 ∷ 2 ∷ (stream 1 1 134 160 ++ stream 1 1 134 160 ++ last)
+
+-- which has T = D = 100,000, or T = D = 1,000
+abbrev seldom : List ℕ
+seldom = stream 2 1 134 160
+
+abbrev often : List ℕ
+often = 2 ∷ 2 ∷ 0 ∷ 203 ∷ 0 ∷ 0 ∷ 3 ∷ 232 ∷ 0 ∷ 0 ∷ 3 ∷ 232 ∷ []
 
 passes : planOf (planned (four 208) 4 4 4) ≡ answer.Accepted 4 8
 unfolding planned planChecks firstLate verdict segmentOf streamAt owns count longest hold turnBy boundBy turn bound late upto greatest firstOf reading readFrom ended judge recordChecks endChecks recordsOf placeOf streamsOf headOf sheetOf fits countOf mostInAll hasMaster overLimit metBefore kinds fieldsOf widths sizeOf known fieldAt decode limit within ranged inRange be
@@ -37,8 +44,15 @@ fails : planOf (planned (four 207) 4 4 4) ≡ answer.Refused 8 8
 unfolding planned planChecks firstLate verdict segmentOf streamAt owns count longest hold turnBy boundBy turn bound late upto greatest firstOf reading readFrom ended judge recordChecks endChecks recordsOf placeOf streamsOf headOf sheetOf fits countOf mostInAll hasMaster overLimit metBefore kinds fieldsOf widths sizeOf known fieldAt decode limit within ranged inRange be
 fails = refl
 
-figures : (runOf (planned two 3 3 3) bound (9 ∷ 9 ∷ 9 ∷ []) ≡ 1000 ∷ 500 ∷ 9 ∷ [])
-    × (runOf (planned two 3 3 3) refined (9 ∷ 9 ∷ 9 ∷ []) ≡ 760 ∷ 500 ∷ 9 ∷ [])
-    × (runOf (planned two 3 3 3) rounds (9 ∷ 9 ∷ 9 ∷ []) ≡ 2 ∷ 2 ∷ 9 ∷ [])
-unfolding planned planChecks firstLate verdict filled tab segmentOf streamAt owns count longest hold turnBy boundBy turn bound late saving rightBy valueOf stands roundsOf mostRounds asked right rounds refined up upto greatest firstOf reading readFrom ended judge recordChecks endChecks recordsOf placeOf streamsOf headOf sheetOf fits countOf mostInAll hasMaster overLimit metBefore kinds fieldsOf widths sizeOf known fieldAt decode limit within ranged inRange be
+figures : (runOf (planned (two seldom) 3 3 3) bound (9 ∷ 9 ∷ 9 ∷ []) ≡ 1000 ∷ 500 ∷ 9 ∷ [])
+    × (runOf (planned (two seldom) 3 3 3) refined (9 ∷ 9 ∷ 9 ∷ []) ≡ 760 ∷ 500 ∷ 9 ∷ [])
+    × (runOf (planned (two seldom) 3 3 3) rounds (9 ∷ 9 ∷ 9 ∷ []) ≡ 1 ∷ 1 ∷ 9 ∷ [])
+unfolding planned planChecks firstLate verdict filled tab segmentOf streamAt owns count longest hold turnBy boundBy turn bound late saving rightBy valueOf stands roundsOf mostRounds askedBy right rounds refined up upto greatest firstOf reading readFrom ended judge recordChecks endChecks recordsOf placeOf streamsOf headOf sheetOf fits countOf mostInAll hasMaster overLimit metBefore kinds fieldsOf widths sizeOf known fieldAt decode limit within ranged inRange be
 figures = (refl, refl, refl)
+
+-- the count takes in what waits when the window opens
+figures-waited : (runOf (planned (two often) 3 3 3) bound (9 ∷ 9 ∷ 9 ∷ []) ≡ 1000 ∷ 500 ∷ 9 ∷ [])
+    × (runOf (planned (two often) 3 3 3) refined (9 ∷ 9 ∷ 9 ∷ []) ≡ 1000 ∷ 500 ∷ 9 ∷ [])
+    × (runOf (planned (two often) 3 3 3) rounds (9 ∷ 9 ∷ 9 ∷ []) ≡ 2 ∷ 1 ∷ 9 ∷ [])
+unfolding planned planChecks firstLate verdict filled tab segmentOf streamAt owns count longest hold turnBy boundBy turn bound late saving rightBy valueOf stands roundsOf mostRounds askedBy right rounds refined up upto greatest firstOf reading readFrom ended judge recordChecks endChecks recordsOf placeOf streamsOf headOf sheetOf fits countOf mostInAll hasMaster overLimit metBefore kinds fieldsOf widths sizeOf known fieldAt decode limit within ranged inRange be
+figures-waited = (refl, refl, refl)

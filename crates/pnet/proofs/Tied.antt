@@ -10,7 +10,7 @@ use Rattle.common.specs.Sums.{when, upto, up, firstOf}
 use Rattle.common.proofs.Sums.{upto-same, upto-term, upto-most}
 use Rattle.common.proofs.Firsts.{first-same}
 use Rattle.segment.specs.Segment.{Segment, owns, count, hold, turnBy, boundBy, turn, bound, late}
-use Rattle.segment.specs.Refined.{saving, rightBy, mostRounds, asked, right, rounds, refined}
+use Rattle.segment.specs.Refined.{saving, rightBy, mostRounds, askedBy, right, rounds, refined}
 use Rattle.segment.specs.Limits.{Declared}
 use Rattle.segment.proofs.Holds.{hold-at-least, hold-at-most}
 use Rattle.pnet.specs.Planned.{firstLate}
@@ -88,12 +88,18 @@ module _ {S : Segment} (d : Declared S) {masters deadlines counts holds spacings
 
   -- ---- W and its rounds
 
-  asked-tied : (y w : ℕ) → y ≤ 32 → askedIn spacings y w (at counts y) ≡ asked S y w
-  unfolding askedIn asked
-  asked-tied y w l = g .spacings-are (up w) y l
+  -- R(y), as it stands in the window of a(y)
+  window-tied : (y : ℕ) → y ≤ 32 → at counts y * turnIn holds (S .masters) ≡ boundBy (hold S) S y
+  unfolding boundIn bound
+  window-tied y l = bound-tied y l
+
+  asked-tied : (y w : ℕ) → y ≤ 32 → askedIn spacings y (w + at counts y * turnIn holds (S .masters)) (at counts y) ≡ askedBy (hold S) S y w
+  unfolding askedIn askedBy
+  asked-tied y w l =
+      ap (λ (R : ℕ). askedIn spacings y (w + R) (at counts y)) (window-tied y l) ∙ g .spacings-are (up (w + boundBy (hold S) S y)) y l
 
   module _ (k : ℕ) (lo : 1 ≤ k) (hi : k ≤ S .masters) where
-    saved-tied : (y w : ℕ) → y ≤ 32 → k ≤ 32 → savedIn counts holds spacings k w y ≡ saving (hold S) (count S k) k (asked S y w) y
+    saved-tied : (y w : ℕ) → y ≤ 32 → k ≤ 32 → savedIn counts holds spacings (turnIn holds (S .masters)) k w y ≡ saving (hold S) (count S k) k (askedBy (hold S) S y w) y
     unfolding savedIn saving
     saved-tied y w l inside = rw (g .holds-are y l, g .counts-are k inside, asked-tied y w l)
 
@@ -101,9 +107,10 @@ module _ {S : Segment} (d : Declared S) {masters deadlines counts holds spacings
     unfolding rightIn right rightBy boundIn turn
     right-tied w =
         let inside : k ≤ 32 = omega (arith, d .masters-to) in
-        let each : upto (savedIn counts holds spacings k w) (S .masters) ≡ upto (λ y. saving (hold S) (count S k) k (asked S y w) y) (S .masters) =
-        upto-same (savedIn counts holds spacings k w) (λ y. saving (hold S) (count S k) k (asked S y w) y) (S .masters) (λ y lo' hi'. saved-tied y w (omega (arith, d .masters-to)) inside) in
-        rw (g .counts-are k inside, turn-tied, each)
+        let v = turnIn holds (S .masters) in
+        let each : upto (savedIn counts holds spacings v k w) (S .masters) ≡ upto (λ y. saving (hold S) (count S k) k (askedBy (hold S) S y w) y) (S .masters) =
+        upto-same (savedIn counts holds spacings v k w) (λ y. saving (hold S) (count S k) k (askedBy (hold S) S y w) y) (S .masters) (λ y lo' hi'. saved-tied y w (omega (arith, d .masters-to)) inside) in
+        rw (each, g .counts-are k inside, turn-tied)
 
     pub rounds-tied : roundsIn counts holds spacings (S .masters) k ≡ rounds S k
     unfolding roundsIn rounds mostRounds

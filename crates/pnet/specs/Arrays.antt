@@ -48,10 +48,10 @@ segmentIn s n = segmentOf (sheetIn s n)
 
 -- ---- The figures, read off them
 
--- a(y) at W, over the first n of master y's streams
+-- a(y) in a window, over the first n of master y's streams
 unfoldable pub askedIn : List ℕ → ℕ → ℕ → ℕ → ℕ
 unfolding upto up
-askedIn spacings y w n = upto (λ j. up w (at spacings (80 * y + (j - 1)))) n
+askedIn spacings y window n = upto (λ j. up window (at spacings (80 * y + (j - 1)))) n
 
 -- V, over N masters
 unfoldable pub turnIn : List ℕ → ℕ → ℕ
@@ -67,15 +67,15 @@ boundIn counts holds N k = at counts k * turnIn holds N
 unfoldable pub lateIn : List ℕ → List ℕ → List ℕ → ℕ → ℕ → Bool
 lateIn masters deadlines counts turn i = ltb (at deadlines (i - 1)) (at counts (at masters (i - 1)) * turn)
 
--- what master k saves at y
-unfoldable pub savedIn : List ℕ → List ℕ → List ℕ → ℕ → ℕ → ℕ → ℕ
+-- what master k saves at y, for V: the window of a(y) is W and R(y)
+unfoldable pub savedIn : List ℕ → List ℕ → List ℕ → ℕ → ℕ → ℕ → ℕ → ℕ
 unfolding saving askedIn
-savedIn counts holds spacings k w y = saving (at holds) (at counts k) k (askedIn spacings y w (at counts y)) y
+savedIn counts holds spacings turn k w y = saving (at holds) (at counts k) k (askedIn spacings y (w + at counts y * turn) (at counts y)) y
 
 -- the right side for W of master k, among N masters
 unfoldable pub rightIn : List ℕ → List ℕ → List ℕ → ℕ → ℕ → ℕ → ℕ
-unfolding boundIn upto savedIn
-rightIn counts holds spacings N k w = boundIn counts holds N k - upto (savedIn counts holds spacings k w) N
+unfolding boundIn turnIn upto savedIn
+rightIn counts holds spacings N k w = boundIn counts holds N k - upto (savedIn counts holds spacings (turnIn holds N) k w) N
 
 -- its round count among N masters, and the value reached then
 unfoldable pub roundsIn : List ℕ → List ℕ → List ℕ → ℕ → ℕ → ℕ

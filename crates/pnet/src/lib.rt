@@ -98,17 +98,17 @@ fn first_late(
     n + 1
 }
 
-// min(s, a(y)) at W, of master y's n streams: more than s requests change nothing.
-fn visits(spacings: &[u32; 2640], y: usize, n: usize, w: u32, s: u32) -> u32
-    requires { ⌜ (y ≤ 32) × (n ≤ 80) × (w ≤ 4083200) × (s ≤ 80) × Spaced (now spacings) y n ⌝ }
-    ensures { λ r. ⌜ r ≡ min s (askedIn (now (spacings .entry)) y w n) ⌝ }
+// min(s, a(y)) in a window, of master y's n streams: more than s requests change nothing.
+fn visits(spacings: &[u32; 2640], y: usize, n: usize, window: u32, s: u32) -> u32
+    requires { ⌜ (y ≤ 32) × (n ≤ 80) × (window ≤ 8166400) × (s ≤ 80) × Spaced (now spacings) y n ⌝ }
+    ensures { λ r. ⌜ r ≡ min s (askedIn (now (spacings .entry)) y window n) ⌝ }
 {
     let first = 80 * y;
     let mut a: u32 = 0;
     let mut j: usize = 0;
     while j < n {
         let t = spacings[first + j];
-        a += (w + (t - 1)) / t;
+        a += (window + (t - 1)) / t;
         if s <= a {
             return s;
         }
@@ -117,66 +117,69 @@ fn visits(spacings: &[u32; 2640], y: usize, n: usize, w: u32, s: u32) -> u32
     a
 }
 
-// What master k saves at y: nothing at itself.
+// What master k saves at y: nothing at itself. The window of y's requests is W and R(y), since a request of y may have waited that
+// long when W begins (page 02, Ask 2); turn is V.
 fn saved_at(
     counts: &[u32; 33],
     holds: &[u32; 33],
     spacings: &[u32; 2640],
+    turn: u32,
     y: usize,
     k: usize,
     w: u32,
 ) -> u32
-    requires { ⌜ (k ≤ 32) × (at (now counts) k ≤ 80) × (w ≤ 4083200) × Served (now counts) (now holds) (now spacings) y ⌝ }
-    ensures { λ r. ⌜ (r ≡ savedIn (now (counts .entry)) (now (holds .entry)) (now (spacings .entry)) k w y) × (r ≤ 126800) ⌝ }
+    requires { ⌜ (turn ≤ 51040) × (k ≤ 32) × (at (now counts) k ≤ 80) × (w ≤ 4083200) × Served (now counts) (now holds) (now spacings) y ⌝ }
+    ensures { λ r. ⌜ (r ≡ savedIn (now (counts .entry)) (now (holds .entry)) (now (spacings .entry)) turn k w y) × (r ≤ 126800) ⌝ }
 {
     if y == k {
         return 0;
     }
     let s = counts[k];
-    let n = counts[y] as usize;
+    let n = counts[y];
     let hold = holds[y];
-    let a = visits(spacings, y, n, w, s);
+    let window = w + n * turn;
+    let a = visits(spacings, y, n as usize, window, s);
     (s - a) * (hold - 10)
 }
 
-// The right side for W of master k: its bound less what is saved at every master.
+// The right side for W of master k: its R less what is saved at every master; turn is V.
 fn right_of(
     counts: &[u32; 33],
     holds: &[u32; 33],
     spacings: &[u32; 2640],
     n: usize,
+    turn: u32,
     k: usize,
-    bound: u32,
     w: u32,
 ) -> u32
-    requires { ⌜ (1 ≤ k) × (k ≤ n) × (w ≤ 4083200) × (bound ≡ boundIn (now counts) (now holds) n k) × Kept n (now counts) (now holds) (now spacings) ⌝ }
+    requires { ⌜ (turn ≡ turnIn (now holds) n) × (1 ≤ k) × (k ≤ n) × (w ≤ 4083200) × Kept n (now counts) (now holds) (now spacings) ⌝ }
     ensures { λ r. ⌜ r ≡ rightIn (now (counts .entry)) (now (holds .entry)) (now (spacings .entry)) n k w ⌝ }
 {
     let mut saved: u32 = 0;
     let mut y: usize = 0;
     while y < n {
         y += 1;
-        saved += saved_at(counts, holds, spacings, y, k, w);
+        saved += saved_at(counts, holds, spacings, turn, y, k, w);
     }
-    bound - saved
+    counts[k] * turn - saved
 }
 
-// The refined search of master k, from W = 0 to the first value that equals the next one.
+// The refined search of master k, from W = 0 to the first value that equals the next one; turn is V.
 fn search(
     counts: &[u32; 33],
     holds: &[u32; 33],
     spacings: &[u32; 2640],
     n: usize,
+    turn: u32,
     k: usize,
-    bound: u32,
 ) -> Found
-    requires { ⌜ (1 ≤ k) × (k ≤ n) × (bound ≡ boundIn (now counts) (now holds) n k) × Kept n (now counts) (now holds) (now spacings) ⌝ }
+    requires { ⌜ (turn ≡ turnIn (now holds) n) × (1 ≤ k) × (k ≤ n) × Kept n (now counts) (now holds) (now spacings) ⌝ }
     ensures { λ r. ⌜ (r .refined ≡ refinedIn (now (counts .entry)) (now (holds .entry)) (now (spacings .entry)) n k) × (r .rounds ≡ roundsIn (now (counts .entry)) (now (holds .entry)) (now (spacings .entry)) n k) ⌝ }
 {
     let mut w: u32 = 0;
     let mut rounds: u32 = 0;
     loop {
-        let next = right_of(counts, holds, spacings, n, k, bound, w);
+        let next = right_of(counts, holds, spacings, n, turn, k, w);
         if next == w {
             return Found { refined: w, rounds };
         }
@@ -206,7 +209,7 @@ fn fill(
     while i < n {
         let k = i + 1;
         let r = counts[k] * turn;
-        let found = search(counts, holds, spacings, n, k, r);
+        let found = search(counts, holds, spacings, n, turn, k);
         bound[i] = r;
         refined[i] = found.refined;
         rounds[i] = found.rounds;

@@ -8,11 +8,11 @@ use Rattle.lines.specs.Lines.{inBp, inUs, inBoth, nameOf, figuresOf, masterLine
 use Rattle.report.specs.Arrays.{masterAt, segmentText}
 use Rattle.report.specs.Whole.{rowAt, tableText}
 
--- the third case's whole report; a silent master 3 has no line
-segment : segmentText (item (1000 ∷ 500 ∷ 0 ∷ [])) (item (760 ∷ 500 ∷ 0 ∷ [])) (item (2 ∷ 2 ∷ 0 ∷ [])) 3
+-- the third case's whole report, its rounds by the count of page 02, Ask 2; a silent master 3 has no line
+segment : segmentText (item (1000 ∷ 500 ∷ 0 ∷ [])) (item (760 ∷ 500 ∷ 0 ∷ [])) (item (1 ∷ 1 ∷ 0 ∷ [])) 3
     ≡ word "P-NET segment\n"
-    · word "M01 bound 1000 bp 13021 us refined 760 bp 9896 us 2 rounds\n"
-    · word "M02 bound 500 bp 6511 us refined 500 bp 6511 us 2 rounds\n"
+    · word "M01 bound 1000 bp 13021 us refined 760 bp 9896 us 1 rounds\n"
+    · word "M02 bound 500 bp 6511 us refined 500 bp 6511 us 1 rounds\n"
 unfolding segmentText masterAt masterText masterLine nameOf figuresOf inBoth inBp inUs microsUp up texts decimal places widthOf holds firstOf
 segment = refl
 

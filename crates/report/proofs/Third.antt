@@ -1,4 +1,5 @@
--- Page 01, 'Sheets worked by hand', the third case, from its bytes to its whole report. Assumes nothing.
+-- Page 01, 'Sheets worked by hand', the third case, from its bytes to its whole report; its rounds are by the count of page 02, Ask 2.
+-- Assumes nothing.
 use mathlib.Core.Path.{_≡_, refl}
 use mathlib.Core.List.{List, [], _∷_}
 use Prim.Native.Nat.{ℕ}
@@ -11,7 +12,7 @@ use Rattle.reader.specs.Walk.{byteChecks, foundAt}
 use Rattle.sheet.specs.Sheets.{streamsOf, headOf, sheetOf, fits, countOf, mostInAll, hasMaster, overLimit, metBefore}
 use Rattle.sheet.specs.Whole.{placeOf, recordsOf, recordChecks, endChecks, judge, ended, readFrom, reading}
 use Rattle.segment.specs.Segment.{segmentOf, streamAt, owns, count, longest, hold, turnBy, boundBy, turn, bound, late}
-use Rattle.segment.specs.Refined.{saving, rightBy, valueOf, stands, roundsOf, mostRounds, asked, right, rounds, refined}
+use Rattle.segment.specs.Refined.{saving, rightBy, valueOf, stands, roundsOf, mostRounds, askedBy, right, rounds, refined}
 use Rattle.pnet.specs.Planned.{firstLate, planChecks, planned}
 use Rattle.text.specs.Text.{word, _·_, places, holds, widthOf, decimal, texts}
 use Rattle.lines.specs.Lines.{inBp, inUs, inBoth, nameOf, figuresOf, masterLine}
@@ -28,7 +29,7 @@ third =
 
 pub third-case : reportOf third
     ≡ word "P-NET segment\n"
-    · word "M01 bound 1000 bp 13021 us refined 760 bp 9896 us 2 rounds\n"
-    · word "M02 bound 500 bp 6511 us refined 500 bp 6511 us 2 rounds\n"
-unfolding third reportOf firstKind foundAt byteChecks segmentReport mastersOf masterOf texts masterLine nameOf figuresOf inBoth inBp inUs microsUp up decimal places widthOf holds firstOf planned planChecks verdict firstLate late segmentOf streamAt owns count longest hold turnBy boundBy turn bound saving rightBy valueOf stands roundsOf mostRounds asked right rounds refined upto greatest reading readFrom ended judge recordChecks endChecks recordsOf placeOf streamsOf headOf sheetOf fits countOf mostInAll hasMaster overLimit metBefore kinds fieldsOf widths sizeOf known fieldAt decode limit within ranged inRange be
+    · word "M01 bound 1000 bp 13021 us refined 760 bp 9896 us 1 rounds\n"
+    · word "M02 bound 500 bp 6511 us refined 500 bp 6511 us 1 rounds\n"
+unfolding third reportOf firstKind foundAt byteChecks segmentReport mastersOf masterOf texts masterLine nameOf figuresOf inBoth inBp inUs microsUp up decimal places widthOf holds firstOf planned planChecks verdict firstLate late segmentOf streamAt owns count longest hold turnBy boundBy turn bound saving rightBy valueOf stands roundsOf mostRounds askedBy right rounds refined upto greatest reading readFrom ended judge recordChecks endChecks recordsOf placeOf streamsOf headOf sheetOf fits countOf mostInAll hasMaster overLimit metBefore kinds fieldsOf widths sizeOf known fieldAt decode limit within ranged inRange be
 third-case = refl

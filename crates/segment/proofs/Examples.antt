@@ -1,5 +1,6 @@
 -- Sheets worked by hand: page 01's third case, whose figures under the count of page 02, Ask 2, are R 1,000 and 500, W 760 and 500, rounds 1 and 1;
--- and the sheet of that ask, T and D of the second master's stream 1,000 bp: W 1,000 after 2 rounds. Assumes nothing.
+-- and the sheet of that ask, T and D of the second master's stream 1,000 bp: W 1,000 after 2 rounds. With 1,300 bp it is 760, the least of
+-- two solutions. Assumes nothing.
 use Prim.Native.Nat.{ℕ}
 use mathlib.Core.Path.{_≡_, refl}
 use mathlib.Core.List.{[], _∷_}
@@ -27,3 +28,8 @@ refineds = (refl, refl, refl, refl)
 waits-from-before : (refined (two 1000) 1 ≡ 1000) × (rounds (two 1000) 1 ≡ 2)
 unfolding segmentOf streamAt owns count longest hold turnBy boundBy turn bound upto greatest up firstOf saving rightBy valueOf stands roundsOf mostRounds askedBy right rounds refined
 waits-from-before = (refl, refl)
+
+-- 760 and 1,000 both solve it
+least-of-two : (refined (two 1300) 1 ≡ 760) × (rounds (two 1300) 1 ≡ 1)
+unfolding segmentOf streamAt owns count longest hold turnBy boundBy turn bound upto greatest up firstOf saving rightBy valueOf stands roundsOf mostRounds askedBy right rounds refined
+least-of-two = (refl, refl)

@@ -1,5 +1,5 @@
-// Plans sheets worked by hand, page 01 and the cases that are easy to get wrong: a line for each, with the answer and then what the
-// three lent runs hold. Every place of a run holds 9 before.
+// Plans sheets worked by hand, of pages 01 and 02 and the cases that are easy to get wrong: a line for each, with the answer and then
+// what the three lent runs hold. Every place of a run holds 9 before.
 use format::Put;
 use format::Record;
 use libc::STDOUT_FILENO;
@@ -139,13 +139,10 @@ fn few(name: &[u8], n: u32, figures: &[u32], room: usize)
     case(name, &s[..end], room, room, room);
 }
 
-fn page() {
-    // Page 01, 'Sheets worked by hand': V 1,000, so R 2,000.
-    four(b"D 2000 bp", 2000, 5, 5, 5);
-    four(b"D 1999 bp", 1999, 5, 5, 5);
-    // The next case of the page: W 760 and 500.
+// The page's two masters with two streams and one, C 203; T and D 100,000, but of master 2's stream as given.
+fn second(name: &[u8], spacing: u32) {
     few(
-        b"T 100000 bp",
+        name,
         2,
         &[
             1,
@@ -158,11 +155,50 @@ fn page() {
             100000,
             2,
             203,
-            100000,
-            100000,
+            spacing,
+            spacing,
         ],
         4,
     );
+}
+
+// Two masters with four streams and one, V 150; T and D 100,000, but of the fifth stream as given.
+fn fifth(name: &[u8], spacing: u32) {
+    few(
+        name,
+        2,
+        &[
+            1,
+            3,
+            100000,
+            100000,
+            1,
+            3,
+            100000,
+            100000,
+            1,
+            3,
+            100000,
+            100000,
+            1,
+            3,
+            100000,
+            100000,
+            2,
+            53,
+            spacing,
+            spacing,
+        ],
+        3,
+    );
+}
+
+fn page() {
+    // Page 01, 'Sheets worked by hand': V 1,000, so R 2,000.
+    four(b"D 2000 bp", 2000, 5, 5, 5);
+    four(b"D 1999 bp", 1999, 5, 5, 5);
+    // The next case of the page: W 760 and 500, by the count of page 02, Ask 2, after one round.
+    second(b"T 100000 bp", 100000);
     ten();
 }
 
@@ -217,82 +253,19 @@ fn deadlines() {
 }
 
 fn searches() {
+    // The sheet of page 02, Ask 2: values 0, 760, 1,000, since the window is W and R(2) = 500.
+    second(b"T 1000 bp", 1000);
     // W 760 and W 1,000 both solve it; the least is asked.
-    few(
-        b"T 900 bp",
-        2,
-        &[
-            1,
-            203,
-            100000,
-            100000,
-            1,
-            203,
-            100000,
-            100000,
-            2,
-            203,
-            900,
-            900,
-        ],
-        3,
-    );
-    // Values 0, 240, 420, 510, 600.
-    few(
-        b"T 150 bp",
-        2,
-        &[
-            1,
-            3,
-            100000,
-            100000,
-            1,
-            3,
-            100000,
-            100000,
-            1,
-            3,
-            100000,
-            100000,
-            1,
-            3,
-            100000,
-            100000,
-            2,
-            53,
-            150,
-            150,
-        ],
-        3,
-    );
-    // Values 0, 240, 420, 510.
-    few(
-        b"T 200 bp",
-        2,
-        &[
-            1,
-            3,
-            100000,
-            100000,
-            1,
-            3,
-            100000,
-            100000,
-            1,
-            3,
-            100000,
-            100000,
-            1,
-            3,
-            100000,
-            100000,
-            2,
-            53,
-            200,
-            200,
-        ],
-        3,
-    );
+    second(b"T 1300 bp", 1300);
+    // W and R(2), 760 + 500, are exactly one T, and one bit period more than one T.
+    second(b"T 1260 bp", 1260);
+    second(b"T 1259 bp", 1259);
+    // Values 0, 330, 600.
+    fifth(b"T 150 bp", 150);
+    // Values 0, 330, 510, 600.
+    fifth(b"T 200 bp", 200);
+    // Values 0, 330, 420, 510.
+    fifth(b"T 250 bp", 250);
     // Master 2 is silent and costs 10: V 510.
     few(
         b"a silent master",

@@ -1,4 +1,4 @@
-// Reports of sheets worked by hand, page 01 and the cases that are easy to get wrong, each behind a line that names it.
+// Reports of sheets worked by hand, of pages 01 and 02 and the cases that are easy to get wrong, each behind a line that names it.
 use libc::STDOUT_FILENO;
 use report::Reported;
 
@@ -20,6 +20,10 @@ fn segments() {
     show(
         b"# the page's third case: N 2, C 203, T and D 100,000",
         b"\x01\x02\x02\x01\x00\xcb\x00\x01\x86\xa0\x00\x01\x86\xa0\x02\x01\x00\xcb\x00\x01\x86\xa0\x00\x01\x86\xa0\x02\x02\x00\xcb\x00\x01\x86\xa0\x00\x01\x86\xa0",
+    );
+    show(
+        b"# page 02's sheet: the same but T and D 1,000 of the last stream",
+        b"\x01\x02\x02\x01\x00\xcb\x00\x01\x86\xa0\x00\x01\x86\xa0\x02\x01\x00\xcb\x00\x01\x86\xa0\x00\x01\x86\xa0\x02\x02\x00\xcb\x00\x00\x03\xe8\x00\x00\x03\xe8",
     );
     show(
         b"# N 4, two streams each, D 2,000 but 1,999 for the third",

@@ -1,4 +1,5 @@
--- Page 01, 'Sheets worked by hand': the table of the cases marked (p) is right, by one test that the checker computes. Assumes nothing.
+-- Page 01, 'Sheets worked by hand', and page 02, Ask 2: the table of the cases is right, by one test that the checker computes.
+-- Assumes nothing.
 use mathlib.Core.Path.{_≡_, refl}
 use mathlib.Core.Bool.{true}
 use Rattle.table.specs.Build.{byRank, row, missRow}

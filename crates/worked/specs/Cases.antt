@@ -1,5 +1,6 @@
--- Page 01, 'Sheets worked by hand': the cases marked (p), in one table. Each sheet goes through its bytes: it is written record by
--- record, read and planned by the definitions that the planners' contracts cite. Assumes nothing.
+-- Page 01, 'Sheets worked by hand': the cases marked (p), in one table, and the sheet of page 02, Ask 2. The count behind W and its
+-- rounds is that of page 02, Ask 2, for all of them. Each sheet goes through its bytes: it is written record by record, read and planned
+-- by the definitions that the planners' contracts cite. Assumes nothing.
 use Prim.Native.Nat.{ℕ}
 use mathlib.Core.List.{List, [], _∷_, _++_}
 use mathlib.Core.Bool.{Bool, true, false, _&&_}
@@ -83,8 +84,9 @@ four last =
     ∷ pnetStream 4 203 100000 2000 ∷ pnetStream 4 203 100000 last
     ∷ []
 
-abbrev pub two : List Record
-two = segment 2 ∷ pnetStream 1 203 100000 100000 ∷ pnetStream 1 203 100000 100000 ∷ pnetStream 2 203 100000 100000 ∷ []
+-- N = 2, two streams and one, C = 203; T = D = 100,000 but of the last, which has `last`
+abbrev pub two : ℕ → List Record
+two last = segment 2 ∷ pnetStream 1 203 100000 100000 ∷ pnetStream 1 203 100000 100000 ∷ pnetStream 2 203 last last ∷ []
 
 abbrev pub three : List Record
 three = ringHead 3 300 500 ∷ ringStream 1 400 8400 ∷ ringStream 1 500 10000 ∷ ringStream 2 300 5000 ∷ []
@@ -118,10 +120,12 @@ cases =
     ∷ ((periodsDown (us 26041) .0 ∷ []) is (1999 ∷ []))
     ∷ ((periodsDown (us 26042) .0 ∷ []) is (2000 ∷ []))
     -- V 1,000, R 2,000 bp; D = 2,000 passes, 1,999 is refused with 8
-    ∷ (pnet (four 2000) is (1000 ∷ 2000 ∷ 2000 ∷ 2000 ∷ 2000 ∷ 2000 ∷ 2000 ∷ 2000 ∷ 2000 ∷ 2 ∷ 2 ∷ 2 ∷ 2 ∷ []))
+    ∷ (pnet (four 2000) is (1000 ∷ 2000 ∷ 2000 ∷ 2000 ∷ 2000 ∷ 2000 ∷ 2000 ∷ 2000 ∷ 2000 ∷ 1 ∷ 1 ∷ 1 ∷ 1 ∷ []))
     ∷ (pnet (four 1999) is (8 ∷ 8 ∷ []))
-    -- R 1,000 and 500; W 760 and 500; rounds 2 and 2
-    ∷ (pnet two is (500 ∷ 1000 ∷ 500 ∷ 760 ∷ 500 ∷ 2 ∷ 2 ∷ []))
+    -- R 1,000 and 500; W 760 and 500; rounds 1 and 1 by the count of page 02, Ask 2, where page 01's gives 2 and 2
+    ∷ (pnet (two 100000) is (500 ∷ 1000 ∷ 500 ∷ 760 ∷ 500 ∷ 1 ∷ 1 ∷ []))
+    -- page 02, Ask 2: W 1,000 after 2 rounds, where the count of page 01 gives 760
+    ∷ (pnet (two 1000) is (500 ∷ 1000 ∷ 500 ∷ 1000 ∷ 500 ∷ 2 ∷ 1 ∷ []))
     -- TTR 2,500, limited by stream 1
     ∷ (profibus three is (2500 ∷ 1 ∷ []))
     -- slots 2, rows 3, 5, 3, 9; a fifth place keeps what it had. With the third at 2,000: refused, 12, variable 4

@@ -37,10 +37,8 @@ mul-r-2 c =
 
 search-requires : tie.Need-search-requires Inv-loop μ-loop
 search-requires c κs =
-    let a = c .before .before .before .before .before .before .args in
     let p = c .before .before .before .before .before .before .pre .0 in
-    let k = c .before .before .loop .i + 1 in
-    (search needs, search needs, bound-is (a .counts .now) (a .holds .now) (a .n) k (a .turn) (p .0), p .1)
+    (p .0, search needs, search needs, p .1)
 
 mul-bound : tie.Need-mul-bound Inv-loop μ-loop
 mul-bound c = search needs

@@ -1,7 +1,9 @@
--- `saved_at` meets its contract: at k itself nothing is saved, else what `visits` leaves of s, times what a visit costs beyond 10. Assumes nothing.
+-- `saved_at` meets its contract: at k itself nothing is saved, else what `visits` leaves of s, times what a visit costs beyond 10. W and
+-- R(y) are each at most 80·V, so the window fits. Assumes nothing.
+use Prim.Native.Nat.{_*_, _≤_}
 use native.Mathlib.Omega.{arith}
 use Rattle.pnet.specs.Arrays.{at}
-use Rattle.pnet.proofs.Arrays.{saved-own, saved-other, saved-small}
+use Rattle.pnet.proofs.Arrays.{saved-own, saved-other, saved-small, product-small}
 use borrow.Author.Needs.{needs}
 use Rattle.pnet.proofs.saved_at.Statement.{statement}
 use Rattle.pnet.proofs.saved_at.Tie as tie
@@ -9,7 +11,7 @@ use Rattle.pnet.proofs.saved_at.Tie as tie
 returns : tie.Need-returns
 returns c =
     let a = c .before .args in
-    (saved-own (a .counts .now) (a .holds .now) (a .spacings .now) (a .k) (a .w) (a .y) (c .if1 .taken), search needs)
+    (saved-own (a .counts .now) (a .holds .now) (a .spacings .now) (a .turn) (a .k) (a .w) (a .y) (c .if1 .taken), search needs)
 
 mul-s : tie.Need-mul-s
 mul-s c = search needs
@@ -23,17 +25,32 @@ mul-n c = search needs
 element-copy-out-n : tie.Need-element-copy-out-n
 element-copy-out-n c = search needs
 
-cast-n : tie.Need-cast-n
-cast-n c = search needs
-
 mul-hold : tie.Need-mul-hold
 mul-hold c = search needs
 
 element-copy-out-hold : tie.Need-element-copy-out-hold
 element-copy-out-hold c = search needs
 
+-- R(y) is small
+waited : (c : tie.After-hold) → at (c .before .before .before .before .args .counts .now) (c .before .before .before .before .args .y) * c .before .before .before .before .args .turn ≤ 4083200
+waited c =
+    let a = c .before .before .before .before .args in
+    let p = c .before .before .before .before .pre in
+    product-small (at (a .counts .now) (a .y)) (a .turn) (p .4 .count-to) (p .0)
+
+mul-window : tie.Need-mul-window
+mul-window c = omega (arith, waited c)
+
+add-window : tie.Need-add-window
+add-window c = omega (arith, waited c)
+
+cast-visits : tie.Need-cast-visits
+cast-visits c = search needs
+
 visits-requires : tie.Need-visits-requires
-visits-requires c κs = search needs
+visits-requires c κs =
+    let p = c .before .before .before .before .pre in
+    (p .4 .inside, p .4 .count-to, omega (arith, waited c), p .2, p .4 .spaced)
 
 sub-result : tie.Need-sub-result
 sub-result c = search needs
@@ -49,7 +66,7 @@ mul-result c =
 returns-2 : tie.Need-returns-2
 returns-2 c =
     let a = c .before .before .before .before .before .args in (
-      saved-other (a .counts .now) (a .holds .now) (a .spacings .now) (a .k) (a .w) (a .y) (c .visits .result) (c .before .before .before .before .if1 .left) (c .visits .ensures),
+      saved-other (a .counts .now) (a .holds .now) (a .spacings .now) (a .turn) (a .k) (a .w) (a .y) (c .visits .result) (c .before .before .before .before .if1 .left) (c .visits .ensures),
       saved-small (at (a .counts .now) (a .k)) (c .visits .result) (at (a .holds .now) (a .y)) (search needs) (search needs),
     )
 
@@ -62,9 +79,11 @@ saved-at-spec =
     element-copy-out-s
     mul-n
     element-copy-out-n
-    cast-n
     mul-hold
     element-copy-out-hold
+    mul-window
+    add-window
+    cast-visits
     visits-requires
     sub-result
     sub-result-2

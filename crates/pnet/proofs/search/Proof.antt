@@ -9,10 +9,10 @@ use Rattle.pnet.proofs.search.Statement.{statement}
 use Rattle.pnet.proofs.search.Tie as tie
 
 abbrev Inv-loop : tie.InvT-loop
-Inv-loop counts holds spacings n k bound w₀ rounds₀ w rounds = Moving (rightIn counts holds spacings n k) rounds w
+Inv-loop counts holds spacings n turn k w₀ rounds₀ w rounds = Moving (rightIn counts holds spacings n k) rounds w
 
 abbrev μ-loop : tie.MeasureT-loop
-μ-loop counts holds spacings n k bound w₀ rounds₀ w rounds = 2 + (n - 1) * at counts k - rounds
+μ-loop counts holds spacings n turn k w₀ rounds₀ w rounds = 2 + (n - 1) * at counts k - rounds
 
 loop-holds : tie.Need-loop-holds Inv-loop μ-loop
 loop-holds c = moving-none (rightIn (c .args .counts .now) (c .args .holds .now) (c .args .spacings .now) (c .args .n) (c .args .k))
@@ -21,28 +21,28 @@ right-of-requires : tie.Need-right-of-requires Inv-loop μ-loop
 right-of-requires c κs =
     let a = c .before .args in
     let p = c .before .pre in
-    let small = moving-small (a .counts .now) (a .holds .now) (a .spacings .now) (a .n) (a .k) (p .3) (p .0) (p .1) (c .loop .rounds) (c .loop .w) (c .loop .inv) in
-    (p .0, p .1, small, p .2, p .3)
+    let small = moving-small (a .counts .now) (a .holds .now) (a .spacings .now) (a .n) (a .k) (p .3) (p .1) (p .2) (c .loop .rounds) (c .loop .w) (c .loop .inv) in
+    (p .0, p .1, p .2, small, p .3)
 
 returns : tie.Need-returns Inv-loop μ-loop
 returns c =
     let a = c .before .before .before .args in
     let p = c .before .before .before .pre in
     let l = c .before .before .loop in
-    found (a .counts .now) (a .holds .now) (a .spacings .now) (a .n) (a .k) (p .3) (p .0) (p .1) (l .rounds) (l .w) (c .before .right-of .result) (l .inv) (c .before .right-of .ensures) (c .if1 .taken)
+    found (a .counts .now) (a .holds .now) (a .spacings .now) (a .n) (a .k) (p .3) (p .1) (p .2) (l .rounds) (l .w) (c .before .right-of .result) (l .inv) (c .before .right-of .ensures) (c .if1 .taken)
 
 few : (c : tie.Else1 Inv-loop μ-loop) → c .before .before .loop .rounds ≤ 1 + (c .before .before .before .args .n - 1) * at (c .before .before .before .args .counts .now) (c .before .before .before .args .k)
 few c =
     let a = c .before .before .before .args in
     let p = c .before .before .before .pre in
     let l = c .before .before .loop in
-    moving-few (a .counts .now) (a .holds .now) (a .spacings .now) (a .n) (a .k) (p .3) (p .0) (p .1) (l .rounds) (l .w) (l .inv)
+    moving-few (a .counts .now) (a .holds .now) (a .spacings .now) (a .n) (a .k) (p .3) (p .1) (p .2) (l .rounds) (l .w) (l .inv)
 
 add-rounds : tie.Need-add-rounds Inv-loop μ-loop
 add-rounds c =
     let a = c .before .before .before .args in
     let p = c .before .before .before .pre in
-    omega (arith, few c, rounds-small (a .counts .now) (a .holds .now) (a .spacings .now) (a .n) (a .k) (p .3) (p .0) (p .1))
+    omega (arith, few c, rounds-small (a .counts .now) (a .holds .now) (a .spacings .now) (a .n) (a .k) (p .3) (p .1) (p .2))
 
 loop-less : tie.Need-loop-less Inv-loop μ-loop
 loop-less c = omega (arith, few c)

@@ -11,16 +11,16 @@ use Rattle.pnet.proofs.visits.Statement.{statement}
 use Rattle.pnet.proofs.visits.Tie as tie
 
 abbrev Inv-loop : tie.InvT-loop
-Inv-loop spacings y n w s first a₀ j₀ a j = (j ≤ n) × (a ≡ askedIn spacings y w j) × (a ≤ s)
+Inv-loop spacings y n window s first a₀ j₀ a j = (j ≤ n) × (a ≡ askedIn spacings y window j) × (a ≤ s)
 
 abbrev μ-loop : tie.MeasureT-loop
-μ-loop spacings y n w s first a₀ j₀ a j = n - j
+μ-loop spacings y n window s first a₀ j₀ a j = n - j
 
 mul-first : tie.Need-mul-first Inv-loop μ-loop
 mul-first c = search needs
 
 loop-holds : tie.Need-loop-holds Inv-loop μ-loop
-loop-holds c = (search needs, asked-none (c .args .spacings .now) (c .args .y) (c .args .w), search needs)
+loop-holds c = (search needs, asked-none (c .args .spacings .now) (c .args .y) (c .args .window), search needs)
 
 add-t : tie.Need-add-t Inv-loop μ-loop
 add-t c = search needs
@@ -46,14 +46,14 @@ div-a c = from c
 
 add-a-2 : tie.Need-add-a-2 Inv-loop μ-loop
 unfolding up
-add-a-2 c = omega (arith, up-less (c .before .before .before .args .w) _ (from c))
+add-a-2 c = omega (arith, up-less (c .before .before .before .args .window) _ (from c))
 
 returns : tie.Need-returns Inv-loop μ-loop
 unfolding up
 returns c =
     let a = c .before .before .before .before .args in
     let j = c .before .before .before .loop .j in
-    asked-enough (a .spacings .now) (a .y) (a .w) (a .s) (j + 1) (a .n) (omega arith) (omega (arith, asked-more (a .spacings .now) (a .y) (a .w) j))
+    asked-enough (a .spacings .now) (a .y) (a .window) (a .s) (j + 1) (a .n) (omega arith) (omega (arith, asked-more (a .spacings .now) (a .y) (a .window) j))
 
 add-j : tie.Need-add-j Inv-loop μ-loop
 add-j c = search needs
@@ -66,13 +66,13 @@ unfolding up
 loop-again c =
     let a = c .before .before .before .before .args in
     let j = c .before .before .before .loop .j in
-    (search needs, omega (arith, asked-more (a .spacings .now) (a .y) (a .w) j), search needs)
+    (search needs, omega (arith, asked-more (a .spacings .now) (a .y) (a .window) j), search needs)
 
 returns-2 : tie.Need-returns-2 Inv-loop μ-loop
 returns-2 c =
     let a = c .before .before .args in
     let e : c .before .loop .j ≡ a .n = omega arith in
-    omega (arith, ap (askedIn (a .spacings .now) (a .y) (a .w)) e)
+    omega (arith, ap (askedIn (a .spacings .now) (a .y) (a .window)) e)
 
 pub visits-spec : {M : Type 1} → statement M
 visits-spec =
