@@ -1,4 +1,4 @@
--- `lines::put_both` stores a bound in bp and in us. Assumes nothing.
+-- `phrases::put_both` stores a bound in bp and in us. Assumes nothing.
 use mathlib.Core.Path.{_≡_, sym}
 use mathlib.Core.List.{List, _++_, append-assoc}
 use Prim.Native.Nat.{ℕ}
@@ -6,10 +6,10 @@ use borrow.Author.Needs.{needs}
 use Rattle.units.specs.Units.{microsUp}
 use Rattle.units.specs.declared.BitPeriods.{BitPeriods}
 use Rattle.text.specs.Text.{word}
-use Rattle.lines.specs.Lines.{inBp, inUs, inBoth}
+use Rattle.phrases.specs.Phrases.{inBp, inUs, inBoth}
 use Rattle.text.proofs.Writing.{wrote-then}
-use Rattle.lines.proofs.put_both.Statement.{statement}
-use Rattle.lines.proofs.put_both.Tie as tie
+use Rattle.phrases.proofs.put_both.Statement.{statement}
+use Rattle.phrases.proofs.put_both.Tie as tie
 
 -- the two pieces that the code stores
 pieces : (p : List ℕ) (b : BitPeriods) → p ++ inBoth b ≡ (p ++ inBp b) ++ (word " " ++ inUs (microsUp b))

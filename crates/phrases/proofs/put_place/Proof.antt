@@ -1,12 +1,12 @@
--- `lines::put_place` stores a refusal's place in words. Assumes nothing.
+-- `phrases::put_place` stores a refusal's place in words. Assumes nothing.
 use mathlib.Core.Path.{_≡_}
 use Prim.Native.Nat.{ℕ, _≤_, _<_}
 use borrow.Author.Tests.{le-leb, lt-leb, eq-eqb, ne-eqb}
 use borrow.Author.Needs.{needs}
-use Rattle.lines.specs.Lines.{placeText, placeEnd}
+use Rattle.phrases.specs.Phrases.{placeText, placeEnd}
 use Rattle.text.specs.Text.{word, counted}
-use Rattle.lines.proofs.put_place.Statement.{statement}
-use Rattle.lines.proofs.put_place.Tie as tie
+use Rattle.phrases.proofs.put_place.Statement.{statement}
+use Rattle.phrases.proofs.put_place.Tie as tie
 
 -- ---- What the place is, by the number
 

@@ -1,13 +1,13 @@
--- `lines::put_refusal` stores the line of a refusal. Assumes nothing.
+-- `phrases::put_refusal` stores the line of a refusal. Assumes nothing.
 use mathlib.Core.Path.{_≡_}
 use mathlib.Core.List.{[], _++_}
 use Prim.Native.Nat.{ℕ}
 use borrow.Author.Needs.{needs}
 use Rattle.text.specs.Text.{word, counted}
-use Rattle.lines.specs.Lines.{placeEnd, refusalText}
+use Rattle.phrases.specs.Phrases.{placeEnd, refusalText}
 use Rattle.text.proofs.Writing.{wrote-then, counted-then}
-use Rattle.lines.proofs.put_refusal.Statement.{statement}
-use Rattle.lines.proofs.put_refusal.Tie as tie
+use Rattle.phrases.proofs.put_refusal.Statement.{statement}
+use Rattle.phrases.proofs.put_refusal.Tie as tie
 
 -- the two pieces that the code stores
 pieces : (n p : ℕ) → refusalText n p ≡ counted (word "refused ") n [] ++ placeEnd n p

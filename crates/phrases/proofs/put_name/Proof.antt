@@ -1,9 +1,9 @@
--- `lines::put_name` stores `M` and two digits. Assumes nothing.
+-- `phrases::put_name` stores `M` and two digits. Assumes nothing.
 use borrow.Author.Needs.{needs}
-use Rattle.lines.specs.Lines.{nameOf}
+use Rattle.phrases.specs.Phrases.{nameOf}
 use Rattle.text.proofs.Writing.{wrote-then}
-use Rattle.lines.proofs.put_name.Statement.{statement}
-use Rattle.lines.proofs.put_name.Tie as tie
+use Rattle.phrases.proofs.put_name.Statement.{statement}
+use Rattle.phrases.proofs.put_name.Tie as tie
 
 slice-aggregate-put-word : tie.Need-slice-aggregate-put-word
 slice-aggregate-put-word c = search needs

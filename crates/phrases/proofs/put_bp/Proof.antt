@@ -1,9 +1,9 @@
--- `lines::put_bp` stores a count of bp and its unit word. Assumes nothing.
+-- `phrases::put_bp` stores a count of bp and its unit word. Assumes nothing.
 use borrow.Author.Needs.{needs}
 use Rattle.text.specs.Text.{counted}
-use Rattle.lines.specs.Lines.{inBp}
-use Rattle.lines.proofs.put_bp.Statement.{statement}
-use Rattle.lines.proofs.put_bp.Tie as tie
+use Rattle.phrases.specs.Phrases.{inBp}
+use Rattle.phrases.proofs.put_bp.Statement.{statement}
+use Rattle.phrases.proofs.put_bp.Tie as tie
 
 cast-put-counted : tie.Need-cast-put-counted
 cast-put-counted c = search needs

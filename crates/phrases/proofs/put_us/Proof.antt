@@ -1,9 +1,9 @@
--- `lines::put_us` stores a count of us and its unit word. Assumes nothing.
+-- `phrases::put_us` stores a count of us and its unit word. Assumes nothing.
 use borrow.Author.Needs.{needs}
 use Rattle.text.specs.Text.{counted}
-use Rattle.lines.specs.Lines.{inUs}
-use Rattle.lines.proofs.put_us.Statement.{statement}
-use Rattle.lines.proofs.put_us.Tie as tie
+use Rattle.phrases.specs.Phrases.{inUs}
+use Rattle.phrases.proofs.put_us.Statement.{statement}
+use Rattle.phrases.proofs.put_us.Tie as tie
 
 slice-aggregate-put-counted : tie.Need-slice-aggregate-put-counted
 slice-aggregate-put-counted c = search needs
