@@ -12,14 +12,14 @@ use Rattle.common.specs.Checks.Verdict.{Passed, Refused}
 use Rattle.common.proofs.Checks.{Applies, Clear, refused-if, passed-if, passed-then}
 use Rattle.common.proofs.Checks.Applies.{here, later}
 use Rattle.common.proofs.Checks.Clear.{none, and}
 use Rattle.format.specs.declared.Record.{Record}
-use Rattle.format.specs.declared.Put.{Put}
-use Rattle.format.specs.declared.Put.the-variants as put
+use Rattle.writer.specs.declared.Put.{Put}
+use Rattle.writer.specs.declared.Put.the-variants as put
 use Rattle.format.specs.Numbers.{pasted}
 use Rattle.format.specs.Kinds.{known, sizeOf, encode, decode, whole, inRange}
-use Rattle.format.specs.Writing.{mostMasters, mostMessage, needed, writeChecks, putBy, pastedBy, putAnswer, putBytes}
+use Rattle.writer.specs.Writing.{mostMasters, mostMessage, needed, writeChecks, putBy, pastedBy, putAnswer, putBytes}
 use Rattle.format.proofs.Numbers.{length-pasted, pasted-front}
-use Rattle.format.proofs.Trips.{length-encode, decode-encode, whole-encode}
+use Rattle.writer.proofs.Trips.{length-encode, decode-encode, whole-encode}
 
 -- what a call answers and leaves in the buffer
 abbrev pub Written : List ℕ → ℕ → Record → Put → List ℕ → Type 0

@@ -1,15 +1,15 @@
--- `format::put_whole` meets its contract: no room, counted or not, or the record is put. Assumes nothing.
+-- `writer::put_whole` meets its contract: no room, counted or not, or the record is put. Assumes nothing.
 use Prim.Native.Nat.{ℕ, _+_}
 use mathlib.Core.Path.{_≡_, ap, sym, _∙_}
 use native.Mathlib.Omega.{arith}
-use Rattle.format.specs.declared.Put.the-variants.{Next}
+use Rattle.writer.specs.declared.Put.the-variants.{Next}
 use Rattle.format.specs.Kinds.{sizeOf}
-use Rattle.format.specs.Writing.{needed}
+use Rattle.writer.specs.Writing.{needed}
 use Rattle.format.proofs.Tables.{size-is}
-use Rattle.format.proofs.Writing.{short-written, room-written, needed-is, needed-none}
+use Rattle.writer.proofs.Writing.{short-written, room-written, needed-is, needed-none}
 use borrow.Author.Needs.{needs}
-use Rattle.format.proofs.put_whole.Statement.{statement}
-use Rattle.format.proofs.put_whole.Tie as tie
+use Rattle.writer.proofs.put_whole.Statement.{statement}
+use Rattle.writer.proofs.put_whole.Tie as tie
 
 add-size : tie.Need-add-size
 add-size c = search needs

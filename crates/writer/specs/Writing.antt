@@ -6,11 +6,11 @@ use lib.ListN.{length}
 use lib.Dec.{ltb}
 use Rattle.common.specs.Checks.{Check, check, Verdict, verdict}
 use Rattle.common.specs.Checks.Verdict.{Passed, Refused}
 use Rattle.format.specs.Numbers.{pasted}
 use Rattle.format.specs.Kinds.{known, sizeOf, encode, inRange}
 use Rattle.format.specs.declared.Record.{Record}
-use Rattle.format.specs.declared.Put.{Put}
-use Rattle.format.specs.declared.Put.the-variants as put
+use Rattle.writer.specs.declared.Put.{Put}
+use Rattle.writer.specs.declared.Put.the-variants as put
 
 -- limits that need another record are taken at their greatest: 32 masters, a longest message of 100,000
 abbrev pub mostMasters : ℕ

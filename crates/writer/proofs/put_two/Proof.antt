@@ -1,12 +1,12 @@
--- `format::put_two` meets its contract: the second run of digits stands right behind the first. Assumes nothing.
+-- `writer::put_two` meets its contract: the second run of digits stands right behind the first. Assumes nothing.
 use Prim.Native.Nat.{_+_}
 use mathlib.Core.Path.{_∙_}
 use native.Mathlib.Omega.{arith}
 use Rattle.format.specs.Numbers.{digits}
 use Rattle.format.proofs.Numbers.{length-digits, paste-next}
 use borrow.Author.Needs.{needs}
-use Rattle.format.proofs.put_two.Statement.{statement}
-use Rattle.format.proofs.put_two.Tie as tie
+use Rattle.writer.proofs.put_two.Statement.{statement}
+use Rattle.writer.proofs.put_two.Tie as tie
 
 put-number-requires : tie.Need-put-number-requires
 put-number-requires c κs = search needs

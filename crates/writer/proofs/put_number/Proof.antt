@@ -1,14 +1,14 @@
--- `format::put_number` meets its contract: with the digits that are left to put, the buffer is what is asked. Assumes nothing.
+-- `writer::put_number` meets its contract: with the digits that are left to put, the buffer is what is asked. Assumes nothing.
 use Prim.Native.Nat.{_≤_, _-_, _+_}
 use mathlib.Core.Path.{_≡_, _∙_, sym}
 use mathlib.Core.List.{_++_}
 use native.Mathlib.Omega.{arith}
 use borrow.Author.Needs.{needs}
 use lib.ListN.{length, take, drop}
 use Rattle.format.specs.Numbers.{digits}
 use Rattle.format.proofs.Numbers.{put-step, put-done, length-digits}
-use Rattle.format.proofs.put_number.Statement.{statement}
-use Rattle.format.proofs.put_number.Tie as tie
+use Rattle.writer.proofs.put_number.Statement.{statement}
+use Rattle.writer.proofs.put_number.Tie as tie
 
 abbrev Inv-loop : tie.InvT-loop
 Inv-loop buf₀ at w v x₀ j₀ buf x j =

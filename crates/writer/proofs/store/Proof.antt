@@ -1,10 +1,10 @@
--- `format::store` meets its contract, for any widths that a kind has. Assumes nothing.
+-- `writer::store` meets its contract, for any widths that a kind has. Assumes nothing.
 use native.Mathlib.Omega.{arith}
 use lib.ListN.{length-set}
-use Rattle.format.proofs.Stored.{stored}
+use Rattle.writer.proofs.Stored.{stored}
 use borrow.Author.Needs.{needs}
-use Rattle.format.proofs.store.Statement.{statement}
-use Rattle.format.proofs.store.Tie as tie
+use Rattle.writer.proofs.store.Statement.{statement}
+use Rattle.writer.proofs.store.Tie as tie
 
 slice-write-buf : tie.Need-slice-write-buf
 slice-write-buf c = search needs

@@ -11,17 +11,17 @@ use borrow.Author.Tests.{le-leb, leb-true, ltb-true, eqb-true}
 use lib.Dec.{ltb, leb, eqb}
 use lib.ListN.{length, getD, take, drop, length-append}
 use lib.Seq.{getD-at, getD-take, take-add, drop-drop, drop-cons}
 use Rattle.format.specs.declared.Record.{Record}
 use Rattle.format.specs.Numbers.{be, digits}
 use Rattle.format.specs.Kinds.{Field, Limit, kinds, fieldsOf, widths, sizeOf, known, fieldAt, decode, body, numbers, encode, whole, limit, within, ranged, inRange}
 use Rattle.format.specs.Kinds.Limit.{is, masters, message, spacing}
 use Rattle.format.specs.Widths.{widthAt}
-use Rattle.format.specs.Writing.{mostMasters, mostMessage}
+use Rattle.writer.specs.Writing.{mostMasters, mostMessage}
 use Rattle.format.proofs.Numbers.{length-digits, be-digits, be-same, digits-be}
 use Rattle.format.proofs.Tables.{both-true, at-every-kind, wide, size-is, fields-at-most}
-use Rattle.format.proofs.Stored.{encode-is}
+use Rattle.writer.proofs.Stored.{encode-is}
 use Rattle.format.proofs.Records.{decode-is}
 use Rattle.format.proofs.Ranges.{within-range, limit-mono}
 
 -- ---- Whole records
 

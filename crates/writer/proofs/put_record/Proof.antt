@@ -1,15 +1,15 @@
--- `format::put_record` meets its contract: 2, then 4, then what `put_whole` answers at the kind's widths. Assumes nothing.
+-- `writer::put_record` meets its contract: 2, then 4, then what `put_whole` answers at the kind's widths. Assumes nothing.
 use mathlib.Core.Path.{_≡_, refl, sym, _∙_}
 use native.Mathlib.Nat.{le-antisymm}
 use native.Mathlib.Omega.{arith}
 use borrow.Author.Tests.{not-true, not-false}
 use Rattle.format.specs.Kinds.{kinds, fieldsOf, known}
 use Rattle.format.specs.Widths.{widthAt}
 use Rattle.format.proofs.Tables.{wide, known-bounds}
-use Rattle.format.proofs.Writing.{unknown-written, range-written}
+use Rattle.writer.proofs.Writing.{unknown-written, range-written}
 use borrow.Author.Needs.{needs}
-use Rattle.format.proofs.put_record.Statement.{statement}
-use Rattle.format.proofs.put_record.Tie as tie
+use Rattle.writer.proofs.put_record.Statement.{statement}
+use Rattle.writer.proofs.put_record.Tie as tie
 
 known-requires : tie.Need-known-requires
 known-requires c κs = search needs
