@@ -3,7 +3,7 @@ use mathlib.Core.Path.{_≡_, refl}
 use mathlib.Core.List.{[], _∷_}
 use Rattle.common.specs.Sums.{sum, firstOf}
 use Rattle.text.specs.Text.{word, _·_, places, holds, widthOf, decimal, item, texts}
-use Rattle.lines.specs.Lines.{inBp, nameOf}
+use Rattle.phrases.specs.Phrases.{inBp, nameOf}
 use Rattle.capture_report.specs.Shown.{whoseText, periodsText, countsText, streamLine, streamAt, exceeds, exceeding, first, lastLine, captureText, captureRefusal}
 
 -- stream 1 has an answer above its bound, and stream 2 a request left open

@@ -10,7 +10,7 @@ use Rattle.units.specs.declared.BitPeriods.{BitPeriods}
 use Rattle.text.specs.Text.{word, decimal, texts}
 use Rattle.text.proofs.Numbers.{length-places}
 use Rattle.text.proofs.Lengths.{decimal-most, texts-most}
-use Rattle.lines.specs.Lines.{inBp, nameOf}
+use Rattle.phrases.specs.Phrases.{inBp, nameOf}
 use Rattle.capture_report.specs.Shown.{mostCapture, whoseText, periodsText, countsText, streamLine, streamAt, exceeding, first, lastLine, captureText}
 use Rattle.capture_report.proofs.Counts.{exceeding-few, first-few}
 

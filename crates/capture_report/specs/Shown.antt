@@ -8,7 +8,7 @@ use Rattle.common.specs.Sums.{when, sum, firstOf}
 use Rattle.units.specs.Units.{bp}
 use Rattle.units.specs.declared.BitPeriods.{BitPeriods}
 use Rattle.text.specs.Text.{word, decimal, _·_, texts}
-use Rattle.lines.specs.Lines.{nameOf, inBp}
+use Rattle.phrases.specs.Phrases.{nameOf, inBp}
 
 -- no capture's report of at most 800 streams is longer
 abbrev pub mostCapture : ℕ

@@ -1,7 +1,7 @@
 // The report of a tester's capture beside the bounds of a P-NET sheet, page 02 'Ask 1'. What does not fit into the lent run is left
 // out; each function answers the place just after what it wrote.
-use lines::put_bp;
-use lines::put_name;
+use phrases::put_bp;
+use phrases::put_name;
 use sheet::MOST;
 use text::put_counted;
 use text::put_word;

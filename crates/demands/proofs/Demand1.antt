@@ -9,9 +9,9 @@ use lib.ListN.{length, take}
 use Rattle.common.specs.Checks.{Verdict, verdict}
 use Rattle.common.specs.Checks.Verdict.{Passed, Refused}
 use Rattle.format.specs.declared.Record.{Record}
-use Rattle.format.specs.declared.Put.the-variants as put
-use Rattle.format.specs.Writing.{putAnswer, putBytes}
-use Rattle.format.proofs.Writing.{refused-keeps}
+use Rattle.writer.specs.declared.Put.the-variants as put
+use Rattle.writer.specs.Writing.{putAnswer, putBytes}
+use Rattle.writer.proofs.Writing.{refused-keeps}
 use Rattle.sheet.specs.Sheets.{Sheet}
 use Rattle.sheet.specs.Whole.{Outcome, reading, countsTold}
 use Rattle.sheet.specs.Whole.Outcome.{Read, Not}

@@ -1,14 +1,10 @@
 -- Page 01, 'Sheet records': closed examples, as the definitions compute them. Assumes nothing.
-use Prim.Native.Nat.{_-_, _^_}
 use mathlib.Core.Path.{_≡_, refl}
 use mathlib.Core.Bool.{false}
 use mathlib.Core.List.{[], _∷_, map}
-use Rattle.common.specs.Checks.{verdict}
 use Rattle.format.specs.declared.Record.{Record}
-use Rattle.format.specs.declared.Put.the-variants.{Refused}
 use Rattle.format.specs.Numbers.{be, digits}
 use Rattle.format.specs.Kinds.{kinds, fieldsOf, widths, sizeOf, known, fieldAt, decode, body, encode, limit, within, ranged, inRange}
-use Rattle.format.specs.Writing.{needed, writeChecks, putAnswer, putBytes}
 
 -- the six kinds: a byte of kind, and a body of 1, 11, 9, 9, 4, 6
 sizes : map sizeOf (1 ∷ 2 ∷ 3 ∷ 4 ∷ 5 ∷ 6 ∷ []) ≡ 2 ∷ 12 ∷ 10 ∷ 10 ∷ 5 ∷ 7 ∷ []
@@ -44,24 +40,3 @@ cycle-beyond = refl
 deadline-beyond : inRange 2 0 (record { kind = 2; a = 1; b = 1548; c = 1000; d = 1001 }) ≡ false
 unfolding inRange ranged limit within fieldsOf kinds
 deadline-beyond = refl
-
--- the writer: kind before range, range before room, and the length that the whole buffer needs
-writes : putBytes (9 ∷ 9 ∷ 9 ∷ 9 ∷ []) 1 (record { kind = 1; a = 4; b = 0; c = 0; d = 0 }) ≡ 9 ∷ 1 ∷ 4 ∷ 9 ∷ []
-unfolding putBytes verdict writeChecks needed known sizeOf widths encode body digits inRange ranged limit within fieldsOf kinds
-writes = refl
-
-kind-first : putAnswer 0 7 (record { kind = 7; a = 0; b = 1; c = 0; d = 0 }) ≡ Refused 2 7
-unfolding putAnswer verdict writeChecks needed known sizeOf widths inRange ranged limit within fieldsOf kinds
-kind-first = refl
-
-range-first : putAnswer 0 (2 ^ 64 - 1) (record { kind = 1; a = 33; b = 0; c = 0; d = 0 }) ≡ Refused 4 (2 ^ 64 - 1)
-unfolding putAnswer verdict writeChecks needed known sizeOf widths inRange ranged limit within fieldsOf kinds
-range-first = refl
-
-no-room : putAnswer 0 5 (record { kind = 1; a = 4; b = 0; c = 0; d = 0 }) ≡ Refused 13 7
-unfolding putAnswer verdict writeChecks needed known sizeOf widths inRange ranged limit within fieldsOf kinds
-no-room = refl
-
-not-counted : putAnswer 9 (2 ^ 64 - 2) (record { kind = 1; a = 4; b = 0; c = 0; d = 0 }) ≡ Refused 13 0
-unfolding putAnswer verdict writeChecks needed known sizeOf widths inRange ranged limit within fieldsOf kinds
-not-counted = refl

@@ -4,7 +4,8 @@ use mathlib.Core.List.{[], _∷_}
 use Rattle.common.specs.Sums.{firstOf, up}
 use Rattle.units.specs.Units.{us, microsUp}
 use Rattle.text.specs.Text.{word, places, holds, widthOf, decimal, item, texts}
-use Rattle.lines.specs.Lines.{inBp, inUs, inBoth, nameOf, figuresOf, masterLine, masterText, ringText, nameText, nameAt, rowLine, tableHead, placeText, placeEnd, refusalText}
+use Rattle.phrases.specs.Phrases.{inBp, inUs, inBoth, nameOf}
+use Rattle.lines.specs.Lines.{figuresOf, masterLine, masterText, ringText, nameText, nameAt, rowLine, tableHead}
 
 -- the third case's first master, its rounds by the count of page 02, Ask 2; a silent master has no line
 masters : (masterText 1 1000 760 1 ≡ word "M01 bound 1000 bp 13021 us refined 760 bp 9896 us 1 rounds\n") × (masterText 3 0 0 0 ≡ [])
@@ -20,8 +21,3 @@ table : (tableHead (us 1000) 2 2 ≡ word "WorldFIP table\nmicrocycle 1000 us 2 
     × (rowLine 0 3 (item (17 ∷ 18 ∷ [])) ≡ word "row 0: 17 18\n") × (rowLine 1 0 (item (17 ∷ 18 ∷ [])) ≡ word "row 1:\n")
 unfolding tableHead rowLine nameAt nameText inUs texts decimal places widthOf holds firstOf
 table = (refl, refl, refl)
-
-refusals : (refusalText 6 2 ≡ word "refused 6 at byte 2\n") × (refusalText 8 3 ≡ word "refused 8 at stream 3\n") × (refusalText 9 1 ≡ word "refused 9 at stream 1\n")
-    × (refusalText 10 0 ≡ word "refused 10\n") × (refusalText 11 0 ≡ word "refused 11\n") × (refusalText 12 4 ≡ word "refused 12 at variable 4\n")
-unfolding refusalText placeEnd placeText decimal places widthOf holds firstOf
-refusals = (refl, refl, refl, refl, refl, refl)

@@ -2,30 +2,15 @@
 use Prim.Native.Nat.{ℕ, _/_, _%_, _^_}
 use mathlib.Core.List.{List, []}
 use mathlib.Core.Bool.{cond}
-use lib.Dec.{leb, eqb}
+use lib.Dec.{eqb}
 use Rattle.profibus.specs.declared.answer.RingPeriods.{RingPeriods}
-use Rattle.units.specs.Units.{bp, microsUp}
+use Rattle.units.specs.Units.{bp}
 use Rattle.units.specs.declared.BitPeriods.{BitPeriods}
 use Rattle.units.specs.declared.Micros.{Micros}
-use Rattle.text.specs.Text.{word, places, decimal, _·_, texts}
-
--- ---- Counts with their unit
-
-unfoldable pub inBp : BitPeriods → List ℕ
-inBp b = decimal (b .0) · word " bp"
-
-unfoldable pub inUs : Micros → List ℕ
-inUs u = decimal (u .0) · word " us"
-
--- a bound in both units, the us rounded up
-unfoldable pub inBoth : BitPeriods → List ℕ
-inBoth b = inBp b · word " " · inUs (microsUp b)
+use Rattle.text.specs.Text.{word, decimal, _·_, texts}
+use Rattle.phrases.specs.Phrases.{inUs, inBoth, nameOf}
 
 -- ---- P-NET
-
--- master numbers have two digits
-unfoldable pub nameOf : ℕ → List ℕ
-nameOf k = word "M" · places 2 k
 
 -- R and W
 unfoldable pub figuresOf : BitPeriods → BitPeriods → List ℕ
@@ -64,18 +49,3 @@ rowLine m row name = word "row " · decimal m · word ":" · texts (nameAt row n
 unfoldable pub tableHead : Micros → ℕ → ℕ → List ℕ
 tableHead microcycle slots rows =
     word "WorldFIP table\n" · word "microcycle " · inUs microcycle · word " " · decimal slots · word " slots" · word " " · decimal rows · word " rows\n"
-
--- ---- Refusals
-
--- what a refusal's place is: nothing is said of that of 10 and 11
-unfoldable pub placeText : ℕ → ℕ → List ℕ
-placeText n p =
-    cond (leb n 7) (word " at byte " · decimal p)
-    (cond (leb n 9) (word " at stream " · decimal p) (cond (eqb n 12) (word " at variable " · decimal p) []))
-
-unfoldable pub placeEnd : ℕ → ℕ → List ℕ
-placeEnd n p = placeText n p · word "\n"
-
--- the whole report of refusal n with place p
-unfoldable pub refusalText : ℕ → ℕ → List ℕ
-refusalText n p = word "refused " · decimal n · placeEnd n p

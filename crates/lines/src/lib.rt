@@ -1,41 +1,15 @@
 // The report's lines, page 01 'Sheets worked by hand', built from fixed byte strings and numbers. Each function writes into a lent
 // run from a place on and answers the place just after; what does not fit is left out.
+use phrases::put_both;
+use phrases::put_name;
+use phrases::put_us;
 use profibus::RingPeriods;
 use text::put_counted;
-use text::put_places;
 use text::put_word;
 use units::BitPeriods;
 use units::Micros;
-ghost use mathlib.Core.List.{_++_};
 ghost use Rattle.text.specs.Text.{Wrote, item, texts};
-ghost use Rattle.lines.specs.Lines.{inBp, inUs, inBoth, nameOf, figuresOf, masterLine, masterText, ringText, nameText, nameAt, rowLine, tableHead, placeEnd, refusalText};
-
-pub fn put_bp(out: &mut [u8], at: usize, before: &[u8], b: BitPeriods) -> usize
-    ensures { λ r. ⌜ Wrote (now (out .entry)) at (now (before .entry) ++ inBp b) (now (out .exit)) r ⌝ }
-{
-    put_counted(out, at, before, b.0 as u64, b" bp")
-}
-
-fn put_us(out: &mut [u8], at: usize, before: &[u8], u: Micros) -> usize
-    ensures { λ r. ⌜ Wrote (now (out .entry)) at (now (before .entry) ++ inUs u) (now (out .exit)) r ⌝ }
-{
-    put_counted(out, at, before, u.0, b" us")
-}
-
-// A bound in both units.
-fn put_both(out: &mut [u8], at: usize, before: &[u8], b: BitPeriods) -> usize
-    ensures { λ r. ⌜ Wrote (now (out .entry)) at (now (before .entry) ++ inBoth b) (now (out .exit)) r ⌝ }
-{
-    let next = put_bp(out, at, before, b);
-    put_us(out, next, b" ", units::micros_up(b))
-}
-
-pub fn put_name(out: &mut [u8], at: usize, k: u64) -> usize
-    ensures { λ r. ⌜ Wrote (now (out .entry)) at (nameOf k) (now (out .exit)) r ⌝ }
-{
-    let number = put_word(out, at, b"M");
-    put_places(out, number, 2, k)
-}
+ghost use Rattle.lines.specs.Lines.{figuresOf, masterLine, masterText, ringText, nameText, nameAt, rowLine, tableHead};
 
 fn put_figures(out: &mut [u8], at: usize, bound: BitPeriods, refined: BitPeriods) -> usize
     ensures { λ r. ⌜ Wrote (now (out .entry)) at (figuresOf bound refined) (now (out .exit)) r ⌝ }
@@ -118,27 +92,4 @@ pub fn put_head(out: &mut [u8], at: usize, microcycle: Micros, slots: u64, count
     let first = put_us(out, at, b"WorldFIP table\nmicrocycle ", microcycle);
     let second = put_counted(out, first, b" ", slots, b" slots");
     put_counted(out, second, b" ", count, b" rows\n")
-}
-
-// A refusal's place in words, and the line's end.
-fn put_place(out: &mut [u8], at: usize, number: u8, place: u64) -> usize
-    ensures { λ r. ⌜ Wrote (now (out .entry)) at (placeEnd number place) (now (out .exit)) r ⌝ }
-{
-    if number <= 7 {
-        return put_counted(out, at, b" at byte ", place, b"\n");
-    }
-    if number <= 9 {
-        return put_counted(out, at, b" at stream ", place, b"\n");
-    }
-    if number == 12 {
-        return put_counted(out, at, b" at variable ", place, b"\n");
-    }
-    put_word(out, at, b"\n")
-}
-
-pub fn put_refusal(out: &mut [u8], at: usize, number: u8, place: u64) -> usize
-    ensures { λ r. ⌜ Wrote (now (out .entry)) at (refusalText number place) (now (out .exit)) r ⌝ }
-{
-    let next = put_counted(out, at, b"refused ", number as u64, b"");
-    put_place(out, next, number, place)
 }

@@ -23,7 +23,7 @@ fn write(text: &[u8]) {
 // A refusal of the sheet.
 fn write_refusal(no: u8, place: usize) {
     let mut text = io::buffer();
-    let n = lines::put_refusal(&mut text, 0, no, place as u64);
+    let n = phrases::put_refusal(&mut text, 0, no, place as u64);
     write(&text[..n]);
 }
 

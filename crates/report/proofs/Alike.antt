@@ -29,7 +29,7 @@ use Rattle.profibus.specs.Planned.{planOf}
 use Rattle.table.specs.Traffic.{Traffic, slots, rows, missOf, missingOf}
 use Rattle.worldfip.specs.Answer as fip
 use Rattle.worldfip.specs.declared.answer.Plan.the-variants as answer
-use Rattle.lines.specs.Lines.{refusalText}
+use Rattle.phrases.specs.Phrases.{refusalText}
 use Rattle.report.specs.Whole.{segmentReport, ringReport, tableReport, firstKind, reportOf}
 
 -- the report is made from that kind and the reading

@@ -12,7 +12,8 @@ use Rattle.units.specs.Units.{bp, microsUp}
 use Rattle.units.specs.declared.BitPeriods.{BitPeriods}
 use Rattle.units.specs.declared.Micros.{Micros}
 use Rattle.text.specs.Text.{word, places, decimal, texts}
-use Rattle.lines.specs.Lines.{inBp, inUs, inBoth, nameOf, figuresOf, masterLine, ringText, nameText, nameAt, rowLine, tableHead, placeText, placeEnd, refusalText}
+use Rattle.phrases.specs.Phrases.{inBp, inUs, inBoth, nameOf, placeText, placeEnd, refusalText}
+use Rattle.lines.specs.Lines.{figuresOf, masterLine, ringText, nameText, nameAt, rowLine, tableHead}
 use Rattle.report.specs.Whole.{mostText, masterOf, mastersOf, rowAt, tableText}
 use Rattle.text.proofs.Lengths.{decimal-most, decimal-any, texts-most}
 use Rattle.text.proofs.Numbers.{length-places}

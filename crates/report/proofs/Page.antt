@@ -4,7 +4,8 @@ use mathlib.Core.List.{[], _∷_}
 use Rattle.common.specs.Sums.{firstOf, up}
 use Rattle.units.specs.Units.{us, microsUp}
 use Rattle.text.specs.Text.{word, _·_, places, holds, widthOf, decimal, item, texts}
-use Rattle.lines.specs.Lines.{inBp, inUs, inBoth, nameOf, figuresOf, masterLine, masterText, nameText, nameAt, rowLine, tableHead}
+use Rattle.phrases.specs.Phrases.{inBp, inUs, inBoth, nameOf}
+use Rattle.lines.specs.Lines.{figuresOf, masterLine, masterText, nameText, nameAt, rowLine, tableHead}
 use Rattle.report.specs.Arrays.{masterAt, segmentText}
 use Rattle.report.specs.Whole.{rowAt, tableText}
 

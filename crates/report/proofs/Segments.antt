@@ -24,7 +24,8 @@ use Rattle.pnet.specs.Planned.{planChecks, plannedBy, planned, planOf, atPlace,
 use Rattle.pnet.specs.declared.answer.Plan.the-variants as answer
 use Rattle.text.proofs.Writing.{texts-same}
 use Rattle.text.specs.Text.{word, item}
-use Rattle.lines.specs.Lines.{masterText, refusalText}
+use Rattle.phrases.specs.Phrases.{refusalText}
+use Rattle.lines.specs.Lines.{masterText}
 use Rattle.report.specs.Arrays.{masterAt, segmentText}
 use Rattle.report.specs.Whole.{masterOf, mastersOf, segmentReport}
 

@@ -20,7 +20,8 @@ use Rattle.table.specs.Traffic.{microcycle, slots, rows, rowOf, identifierAt}
 use Rattle.worldfip.specs.Answer.{trafficOf, tableChecks, planChecks, planBy, planOf, runBy, runOf, identifierOf}
 use Rattle.worldfip.specs.declared.answer.Plan.the-variants as answer
 use Rattle.text.specs.Text.{item}
-use Rattle.lines.specs.Lines.{nameText, nameAt, rowLine, tableHead, refusalText}
+use Rattle.phrases.specs.Phrases.{refusalText}
+use Rattle.lines.specs.Lines.{nameText, nameAt, rowLine, tableHead}
 use Rattle.report.specs.Whole.{tableOf, tableBy, tableReport, rowAt, tableText}
 use Rattle.text.proofs.Writing.{texts-same}
 

@@ -15,7 +15,8 @@ use Rattle.segment.specs.Segment.{segmentOf, streamAt, owns, count, longest, ho
 use Rattle.segment.specs.Refined.{saving, rightBy, valueOf, stands, roundsOf, mostRounds, askedBy, right, rounds, refined}
 use Rattle.pnet.specs.Planned.{firstLate, planChecks, planned}
 use Rattle.text.specs.Text.{word, _·_, places, holds, widthOf, decimal, texts}
-use Rattle.lines.specs.Lines.{inBp, inUs, inBoth, nameOf, figuresOf, masterLine}
+use Rattle.phrases.specs.Phrases.{inBp, inUs, inBoth, nameOf}
+use Rattle.lines.specs.Lines.{figuresOf, masterLine}
 use Rattle.report.specs.Whole.{masterOf, mastersOf, segmentReport, firstKind, reportOf}
 
 -- N = 2; master 1 has two streams, master 2 one; all C = 203, T = D = 100,000

@@ -24,7 +24,8 @@ use Rattle.worldfip.specs.Answer.{trafficOf, planChecks}
 use Rattle.report.specs.declared.Reported.{Reported}
 use Rattle.report.specs.declared.Reported.the-variants as answer
 use Rattle.text.specs.Text.{word, _·_, texts}
-use Rattle.lines.specs.Lines.{masterLine, ringText, rowLine, tableHead, refusalText}
+use Rattle.phrases.specs.Phrases.{refusalText}
+use Rattle.lines.specs.Lines.{masterLine, ringText, rowLine, tableHead}
 
 -- no report is longer
 abbrev pub mostText : ℕ

@@ -1,9 +1,9 @@
 // The report of a plan as text, page 01 'Sheets worked by hand'.
 use lines::put_head;
 use lines::put_master;
-use lines::put_refusal;
 use lines::put_ring;
 use lines::put_row;
+use phrases::put_refusal;
 use text::put_word;
 use units::Micros;
 ghost use mathlib.Core.Path.{_≡_};

@@ -15,7 +15,7 @@ use Rattle.common.specs.Checks.Verdict.{Refused}
 use Rattle.format.specs.declared.Record.{Record}
 use Rattle.format.specs.Kinds.{kinds, fieldsOf, widths, sizeOf, decode}
 use Rattle.format.proofs.Tables.{size-at-most}
-use Rattle.format.proofs.Trips.{decode-take, kind-take}
+use Rattle.writer.proofs.Trips.{decode-take, kind-take}
 use Rattle.sheet.specs.Sheets.{Sheet, mostInAll}
 use Rattle.sheet.specs.Whole.{placeOf, recordsOf, recordChecks, judge, reading, told, Outcome}
 use Rattle.sheet.specs.Whole.Outcome.{Read, Not}

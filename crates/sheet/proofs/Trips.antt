@@ -12,9 +12,9 @@ use lib.ListN.{length, getD, take, drop, length-append, length-take}
 use lib.Seq.{split-at, take-suc, take-length, take-add}
 use Rattle.format.specs.declared.Record.{Record}
 use Rattle.format.specs.Kinds.{kinds, fieldsOf, limit, ranged, known, sizeOf, decode, encode, inRange, nothing}
-use Rattle.format.specs.Writing.{mostMasters, mostMessage}
+use Rattle.writer.specs.Writing.{mostMasters, mostMessage}
 use Rattle.format.proofs.Ranges.{segment-ranges, ring-ranges, in-range-mono}
-use Rattle.format.proofs.Trips.{length-encode, decode-encode, encode-decode, whole-if}
+use Rattle.writer.proofs.Trips.{length-encode, decode-encode, encode-decode, whole-if}
 use Rattle.sheet.specs.Sheets.{Sheet, headOf, streamsOf, sheetOf}
 use Rattle.sheet.specs.Whole.{placeOf, recordsOf, ended, reading}
 use Rattle.sheet.specs.Whole.Outcome.{Read}

@@ -11,13 +11,13 @@ use lib.Seq.{take-at}
 use Rattle.common.specs.Checks.{Verdict, verdict}
 use Rattle.common.specs.Checks.Verdict.{Passed, Refused}
 use Rattle.format.specs.declared.Record.{Record}
-use Rattle.format.specs.declared.Put.the-variants as put
+use Rattle.writer.specs.declared.Put.the-variants as put
 use Rattle.format.specs.Numbers.{pasted}
 use Rattle.format.specs.Kinds.{known, sizeOf, encode, inRange, nothing}
-use Rattle.format.specs.Writing.{mostMasters, mostMessage, writeChecks, putBy, pastedBy, putAnswer, putBytes}
+use Rattle.writer.specs.Writing.{mostMasters, mostMessage, writeChecks, putBy, pastedBy, putAnswer, putBytes}
 use Rattle.format.proofs.Numbers.{paste-next}
-use Rattle.format.proofs.Trips.{length-encode}
-use Rattle.format.proofs.Writing.{written, room-written}
+use Rattle.writer.proofs.Trips.{length-encode}
+use Rattle.writer.proofs.Writing.{written, room-written}
 use Rattle.sheet.specs.Sheets.{Sheet, sheetOf}
 use Rattle.sheet.specs.Whole.{reading}
 use Rattle.sheet.specs.Whole.Outcome.{Read}

@@ -6,9 +6,9 @@ use mathlib.Core.Bool.{true, false}
 use mathlib.Core.List.{List, [], _∷_, _++_}
 use lib.ListN.{length, getD, take}
 use Rattle.format.specs.declared.Record.{Record}
-use Rattle.format.specs.declared.Put.the-variants as put
+use Rattle.writer.specs.declared.Put.the-variants as put
 use Rattle.format.specs.Kinds.{known, encode, inRange, nothing}
-use Rattle.format.specs.Writing.{putAnswer, putBytes}
+use Rattle.writer.specs.Writing.{putAnswer, putBytes}
 use Rattle.sheet.specs.Sheets.{Sheet, headOf, streamsOf, fits, overLimit, metBefore}
 
 -- the records of a sheet, the first one first

@@ -29,7 +29,7 @@ fn record_of(kind: u8, a: u32, b: u32, c: u32, d: u32) -> Record {
 
 // Its sheet, and each stream's master and C. T and D leave room for every bound.
 fn put_bus(bus: Bus, bytes: &mut [u8; 9602], owner: &mut [u8; 800], cycle: &mut [u16; 800]) {
-    format::put_record(bytes, 0, record_of(1, bus.masters as u32, 0, 0, 0));
+    writer::put_record(bytes, 0, record_of(1, bus.masters as u32, 0, 0, 0));
     let mut master: u8 = 1;
     let mut own: u8 = 0;
     let mut p: usize = 0;
@@ -39,7 +39,7 @@ fn put_bus(bus: Bus, bytes: &mut [u8; 9602], owner: &mut [u8; 800], cycle: &mut 
             own = 0;
         }
         let r = record_of(2, master as u32, bus.cycle as u32, 1000000, 1000000);
-        format::put_record(bytes, 2 + 12 * p, r);
+        writer::put_record(bytes, 2 + 12 * p, r);
         owner[p] = master;
         cycle[p] = bus.cycle;
         own = std::num::wrapping_add_u8(own, 1);

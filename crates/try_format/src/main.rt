@@ -1,8 +1,8 @@
 // The writer at the edges of every field, and what it wrote read back: page 01, 'Sheet records'. A line for each case has
 // the place and the room, the record, the answer, and the buffer after the call, where ee is a byte that keeps what it had.
-use format::Put;
 use format::Record;
 use libc::STDOUT_FILENO;
+use writer::Put;
 
 const COUNT: usize = 87;
 
@@ -192,7 +192,7 @@ fn try_case(c: [u64; 7]) {
     let lent: &mut [u8] = &mut buf[..room];
     say_place(at, room);
     say_record(r);
-    let p = format::put_record(lent, at, r);
+    let p = writer::put_record(lent, at, r);
     say_answer(p, lent, at, r);
     say_bytes(lent);
     say(b".\n");

@@ -1,9 +1,9 @@
 // Plans sheets worked by hand, of pages 01 and 02 and the cases that are easy to get wrong: a line for each, with the answer and then
 // what the three lent runs hold. Every place of a run holds 9 before.
-use format::Put;
 use format::Record;
 use libc::STDOUT_FILENO;
 use pnet::Plan;
+use writer::Put;
 ghost use Prim.Native.Nat.{_≤_, _<_};
 ghost use lib.ListN.{length};
 
@@ -77,7 +77,7 @@ fn case(name: &[u8], s: &[u8], a: usize, b: usize, c: usize)
 // Puts a record at a place, and gives the place just after it.
 fn put(buf: &mut [u8], at: usize, kind: u8, a: u32, b: u32, c: u32, d: u32) -> usize {
     let r = Record { kind, a, b, c, d };
-    match format::put_record(buf, at, r) {
+    match writer::put_record(buf, at, r) {
         Put::Next(next) => next,
         Put::Refused { no: _, place: _ } => at,
     }

@@ -31,7 +31,7 @@ impl Sheet {
             d: 0,
         };
         let mut bytes = [0u8; 9602];
-        format::put_record(&mut bytes, 0, head);
+        writer::put_record(&mut bytes, 0, head);
         Sheet {
             masters,
             streams: 0,
@@ -57,7 +57,7 @@ impl Sheet {
         let mut bytes = self.bytes;
         let mut owner = self.owner;
         let mut cycle = self.cycle;
-        format::put_record(&mut bytes, 2 + 12 * n, stream);
+        writer::put_record(&mut bytes, 2 + 12 * n, stream);
         owner[n] = master;
         cycle[n] = c;
         Sheet {

@@ -1,10 +1,10 @@
 // The reader on the sheets of standard input, a line of hexadecimal digits each, and on sheets with as many streams as a limit allows
 // and one more: page 01, 'Sheet records' and 'Numbered refusals' 1..7. Each sheet is written again with the answer behind it.
-use format::Put;
 use format::Record;
 use libc::STDIN_FILENO;
 use libc::STDOUT_FILENO;
 use sheet::Reading;
+use writer::Put;
 
 fn say(text: &[u8]) {
     io::write_all(STDOUT_FILENO, text);
@@ -95,7 +95,7 @@ fn put_all(buf: &mut [u8], from: usize, each: Record, least: u32, most: u32, n: 
     let mut a = least;
     let mut i: usize = 0;
     while i < n {
-        let p = format::put_record(buf, at, record_of(each.kind, a, each.b, each.c, each.d));
+        let p = writer::put_record(buf, at, record_of(each.kind, a, each.b, each.c, each.d));
         let Put::Next(e) = p else {
             return at;
         };

@@ -1,9 +1,9 @@
 // Plans sheets worked by hand, page 01 and the cases that are easy to get wrong: a line for each, with the answer, what the lent run
 // holds then, and the first eight identifiers by rank. Every place of a run holds MARK before and is shown as '-' while it does.
-use format::Put;
 use format::Record;
 use libc::STDOUT_FILENO;
 use worldfip::Plan;
+use writer::Put;
 ghost use Prim.Native.Nat.{_≤_};
 
 const MARK: u64 = 0x5555555555555555;
@@ -92,7 +92,7 @@ fn ask(name: &[u8], s: &[u8], room: usize)
 // ---- 64 variables
 
 fn put(out: &mut [u8], at: usize, r: Record) -> usize {
-    match format::put_record(out, at, r) {
+    match writer::put_record(out, at, r) {
         Put::Next(n) => n,
         Put::Refused { no: _, place: _ } => at,
     }

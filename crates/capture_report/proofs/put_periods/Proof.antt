@@ -3,7 +3,7 @@ use mathlib.Core.Path.{_≡_, sym}
 use mathlib.Core.List.{_++_, append-assoc}
 use Rattle.units.specs.declared.BitPeriods.{BitPeriods}
 use Rattle.text.specs.Text.{word}
-use Rattle.lines.specs.Lines.{inBp}
+use Rattle.phrases.specs.Phrases.{inBp}
 use Rattle.text.proofs.Writing.{wrote-then}
 use Rattle.capture_report.specs.Shown.{periodsText}
 use borrow.Author.Needs.{needs}

@@ -3,7 +3,7 @@ use mathlib.Core.Path.{_≡_}
 use mathlib.Core.List.{_++_}
 use Prim.Native.Nat.{ℕ}
 use Rattle.text.specs.Text.{word, counted}
-use Rattle.lines.specs.Lines.{nameOf}
+use Rattle.phrases.specs.Phrases.{nameOf}
 use Rattle.text.proofs.Writing.{wrote-then, counted-then}
 use Rattle.capture_report.specs.Shown.{whoseText}
 use borrow.Author.Needs.{needs}

@@ -4,7 +4,8 @@ use mathlib.Core.List.{_++_, append-assoc}
 use borrow.Author.Needs.{needs}
 use Rattle.units.specs.declared.BitPeriods.{BitPeriods}
 use Rattle.text.specs.Text.{word}
-use Rattle.lines.specs.Lines.{inBoth, figuresOf}
+use Rattle.phrases.specs.Phrases.{inBoth}
+use Rattle.lines.specs.Lines.{figuresOf}
 use Rattle.text.proofs.Writing.{wrote-then}
 use Rattle.lines.proofs.put_figures.Statement.{statement}
 use Rattle.lines.proofs.put_figures.Tie as tie

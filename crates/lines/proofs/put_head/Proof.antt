@@ -5,7 +5,8 @@ use Prim.Native.Nat.{ℕ}
 use borrow.Author.Needs.{needs}
 use Rattle.units.specs.declared.Micros.{Micros}
 use Rattle.text.specs.Text.{word, counted}
-use Rattle.lines.specs.Lines.{inUs, tableHead}
+use Rattle.phrases.specs.Phrases.{inUs}
+use Rattle.lines.specs.Lines.{tableHead}
 use Rattle.text.proofs.Writing.{wrote-then, counted-then}
 use Rattle.lines.proofs.put_head.Statement.{statement}
 use Rattle.lines.proofs.put_head.Tie as tie

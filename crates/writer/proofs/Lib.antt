@@ -1,0 +1,4 @@
+pub mod Stored
+pub mod Trips
+pub mod Writing
+pub mod Examples
