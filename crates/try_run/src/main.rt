@@ -1,5 +1,6 @@
-// Simulates the bus on P-NET sheets and writes, for each master with streams, its largest response beside the planner's bound. Every
-// stream asks once, at 0, when the token has just left that master, and each visit is as long as can be.
+// Simulates the bus on P-NET sheets and writes, for each master with streams, its largest response beside the planner's figures. Every
+// stream asks once, at 0, when the token has just left that master, and each visit is as long as can be. So every master keeps its spacing,
+// and no response passes the refined figure.
 use format::Record;
 use libc::STDOUT_FILENO;
 use pnet::Plan;
@@ -106,7 +107,7 @@ fn largest(masters: u8, owner: &[u8], cycle: &[u16], n: usize, k: u8) -> u64 {
     simulate::largest(&owner[..n], &answered, k)
 }
 
-fn line(s: Sheet, k: u8, bound: u32) {
+fn line(s: Sheet, k: u8, bound: u32, refined: u32) {
     write(b"M");
     write_number((k / 10) as u64);
     write_number((k % 10) as u64);
@@ -114,25 +115,28 @@ fn line(s: Sheet, k: u8, bound: u32) {
     let owner = s.owner;
     let cycle = s.cycle;
     write_number(largest(s.masters, &owner, &cycle, s.streams, k));
+    write(b" bp, refined ");
+    write_number(refined as u64);
     write(b" bp, bound ");
     write_number(bound as u64);
     write(b" bp\n");
 }
 
 // A line for each master with streams: only its bound is above 0.
-fn lines(s: Sheet, bound: [u32; 32]) {
+fn lines(s: Sheet, bound: [u32; 32], refined: [u32; 32]) {
     let mut k: u8 = 0;
     while k < 32 {
         let r = bound[k as usize];
+        let w = refined[k as usize];
         k += 1;
         if r != 0 {
-            line(s, k, r);
+            line(s, k, r, w);
         }
     }
 }
 
-// The planner's bounds of a sheet with so many streams, and whether it accepts the sheet.
-fn bounds(bytes: &[u8], streams: usize, bound: &mut [u32]) -> bool {
+// The planner's bounds and refined figures of a sheet with so many streams, and whether it accepts the sheet.
+fn figures(bytes: &[u8], streams: usize, bound: &mut [u32], refined: &mut [u32]) -> bool {
     if 800 < streams {
         return false;
     }
@@ -140,9 +144,8 @@ fn bounds(bytes: &[u8], streams: usize, bound: &mut [u32]) -> bool {
     if bytes.len() < end {
         return false;
     }
-    let mut refined = [0u32; 32];
     let mut rounds = [0u32; 32];
-    match pnet::plan(&bytes[..end], bound, &mut refined, &mut rounds) {
+    match pnet::plan(&bytes[..end], bound, refined, &mut rounds) {
         Plan::Accepted {
             masters: _,
             streams: _,
@@ -156,8 +159,9 @@ fn show(name: &[u8], s: Sheet) {
     write(b"\n");
     let bytes = s.bytes;
     let mut bound = [0u32; 32];
-    if bounds(&bytes, s.streams, &mut bound) {
-        lines(s, bound);
+    let mut refined = [0u32; 32];
+    if figures(&bytes, s.streams, &mut bound, &mut refined) {
+        lines(s, bound, refined);
     } else {
         write(b"refused\n");
     }

@@ -5,10 +5,10 @@ use Rattle.try_run.proofs.lines.Statement.{statement}
 use Rattle.try_run.proofs.lines.Tie as tie
 
 abbrev Inv-loop : tie.InvT-loop
-Inv-loop s bound k₀ k = Unit {0}
+Inv-loop s bound refined k₀ k = Unit {0}
 
 abbrev μ-loop : tie.MeasureT-loop
-μ-loop s bound k₀ k = 32 - k
+μ-loop s bound refined k₀ k = 32 - k
 
 loop-holds : tie.Need-loop-holds Inv-loop μ-loop
 loop-holds c = tt
@@ -21,6 +21,15 @@ mul-r c = search needs
 
 array-read-r : tie.Need-array-read-r Inv-loop μ-loop
 array-read-r c = search needs
+
+cast-w : tie.Need-cast-w Inv-loop μ-loop
+cast-w c = search needs
+
+mul-w : tie.Need-mul-w Inv-loop μ-loop
+mul-w c = search needs
+
+array-read-w : tie.Need-array-read-w Inv-loop μ-loop
+array-read-w c = search needs
 
 add-k : tie.Need-add-k Inv-loop μ-loop
 add-k c = search needs
@@ -53,6 +62,9 @@ lines-spec =
     cast-r
     mul-r
     array-read-r
+    cast-w
+    mul-w
+    array-read-w
     add-k
     line-requires
     loop-less

@@ -1,9 +1,9 @@
--- `try_run::bounds` is safe and ends. Assumes nothing.
+-- `try_run::figures` is safe and ends. Assumes nothing.
 use native.Mathlib.Omega.{arith}
 use lib.ListN.{length-take}
 use borrow.Author.Needs.{needs}
-use Rattle.try_run.proofs.bounds.Statement.{statement}
-use Rattle.try_run.proofs.bounds.Tie as tie
+use Rattle.try_run.proofs.figures.Statement.{statement}
+use Rattle.try_run.proofs.figures.Tie as tie
 
 returns : tie.Need-returns
 returns c = search needs
@@ -23,9 +23,6 @@ slice-aggregate-plan c = simp length-take (omega arith)
 slice-aggregate-plan-2 : tie.Need-slice-aggregate-plan-2
 slice-aggregate-plan-2 c = search needs
 
-slice-aggregate-plan-3 : tie.Need-slice-aggregate-plan-3
-slice-aggregate-plan-3 c = search needs
-
 plan-requires : tie.Need-plan-requires
 plan-requires c κs = search needs
 
@@ -38,17 +35,23 @@ enum-told-2 c = search needs
 same-length : tie.Need-same-length
 same-length c = search needs
 
+same-length-2 : tie.Need-same-length-2
+same-length-2 c = search needs
+
 returns-3 : tie.Need-returns-3
 returns-3 c = search needs
 
-same-length-2 : tie.Need-same-length-2
-same-length-2 c = search needs
+same-length-3 : tie.Need-same-length-3
+same-length-3 c = search needs
+
+same-length-4 : tie.Need-same-length-4
+same-length-4 c = search needs
 
 returns-4 : tie.Need-returns-4
 returns-4 c = search needs
 
-pub bounds-spec : {M : Type 1} → statement M
-bounds-spec =
+pub figures-spec : {M : Type 1} → statement M
+figures-spec =
     tie.close
     (tie.spec
     returns
@@ -57,11 +60,12 @@ bounds-spec =
     returns-2
     slice-aggregate-plan
     slice-aggregate-plan-2
-    slice-aggregate-plan-3
     plan-requires
     enum-told
     enum-told-2
     same-length
-    returns-3
     same-length-2
+    returns-3
+    same-length-3
+    same-length-4
     returns-4)
