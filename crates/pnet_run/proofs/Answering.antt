@@ -49,3 +49,11 @@ module _ (S : Segment) (k B : ℕ) (Kind : List Request → Type 0) (earlier : (
     none-left = λ r j o l. ⊎-elim (λ (c : List·Memᴰ r (q k)). absurd (not-after (waits t y q came went z s r c) l)) (λ (c : (u : ℕ) × List·Memᴰ (answer r u) went). c)
         (came-kept z k r j o);
   }
+
+-- a promise about master k need be shown only where k has a stream: else it has no request
+pub answered-if-it-asks : {B k t : ℕ} {S : Segment} {y : Token} {came : List Request} {went : List Answer}
+    → ((i : ℕ) → Belongs S k i → Answered B S k t y came went) → Answered B S k t y came went
+answered-if-it-asks by = record {
+  in-time = λ a j own. by (a .to .of) own .in-time a j own;
+  none-left = λ r j own lasts. by (r .of) own .none-left r j own lasts;
+}

@@ -14,6 +14,7 @@ use Rattle.segment.proofs.Figures.{refined-solves}
 use Rattle.pnet_run.specs.Run.{Belongs, Request, Answer, answer, Queues, Token, Run}
 use Rattle.pnet_run.specs.Promise.{Spaced, Answered, Safe, Reached, Accepted, Even}
 use Rattle.pnet_run.proofs.Charges.{belongs-count, count-belongs, in-ring, hold-covers, some-cycle}
+use Rattle.pnet_run.proofs.Answering.{answered-if-it-asks}
 use Rattle.pnet_run.proofs.Bound.{answered-by}
 use Rattle.pnet_run.proofs.Refined.{answered-within}
 use Rattle.pnet_run.proofs.Exact.{exact}
@@ -48,43 +49,12 @@ pub each-request-is-answered-within-the-bound : (sheet : Sheet) → Accepted (se
     → Run (segmentOf sheet) now token queues came went → Spaced (segmentOf sheet) k came
     → Answered (bound (segmentOf sheet) k) (segmentOf sheet) k now token came went
 unfolding bound
-each-request-is-answered-within-the-bound sheet accepted k {now} {token} {queues} {came} {went} run spaced = record {
-  in-time = λ a j own. by (a .to .of) own .in-time a j own;
-  none-left = λ r j own lasts. by (r .of) own .none-left r j own lasts;
-}
-  where
-    S : Segment
-    S = segmentOf sheet
-
-    by : (i : ℕ) → Belongs S k i → Answered (bound S k) S k now token came went
-    by i d =
-        let own = in-ring (accepted .declared) d in
-        answered-by S (hold S) k (own .0) (own .1) (hold-covers S) (λ j. S .stream j .spacing) (fits-spacing accepted k) run spaced
-
--- ---- Page 02, Ask 2: 'Then show, for every accepted sheet whose masters all keep their spacing, that every response is within the corrected
--- figure.'
-
--- The figure is W of crates/segment, the one that the planner writes. Here every master keeps its spacing: where another asks oftener
--- than declared, W is not promised (TwoMasters has such a run), and R still is.
-
-pub each-request-is-answered-within-the-refined-figure : (sheet : Sheet) → Accepted (segmentOf sheet) → (k : ℕ)
-    → {now : ℕ} {token : Token} {queues : Queues} {came : List Request} {went : List Answer}
-    → Run (segmentOf sheet) now token queues came went → ((y : ℕ) → Spaced (segmentOf sheet) y came)
-    → Answered (refined (segmentOf sheet) k) (segmentOf sheet) k now token came went
-unfolding bound right
-each-request-is-answered-within-the-refined-figure sheet accepted k {now} {token} {queues} {came} {went} run spaced = record {
-  in-time = λ a j own. by (a .to .of) own .in-time a j own;
-  none-left = λ r j own lasts. by (r .of) own .none-left r j own lasts;
-}
-  where
-    S : Segment
-    S = segmentOf sheet
-
-    by : (i : ℕ) → Belongs S k i → Answered (refined S k) S k now token came went
-    by i d =
-        let own = in-ring (accepted .declared) d in
-        answered-within S (accepted .declared) (hold S) (hold-covers S) (fits-spacing accepted) (refined S k) k (own .0) (own .1)
-        (omega (arith, hold-covers S .used k i d)) (count-belongs d) (omega (arith, refined-solves S k (own .0) (own .1))) run spaced
+each-request-is-answered-within-the-bound sheet accepted k run spaced =
+    let S = segmentOf sheet in
+    answered-if-it-asks
+    (λ i d.
+    let own = in-ring (accepted .declared) d in
+    answered-by S (hold S) k (own .0) (own .1) (hold-covers S) (λ j. S .stream j .spacing) (fits-spacing accepted k) run spaced)
 
 -- ---- 'For a master with streams, where each master's own streams are equally long and every other master is silent or has at least
 -- as many streams, some such run takes exactly the bound'
@@ -117,3 +87,22 @@ pub no-run-is-stuck : (sheet : Sheet) → Declared (segmentOf sheet)
     → {now : ℕ} {token : Token} {queues : Queues} {came : List Request} {went : List Answer}
     → Run (segmentOf sheet) now token queues came went → Later (segmentOf sheet) now came
 no-run-is-stuck sheet declared {token = token} run = goes-on (segmentOf sheet) (λ m i b. some-cycle declared b) token run
+
+-- ---- Page 02, Ask 2: 'Then show, for every accepted sheet whose masters all keep their spacing, that every response is within the corrected
+-- figure.'
+
+-- The figure is W of crates/segment, the one that the planner writes. Here every master keeps its spacing: where another asks oftener
+-- than declared, W is not promised (TwoMasters has such a run), and R still is.
+
+pub each-request-is-answered-within-the-refined-figure : (sheet : Sheet) → Accepted (segmentOf sheet) → (k : ℕ)
+    → {now : ℕ} {token : Token} {queues : Queues} {came : List Request} {went : List Answer}
+    → Run (segmentOf sheet) now token queues came went → ((y : ℕ) → Spaced (segmentOf sheet) y came)
+    → Answered (refined (segmentOf sheet) k) (segmentOf sheet) k now token came went
+unfolding bound right
+each-request-is-answered-within-the-refined-figure sheet accepted k run spaced =
+    let S = segmentOf sheet in
+    answered-if-it-asks
+    (λ i d.
+    let own = in-ring (accepted .declared) d in
+    answered-within S (accepted .declared) (hold S) (hold-covers S) (fits-spacing accepted) (refined S k) k (own .0) (own .1)
+    (omega (arith, hold-covers S .used k i d)) (count-belongs d) (omega (arith, refined-solves S k (own .0) (own .1))) run spaced)
