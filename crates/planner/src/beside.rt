@@ -5,7 +5,6 @@ use libc::STDOUT_FILENO;
 use pnet::Plan;
 use sheet::MOST;
 use tally::Taken;
-ghost use Prim.Native.Nat.{_≤_};
 ghost use lib.ListN.{length};
 
 // So many whole records: a piece that fills the buffer ends with a record, and one that does not ends the capture.
