@@ -6,7 +6,7 @@ use mathlib.Core.Bool.{Bool, true, false}
 use Prim.Native.Nat.{ℕ, suc, _+_, _-_, _*_, _≤_}
 use native.Mathlib.Nat.{zero-mul}
 use native.Mathlib.Omega.{arith}
-use Rattle.common.specs.Sums.{when, upto, up}
+use Rattle.common.specs.Sums.{when, upto}
 use Rattle.common.proofs.Sums.{upto-mono, up-rises}
 use Rattle.segment.specs.Segment.{Segment, owns, count, hold, turnBy, boundBy, bound}
 use Rattle.segment.specs.Refined.{rightBy, valueOf, roundsOf, mostRounds, askedBy, right, rounds, refined}
@@ -68,9 +68,7 @@ module _ (h : ℕ → ℕ) (a : ℕ → ℕ → ℕ) (S : Segment) (k : ℕ) whe
 
 pub asked-rises : (h : ℕ → ℕ) (S : Segment) (y v w : ℕ) → v ≤ w → askedBy h S y v ≤ askedBy h S y w
 unfolding askedBy
-asked-rises h S y v w l =
-    upto-mono (λ i. when (owns S y i) (up (v + boundBy h S y) (S .stream i .spacing))) (λ i. when (owns S y i) (up (w + boundBy h S y) (S .stream i .spacing))) (S .number)
-    (λ i lo hi. split (owns S y i) (up-rises (v + boundBy h S y) (w + boundBy h S y) (S .stream i .spacing) (omega arith)))
+asked-rises h S y v w l = upto-mono _ _ (S .number) (λ i lo hi. split (owns S y i) (up-rises _ _ (S .stream i .spacing) (omega arith)))
   where
     split : {x z : ℕ} (b : Bool) → x ≤ z → when b x ≤ when b z
     split true q = q
