@@ -2,11 +2,12 @@
  * The time of one plan, the proved planners beside the plain C ones, on sheets and captures made here.
  *
  * Both are compiled for x86-64 by the same compiler at -O3 and called in the same process. Each figure is the best of
- * several batches, so that a pause of the machine counts for nothing. No buffer is cleared between plans.
+ * many batches, so that a pause of the machine counts for nothing. No buffer is cleared between plans.
  */
 #include "plain.h"
 
 int printf(const char *form, ...);
+int snprintf(char *to, size_t n, const char *form, ...);
 void *memcpy(void *to, const void *from, size_t n);
 struct timespec {
     long seconds;
@@ -44,13 +45,41 @@ static void put(uint64_t value, int width)
         sheet[length++] = (uint8_t)(value >> 8 * i);
 }
 
-/* `streams` P-NET streams dealt to the masters in turn; each spacing a little longer than the last, so that W climbs */
+static void pnet_stream(uint32_t master, uint32_t cycle, uint32_t spacing, uint32_t deadline)
+{
+    put(2, 1), put(master, 1), put(cycle, 2), put(spacing, 4), put(deadline, 4);
+}
+
+/* `streams` P-NET streams; the first half of the masters have twice as many as the others, so that something is saved. The
+   spacings are long, so that a search is over in a round or two. */
 static void pnet_sheet(uint32_t masters, uint32_t streams, uint32_t spacing)
 {
     length = 0;
     put(1, 1), put(masters, 1);
     for (uint32_t i = 0; i < streams; i++)
-        put(2, 1), put(i % masters + 1, 1), put(100 + i % 100, 2), put(spacing + 37 * i, 4), put(spacing, 4);
+        pnet_stream(i % (masters + masters / 2) % masters + 1, 100 + i % 100, spacing + 37 * i, spacing);
+}
+
+/* Many rounds: the first `busy` masters have `own` streams each, and the others share the rest. The spacings of the first `links`
+   of these are set one behind the other: each value of a busy master's search takes one more request in, and what that adds takes
+   the next value past the next spacing. So a busy master has links + 1 rounds. A master with the fewest streams has one round on
+   any sheet, as nothing is saved at the others. */
+static void pnet_chain(uint32_t masters, uint32_t busy, uint32_t own, uint32_t streams, uint32_t links)
+{
+    enum { CYCLE = 53, HOLD = 47 + CYCLE, SAVED = HOLD - 10, NEVER = 1000000000 };
+    uint32_t others = masters - busy, rest = streams - busy * own, turn = HOLD * masters;
+    uint32_t value = own * turn - (others * own - rest) * SAVED;
+
+    length = 0;
+    put(1, 1), put(masters, 1);
+    for (uint32_t i = 0; i < busy * own; i++)
+        pnet_stream(i % busy + 1, CYCLE, NEVER, NEVER);
+    for (uint32_t i = 0; i < rest; i++) {
+        uint32_t count = rest / others + (i % others < rest % others), bound = count * turn;
+
+        pnet_stream(busy + i % others + 1, CYCLE, i < links ? bound + value - 1 : NEVER, bound);
+        value += SAVED;
+    }
 }
 
 static void profibus_sheet(uint32_t masters, uint32_t streams)
@@ -162,28 +191,36 @@ static double now(void)
     return (double)t.seconds * 1e9 + (double)t.nanoseconds;
 }
 
-/* nanoseconds for one call: batches of about 20 ms, the best of ten */
-static double timed(int (*plan)(void))
+/* nanoseconds of so many calls */
+static double batch(int (*plan)(void), long count)
 {
-    double best = 0;
+    double from = now();
+    for (long i = 0; i < count; i++)
+        plan();
+    return now() - from;
+}
+
+/* so many calls that a batch takes 4 ms or more */
+static long enough(int (*plan)(void))
+{
     long count = 1;
-    for (;;) {
-        double from = now();
-        for (long i = 0; i < count; i++)
-            plan();
-        if (now() - from > 2e7)
-            break;
+    while (batch(plan, count) < 4e6)
         count *= 2;
+    return count;
+}
+
+/* nanoseconds for one call of each: batches of the two by turns, the best of forty, so that a slow moment of the machine does not fall on
+   one of them alone */
+static void timed(int (*a)(void), int (*b)(void), double *best_a, double *best_b)
+{
+    long times_a = enough(a), times_b = enough(b);
+
+    *best_a = *best_b = 1e18;
+    for (int i = 0; i < 40; i++) {
+        double each_a = batch(a, times_a) / (double)times_a, each_b = batch(b, times_b) / (double)times_b;
+        *best_a = each_a < *best_a ? each_a : *best_a;
+        *best_b = each_b < *best_b ? each_b : *best_b;
     }
-    for (int batch = 0; batch < 10; batch++) {
-        double from = now();
-        for (long i = 0; i < count; i++)
-            plan();
-        double each = (now() - from) / (double)count;
-        if (batch == 0 || each < best)
-            best = each;
-    }
-    return best;
 }
 
 static int agree(void)
@@ -212,28 +249,41 @@ static void line(const char *name, int (*proved)(void), int (*plain)(void))
         wrong = 1;
         return;
     }
-    double a = timed(proved), b = timed(plain);
+    double a, b;
+    timed(proved, plain, &a, &b);
     printf("%-44s %12.0f ns %12.0f ns %8.2f", name, a, b, a / b);
     if (records)
         printf(" %12.2f %8.2f", a / records, b / records);
     printf(" %s\n", refusal ? "(refused)" : "");
 }
 
+/* a P-NET sheet by its streams, its masters and the greatest round count */
+static void pnet_line(void)
+{
+    char name[64];
+    uint32_t most = 0;
+
+    their_pnet();
+    for (uint32_t k = 0; k < sheet[1]; k++)
+        most = theirs[2][k] > most ? theirs[2][k] : most;
+    snprintf(name, sizeof name, "P-NET, %u streams, %u masters, rounds %u", (uint32_t)(length - 2) / 12, sheet[1], most);
+    line(name, our_pnet, their_pnet);
+}
+
 int main(void)
 {
     printf("%-44s %15s %15s %8s\n", "sheet", "proved", "plain C", "ratio");
-    pnet_sheet(2, 3, 100000);
-    line("P-NET, 2 masters, 3 streams", our_pnet, their_pnet);
-    pnet_sheet(10, 100, 1000000);
-    line("P-NET, 10 masters, 100 streams", our_pnet, their_pnet);
-    pnet_sheet(10, 200, 1000000);
-    line("P-NET, 10 masters, 200 streams", our_pnet, their_pnet);
-    pnet_sheet(10, 400, 1000000);
-    line("P-NET, 10 masters, 400 streams", our_pnet, their_pnet);
-    pnet_sheet(10, 800, 1000000);
-    line("P-NET, 10 masters, 800 streams", our_pnet, their_pnet);
-    pnet_sheet(32, 800, 300000);
-    line("P-NET, 32 masters, 800 streams", our_pnet, their_pnet);
+    pnet_sheet(2, 3, 100000), pnet_line();
+    pnet_sheet(4, 10, 100000), pnet_line();
+    for (uint32_t streams = 100; streams <= 800; streams *= 2)
+        pnet_sheet(20, streams, 1000000), pnet_line();
+    pnet_sheet(32, 800, 1000000), pnet_line();
+    pnet_chain(4, 1, 4, 10, 6), pnet_line();
+    pnet_chain(32, 1, 30, 100, 70), pnet_line();
+    pnet_chain(32, 8, 80, 800, 160), pnet_line();
+    pnet_chain(32, 3, 80, 800, 560), pnet_line();
+    for (uint32_t streams = 100; streams <= 800; streams *= 2)
+        pnet_chain(32, 1, streams < 200 ? 40 : 80, streams, 60), pnet_line();
     profibus_sheet(3, 3);
     line("PROFIBUS, 3 masters, 3 streams", our_profibus, their_profibus);
     profibus_sheet(10, 100);
@@ -262,10 +312,10 @@ int main(void)
     line("10 KB, 10 masters, 100 streams", our_capture, their_capture);
     capture_of(100, LONG);
     line("1 MB, 10 masters, 100 streams", our_capture, their_capture);
-    pnet_sheet(10, 800, 1000000);
+    pnet_sheet(20, 800, 1000000);
     capture_of(800, SHORT);
-    line("10 KB, 10 masters, 800 streams", our_capture, their_capture);
+    line("10 KB, 20 masters, 800 streams", our_capture, their_capture);
     capture_of(800, LONG);
-    line("1 MB, 10 masters, 800 streams", our_capture, their_capture);
+    line("1 MB, 20 masters, 800 streams", our_capture, their_capture);
     return wrong;
 }
