@@ -1,10 +1,10 @@
 -- Page 01, 'Sheet records': what a record in range is, kind by kind, in the page's words. Assumes nothing.
-use mathlib.Core.Path.{_≡_, refl}
+use mathlib.Core.Path.{_≡_, refl, ap}
 use mathlib.Core.Bool.{Bool, true, false, _&&_}
 use mathlib.Core.List.{List, [], _∷_}
 use Prim.Native.Nat.{ℕ, _≤_}
 use native.Mathlib.Nat.{le-refl, le-trans}
-use borrow.Author.Tests.{le-leb, leb-true, eqb-true}
+use borrow.Author.Tests.{le-leb, leb-true, eqb-true, eq-eqb}
 use lib.Dec.{leb, eqb}
 use Rattle.format.specs.declared.Record.{Record}
 use Rattle.format.specs.Kinds.{Field, Limit, kinds, fieldsOf, limit, within, ranged, inRange, numbers}
@@ -27,6 +27,12 @@ within-range lo x hi e =
 pub range-within : (lo x hi : ℕ) → Range lo x hi → within lo x hi ≡ true
 unfolding within
 range-within lo x hi w = simp (le-leb lo x (w .least), le-leb x hi (w .most))
+
+-- ---- A record of one kind alone
+
+-- of the kind asked for, the other test is left
+pub of-kind : (k kind : ℕ) (ok : Bool) → k ≡ kind → (eqb k kind && ok) ≡ ok
+of-kind k kind ok e = ap (λ (b : Bool). b && ok) (eq-eqb k kind e)
 
 -- ---- Larger limits allow what smaller ones do
 

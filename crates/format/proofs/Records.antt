@@ -1,16 +1,17 @@
--- Laws of a record that stands at a place: its fields one by one, and what `metAt` answers. Assumes nothing.
+-- Laws of a record that stands at a place: its fields one by one, and what `metAt` and `metOf` answer. Assumes nothing.
 use mathlib.Core.Path.{_≡_, refl, sym, ap, _∙_}
-use mathlib.Core.Bool.{false}
+use mathlib.Core.Bool.{Bool, true, false, cond}
 use mathlib.Core.List.{List, [], _∷_}
 use Prim.Native.Nat.{ℕ, zero, suc, _+_, _≤_, _<_}
 use native.Mathlib.Nat.{add-zero, add-assoc}
 use native.Mathlib.Omega.{arith}
-use borrow.Author.Tests.{le-leb, lt-leb}
+use borrow.Author.Tests.{le-leb, lt-leb, eq-eqb, ne-eqb}
+use lib.Dec.{eqb}
 use lib.ListN.{length, getD, take, List·getD-eq-default}
 use Rattle.format.specs.declared.Met.{Met}
 use Rattle.format.specs.declared.Record.{Record}
 use Rattle.format.specs.Numbers.{be}
-use Rattle.format.specs.Kinds.{Field, kinds, fieldsOf, widths, sizeOf, known, fieldAt, decode, whole, nothing, metAt}
+use Rattle.format.specs.Kinds.{Field, kinds, fieldsOf, widths, sizeOf, known, fieldAt, decode, whole, nothing, metAt, metOf}
 use Rattle.format.specs.Widths.{widthAt, Wide}
 use Rattle.format.proofs.Tables.{steps, size-is}
 
@@ -68,3 +69,24 @@ module _ (s : List ℕ) (at : ℕ) where
         let z : n ≡ at + sizeOf (getD s at 0) = omega (arith, size-is (getD s at 0) wa wb wc wd w) in
         let l : at + sizeOf (getD s at 0) ≤ length s = omega arith in
         rw (e, z) (simp (w .is-known, le-leb (at + sizeOf (getD s at 0)) (length s) l))
+
+-- ---- A record of one kind alone
+
+module _ (s : List ℕ) (at kind : ℕ) where
+  -- where that kind stands, it is the record at the place
+  pub met-same : getD s at 0 ≡ kind → metOf s at kind ≡ metAt s at
+  unfolding metOf
+  met-same e = simp (eq-eqb (getD s at 0) kind e)
+
+  pub met-other : (getD s at 0 ≡ kind → ⊥) → found-at nothing at ≡ metOf s at kind
+  unfolding metOf
+  met-other n = simp (ne-eqb (getD s at 0) kind n)
+
+  -- where nothing stands, neither does a record of that kind
+  pub met-none : found-at nothing at ≡ metAt s at → found-at nothing at ≡ metOf s at kind
+  unfolding metOf
+  met-none e = either (eqb (getD s at 0) kind)
+    where
+      either : (b : Bool) → found-at nothing at ≡ cond b (metAt s at) (found-at nothing at)
+      either true = e
+      either false = refl

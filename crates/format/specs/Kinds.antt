@@ -125,6 +125,11 @@ unfolding whole decode sizeOf
 metAt s at =
     cond (whole s at) (record { found = decode s at; next = at + sizeOf (getD s at 0) }) (record { found = nothing; next = at })
 
+-- the same for a record of one kind alone: `nothing` where another kind stands
+unfoldable pub metOf : List ℕ → ℕ → ℕ → Met
+unfolding metAt
+metOf s at kind = cond (eqb (getD s at 0) kind) (metAt s at) (record { found = nothing; next = at })
+
 -- ---- Ranges
 
 -- a limit as a number, for the record r behind a first record with `top` masters and the longest message `long`

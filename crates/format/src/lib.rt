@@ -1,10 +1,12 @@
 // The record format of a sheet, page 01 'Sheet records': reading one record.
+ghost use mathlib.Core.Bool.{_&&_};
 ghost use mathlib.Core.Path.{_≡_};
 ghost use Prim.Native.Nat.{_+_, _≤_, _<_, _^_};
+ghost use lib.Dec.{eqb};
 ghost use lib.ListN.{length, getD};
 ghost use Rattle.format.specs.Numbers.{be};
 ghost use Rattle.format.specs.Kinds;
-ghost use Rattle.format.specs.Kinds.{inRange, metAt, nothing};
+ghost use Rattle.format.specs.Kinds.{inRange, metAt, metOf, nothing};
 ghost use Rattle.format.specs.Widths.{Wide};
 
 // One record: its kind, and its fields in the order of the page. A field that the kind does not have is 0.
@@ -83,16 +85,19 @@ fn whole_at(s: &[u8], at: usize, wa: usize, wb: usize, wc: usize, wd: usize) -> 
     }
 }
 
-// The record at a place and the place just after it; nothing, and the place itself, where no whole record stands.
-// Nothing is added to a place that is past the end, so any place may be asked. The widths stand here as constants,
-// a line for each kind, so that each is read without a loop.
-pub fn record_at(s: &[u8], at: usize) -> Met
-    ensures { λ r. ⌜ r ≡ metAt (now (s .entry)) at ⌝ }
+// The record of a kind at a place and the place just after it; nothing, and the place itself, where no whole record of that kind stands.
+// Nothing is added to a place that is past the end, so any place may be asked. The widths stand here as constants, a line for each kind,
+// so that each is read without a loop; where the kind asked for is a constant too, one line is left.
+pub fn record_of(s: &[u8], at: usize, kind: u8) -> Met
+    ensures { λ r. ⌜ r ≡ metOf (now (s .entry)) at kind ⌝ }
 {
     if s.len() <= at {
         return nothing_at(at);
     }
-    match s[at] {
+    if s[at] != kind {
+        return nothing_at(at);
+    }
+    match kind {
         1 => whole_at(s, at, 1, 0, 0, 0),
         2 => whole_at(s, at, 1, 2, 4, 4),
         3 => whole_at(s, at, 1, 4, 4, 0),
@@ -103,12 +108,24 @@ pub fn record_at(s: &[u8], at: usize) -> Met
     }
 }
 
-// Every field of a record in its range, behind a first record with `top` masters and the longest message `long`.
-// A field that the kind does not have is 0. All tests are made at once, with no branch between them.
-pub fn in_range(top: u32, long: u32, r: Record) -> bool
-    ensures { λ ok. ⌜ ok ≡ inRange top long r ⌝ }
+// The record at a place, of whatever kind, and the place just after it.
+pub fn record_at(s: &[u8], at: usize) -> Met
+    ensures { λ r. ⌜ r ≡ metAt (now (s .entry)) at ⌝ }
 {
-    let kind = r.kind;
+    if s.len() <= at {
+        return nothing_at(at);
+    }
+    record_of(s, at, s[at])
+}
+
+// A record of a kind with every field in its range, behind a first record with `top` masters and the longest message `long`.
+// A field that the kind does not have is 0. All tests are made at once, with no branch between them.
+pub fn in_range_of(kind: u8, top: u32, long: u32, r: Record) -> bool
+    ensures { λ ok. ⌜ ok ≡ (eqb (r .kind) kind && inRange top long r) ⌝ }
+{
+    if r.kind != kind {
+        return false;
+    }
     let a = r.a;
     let b = r.b;
     let c = r.c;
@@ -135,4 +152,11 @@ pub fn in_range(top: u32, long: u32, r: Record) -> bool
         6 => (a <= 65535) & (1 <= b) & (b <= 1000000000) & (c == 0) & (d == 0),
         _ => (a == 0) & (b == 0) & (c == 0) & (d == 0),
     }
+}
+
+// Every field of a record in its range, whatever its kind.
+pub fn in_range(top: u32, long: u32, r: Record) -> bool
+    ensures { λ ok. ⌜ ok ≡ inRange top long r ⌝ }
+{
+    in_range_of(r.kind, top, long, r)
 }

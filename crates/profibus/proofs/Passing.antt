@@ -7,10 +7,10 @@ use borrow.Author.Tests.{ne-eqb}
 use Rattle.common.specs.Runs.{tab}
 use Rattle.common.proofs.Runs.{tab-same}
 use Rattle.format.specs.declared.Met.{Met}
-use Rattle.format.specs.Kinds.{metAt}
+use Rattle.format.specs.Kinds.{metOf}
 use Rattle.sheet.specs.Whole.{placeOf, reading, streamsOfMaster, countsTold}
 use Rattle.sheet.specs.Steps.{sheetIn, Ready}
-use Rattle.sheet.proofs.Taken.{ready-known, ready-streams, stream-met}
+use Rattle.sheet.proofs.Taken.{ready-known, ready-streams, stream-met-of}
 use Rattle.ring.specs.Ring.{Ring, Stream, streamOf, streamAt, ringOf, On, count, Declared}
 use Rattle.ring.proofs.Declared.{declared, count-is}
 
@@ -33,10 +33,10 @@ module _ (s : List ℕ) (first n : ℕ) (ready : Ready s 3 first n) where
   unfolding ringOf
   ready-number = ready-streams ready
 
-  pub stepped : (i at : ℕ) (m : Met) → i < n → at ≡ placeOf s (suc i) → m ≡ metAt s at → Stepped s (ringOf (sheetIn s n)) (i + 1) m
+  pub stepped : (i at : ℕ) (m : Met) → i < n → at ≡ placeOf s (suc i) → m ≡ metOf s at 4 → Stepped s (ringOf (sheetIn s n)) (i + 1) m
   unfolding ringOf streamAt
   stepped i at m l e q =
-      let here = stream-met ready i at m l e q in
+      let here = stream-met-of ready i at m l e q in
       let p : i + 1 - 1 ≡ i = omega arith in
       let on : On (ringOf (sheetIn s n)) (i + 1) = (omega arith, omega (arith, ready-number)) in
       let e' : streamOf (m .found) ≡ ringOf (sheetIn s n) .stream (i + 1) = rw (p, here .is) in

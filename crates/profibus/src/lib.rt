@@ -36,7 +36,7 @@ fn largest_target(
     let mut at = first;
     let mut i: usize = 0;
     while i < streams {
-        let met = format::record_at(s, at);
+        let met = format::record_of(s, at, 4);
         let r = met.found;
         let master = r.a as usize;
         let h = counts[master] as u64;

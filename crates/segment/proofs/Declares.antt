@@ -8,10 +8,10 @@ use lib.ListN.{getD}
 use Rattle.format.specs.declared.Record.{Record}
 use Rattle.format.specs.Kinds.{nothing, inRange}
 use Rattle.format.proofs.Ranges.{segment-ranges, pnet-stream-ranges}
-use Rattle.sheet.specs.Sheets.{Sheet, countOf}
-use Rattle.sheet.proofs.Counts.{counted-by-number}
+use Rattle.sheet.specs.Sheets.{Sheet, countOf, longestOf}
+use Rattle.sheet.proofs.Counts.{counted-by-number, longest-by-number}
 use Rattle.sheet.proofs.Known.{Known}
-use Rattle.segment.specs.Segment.{streamOf, streamAt, segmentOf, owns, count}
+use Rattle.segment.specs.Segment.{streamOf, streamAt, segmentOf, owns, count, longest}
 use Rattle.segment.specs.Limits.{Ranged, Declared}
 
 -- a stream's ranges are those of its record
@@ -30,9 +30,14 @@ stream-ranged N M r k e =
     }
 
 -- s is what reading counted
-count-of : (H : Sheet) (k : ℕ) → count (segmentOf H) k ≡ countOf k (H .streams)
+pub count-of : (H : Sheet) (k : ℕ) → count (segmentOf H) k ≡ countOf k (H .streams)
 unfolding count owns segmentOf streamAt
 count-of H k = counted-by-number k (H .streams)
+
+-- and the longest C what it gathered
+pub longest-of : (H : Sheet) (k : ℕ) → longest (segmentOf H) k ≡ longestOf k (H .streams)
+unfolding longest owns segmentOf streamAt
+longest-of H k = longest-by-number k (H .streams)
 
 pub declared : (s : List ℕ) (H : Sheet) → Known s H → H .head .kind ≡ 1 → Declared (segmentOf H)
 unfolding segmentOf streamAt

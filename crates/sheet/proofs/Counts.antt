@@ -1,19 +1,19 @@
--- How many records have a number in their first field. Assumes nothing.
+-- How many records have a number in their first field, and the greatest second field of those. Assumes nothing.
 use mathlib.Core.Path.{_≡_, refl, ap, _∙_}
 use mathlib.Core.Bool.{Bool, true, false}
 use mathlib.Core.List.{List, [], _∷_, _++_}
-use Prim.Native.Nat.{ℕ, zero, suc, _+_, _-_, _≤_, _<_}
+use Prim.Native.Nat.{ℕ, zero, suc, _+_, _-_, _≤_, _<_, max}
 use native.Mathlib.Nat.{not-suc-le-zero}
 use native.Mathlib.Numerals.{unary-clauses}
 use native.Mathlib.Omega.{arith}
 use borrow.Author.Tests.{eqb-true, ne-eqb, eq-eqb}
 use lib.ListN.{length, getD}
 use lib.Dec.{eqb}
-use Rattle.common.specs.Sums.{when, upto}
-use Rattle.common.proofs.Sums.{upto-same, upto-first}
+use Rattle.common.specs.Sums.{when, upto, greatest}
+use Rattle.common.proofs.Sums.{upto-same, upto-first, greatest-most, greatest-least}
 use Rattle.format.specs.declared.Record.{Record}
 use Rattle.format.specs.Kinds.{nothing}
-use Rattle.sheet.specs.Sheets.{countOf}
+use Rattle.sheet.specs.Sheets.{countOf, longestOf}
 
 pub count-append : (x : ℕ) (rs qs : List Record) → countOf x (rs ++ qs) ≡ countOf x rs + countOf x qs
 unfolding countOf
@@ -24,6 +24,15 @@ count-append x (r ∷ rs) qs = omega (arith, count-append x rs qs)
 pub count-more : (x : ℕ) (rs : List Record) (r : Record) → countOf x (rs ++ (r ∷ [])) ≡ countOf x rs + when (eqb (r .a) x) 1
 unfolding countOf
 count-more x rs r = omega (arith, count-append x rs (r ∷ []))
+
+longest-append : (x : ℕ) (rs qs : List Record) → longestOf x (rs ++ qs) ≡ max (longestOf x rs) (longestOf x qs)
+unfolding longestOf
+longest-append x [] qs = omega arith
+longest-append x (r ∷ rs) qs = omega (arith, longest-append x rs qs)
+
+pub longest-more : (x : ℕ) (rs : List Record) (r : Record) → longestOf x (rs ++ (r ∷ [])) ≡ max (longestOf x rs) (when (eqb (r .a) x) (r .b))
+unfolding longestOf
+longest-more x rs r = omega (arith, longest-append x rs (r ∷ []))
 
 -- what is in none
 pub count-none : (x : ℕ) (rs : List Record) (i : ℕ) → countOf x rs ≡ 0 → i < length rs → getD rs i nothing .a ≡ x → ⊥
@@ -63,3 +72,34 @@ counted-by-number k (r ∷ rs) =
     next : (i : ℕ) → 1 ≤ i → i ≤ length rs → when (eqb (getD (r ∷ rs) (suc i - 1) nothing .a) k) 1 ≡ when (eqb (getD rs (i - 1) nothing .a) k) 1
     next zero lo hi = absurd (omega arith)
     next (suc i) lo hi = simp unary-clauses
+
+-- ---- The longest, by number
+
+-- what record i, counted from 0, has for x
+abbrev figure : ℕ → List Record → ℕ → ℕ
+figure x rs i = when (eqb (getD rs i nothing .a) x) (getD rs i nothing .b)
+
+longest-most : (x : ℕ) (rs : List Record) (i : ℕ) → i < length rs → figure x rs i ≤ longestOf x rs
+unfolding longestOf
+longest-most x [] i l = absurd (not-suc-le-zero l)
+longest-most x (r ∷ rs) zero l = omega arith
+longest-most x (r ∷ rs) (suc i) l = omega (arith, longest-most x rs i (omega arith))
+
+longest-least : (x c : ℕ) (rs : List Record) → ((i : ℕ) → i < length rs → figure x rs i ≤ c) → longestOf x rs ≤ c
+unfolding longestOf
+longest-least x c [] h = omega arith
+longest-least x c (r ∷ rs) h = omega (arith, h 0 (omega arith), longest-least x c rs (λ i l. h (suc i) (omega arith)))
+
+pub longest-by-number : (x : ℕ) (rs : List Record) → greatest (λ i. figure x rs (i - 1)) (length rs) ≡ longestOf x rs
+longest-by-number x rs = omega (arith, most, least)
+  where
+    most : greatest (λ i. figure x rs (i - 1)) (length rs) ≤ longestOf x rs
+    most = greatest-least (λ i. figure x rs (i - 1)) (longestOf x rs) (length rs) (λ i lo hi. longest-most x rs (i - 1) (omega arith))
+
+    at : (i : ℕ) → i < length rs → figure x rs i ≤ greatest (λ j. figure x rs (j - 1)) (length rs)
+    at i l =
+        let e : i + 1 - 1 ≡ i = omega arith in
+        omega (arith, ap (figure x rs) e, greatest-most (λ j. figure x rs (j - 1)) (length rs) (i + 1) (omega arith) (omega arith))
+
+    least : longestOf x rs ≤ greatest (λ i. figure x rs (i - 1)) (length rs)
+    least = longest-least x (greatest (λ i. figure x rs (i - 1)) (length rs)) rs at

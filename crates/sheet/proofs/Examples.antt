@@ -1,9 +1,9 @@
 -- Page 01, 'Sheets worked by hand', and one accepted sheet of each bus, as the definitions compute them. Assumes nothing.
 use Prim.Native.Nat.{ℕ}
 use mathlib.Core.Path.{_≡_, refl}
-use mathlib.Core.List.{[], _∷_}
+use mathlib.Core.List.{[], _∷_, map}
 use Rattle.format.specs.declared.Record.{Record}
-use Rattle.sheet.specs.Sheets.{headOf, streamsOf}
+use Rattle.sheet.specs.Sheets.{longestOf, headOf, streamsOf}
 use Rattle.sheet.specs.Whole.{reading}
 use Rattle.sheet.specs.Whole.Outcome.{Read, Not}
 
@@ -62,3 +62,10 @@ worldfip = refl
 same-identifier : reading (5 ∷ 0 ∷ 0 ∷ 1 ∷ 144 ∷ 6 ∷ 0 ∷ 17 ∷ 0 ∷ 0 ∷ 3 ∷ 232 ∷ 6 ∷ 0 ∷ 17 ∷ 0 ∷ 0 ∷ 7 ∷ 208 ∷ []) ≡ Not 7 12
 unfolding reading headOf streamsOf
 same-identifier = refl
+
+-- ---- What each master has
+
+-- master 1 has the longest C of its two streams, whichever comes first; master 3 has no stream
+longest-cycles : map (λ x. longestOf x (rec 2 1 500 1000 900 ∷ rec 2 2 600 1000 900 ∷ rec 2 1 203 1000 900 ∷ [])) (1 ∷ 2 ∷ 3 ∷ []) ≡ 500 ∷ 600 ∷ 0 ∷ []
+unfolding longestOf rec
+longest-cycles = refl

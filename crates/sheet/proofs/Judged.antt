@@ -1,15 +1,19 @@
 -- The numbers that the parts of the reader answer at a record are the verdict on that record. Assumes nothing.
-use mathlib.Core.Path.{_≡_, refl}
-use mathlib.Core.Bool.{Bool, true, false, not}
+use mathlib.Core.Path.{_≡_, refl, ap, _∙_}
+use mathlib.Core.Bool.{Bool, true, false, not, _&&_}
 use mathlib.Core.List.{List, [], _∷_}
 use Prim.Native.Nat.{ℕ, zero, suc, _+_, _≤_}
 use native.Mathlib.Omega.{arith}
-use borrow.Author.Tests.{ne-eqb, eq-eqb, leb-true, leb-false, lt-ltb, le-ltb}
+use borrow.Author.Tests.{eqb-true, ne-eqb, eq-eqb, leb-true, leb-false, lt-ltb, le-ltb}
 use lib.ListN.{length, getD}
 use lib.Dec.{eqb, leb, ltb}
 use Rattle.common.specs.Checks.{Check, check, Verdict, verdict}
 use Rattle.common.specs.Checks.Verdict.{Refused}
-use Rattle.format.specs.Kinds.{known, sizeOf, decode, inRange, whole, metAt, nothing}
+use Rattle.format.specs.declared.Met.{Met}
+use Rattle.format.specs.declared.Record.{Record}
+use Rattle.format.specs.Kinds.{known, sizeOf, decode, inRange, whole, metAt, metOf, nothing}
+use Rattle.format.proofs.Records.{met-same}
+use Rattle.format.proofs.Ranges.{of-kind}
 use Rattle.sheet.specs.Sheets.{headOf, streamsOf, fits, overLimit, metBefore}
 use Rattle.sheet.specs.Whole.{placeOf, recordsOf, recordChecks, judge}
 use Rattle.sheet.specs.Steps.{ownNo}
@@ -65,6 +69,16 @@ pub size-some : (k : ℕ) → 1 ≤ sizeOf k
 unfolding sizeOf
 size-some k = omega arith
 
+-- the later two tests matter only where the earlier ones passed
+own-same : (isKnown isRight isWhole isRanged isWhole' isRanged' : Bool) → (isKnown ≡ true → isRight ≡ true → isWhole ≡ isWhole')
+    → (isKnown ≡ true → isRight ≡ true → isWhole' ≡ true → isRanged ≡ isRanged')
+    → ownNo isKnown isRight isWhole isRanged ≡ ownNo isKnown isRight isWhole' isRanged'
+unfolding ownNo
+own-same false r w g w' g' ew eg = refl
+own-same true false w g w' g' ew eg = refl
+own-same true true w g false g' ew eg = rw (ew refl refl)
+own-same true true w g true g' ew eg = rw (ew refl refl, eg refl refl refl)
+
 -- the record that is met at a place tells the same as the bytes there
 module _ (s : List ℕ) (at : ℕ) where
   pub met-some : whole s at ≡ true → metAt s at ≡ record { found = decode s at; next = at + sizeOf (getD s at 0) }
@@ -75,23 +89,51 @@ module _ (s : List ℕ) (at : ℕ) where
   unfolding metAt
   met-none e = rw e
 
-  pub own-met : (isRight : Bool) (top long : ℕ)
-      → ownNo (known (getD s at 0)) isRight (not (eqb (metAt s at .next) at)) (inRange top long (metAt s at .found))
-      ≡ ownNo (known (getD s at 0)) isRight (leb (at + sizeOf (getD s at 0)) (length s)) (inRange top long (decode s at))
-  unfolding ownNo whole
-  own-met isRight top long = split (known (getD s at 0)) refl (leb (at + sizeOf (getD s at 0)) (length s)) refl
+  -- it ends elsewhere exactly if it is whole, and then it is the record of the bytes
+  next-tells : known (getD s at 0) ≡ true → not (eqb (metAt s at .next) at) ≡ leb (at + sizeOf (getD s at 0)) (length s)
+  unfolding whole
+  next-tells e = split (leb (at + sizeOf (getD s at 0)) (length s)) refl
     where
-      split : (b : Bool) → known (getD s at 0) ≡ b → (l : Bool) → leb (at + sizeOf (getD s at 0)) (length s) ≡ l
-          → ownNo (known (getD s at 0)) isRight (not (eqb (metAt s at .next) at)) (inRange top long (metAt s at .found))
-          ≡ ownNo (known (getD s at 0)) isRight (leb (at + sizeOf (getD s at 0)) (length s)) (inRange top long (decode s at))
-      split false e l f = rw e
-      split true e true f =
+      split : (l : Bool) → leb (at + sizeOf (getD s at 0)) (length s) ≡ l → not (eqb (metAt s at .next) at) ≡ leb (at + sizeOf (getD s at 0)) (length s)
+      split true f =
           let w : whole s at ≡ true = rw (e, f) in
           let n : eqb (at + sizeOf (getD s at 0)) at ≡ false = ne-eqb (at + sizeOf (getD s at 0)) at (λ q. omega (arith, size-some (getD s at 0))) in
           rw (met-some w, n, f)
-      split true e false f =
+      split false f =
           let w : whole s at ≡ false = rw (e, f) in
-          rw (met-none w, eq-eqb at at refl, e, f)
+          rw (met-none w, eq-eqb at at refl, f)
+
+  found-tells : known (getD s at 0) ≡ true → leb (at + sizeOf (getD s at 0)) (length s) ≡ true → metAt s at .found ≡ decode s at
+  unfolding whole
+  found-tells e f = let w : whole s at ≡ true = rw (e, f) in ap (λ (m : Met). m .found) (met-some w)
+
+  pub own-met : (isRight : Bool) (top long : ℕ)
+      → ownNo (known (getD s at 0)) isRight (not (eqb (metAt s at .next) at)) (inRange top long (metAt s at .found))
+      ≡ ownNo (known (getD s at 0)) isRight (leb (at + sizeOf (getD s at 0)) (length s)) (inRange top long (decode s at))
+  own-met isRight top long =
+      own-same (known (getD s at 0)) isRight _ _ _ _ (λ k r. next-tells k) (λ k r w. ap (inRange top long) (found-tells k w))
+
+  -- the same where a record of the right kind alone is asked for: another one is refused before anything else is looked at
+  pub own-met-of : (kind top long : ℕ)
+      → ownNo (known (getD s at 0)) (eqb (getD s at 0) kind) (not (eqb (metOf s at kind .next) at))
+      (eqb (metOf s at kind .found .kind) kind && inRange top long (metOf s at kind .found))
+      ≡ ownNo (known (getD s at 0)) (eqb (getD s at 0) kind) (leb (at + sizeOf (getD s at 0)) (length s)) (inRange top long (decode s at))
+  unfolding decode
+  own-met-of kind top long = own-same (known (getD s at 0)) (eqb (getD s at 0) kind) _ _ _ _ ends ranged
+    where
+      met : eqb (getD s at 0) kind ≡ true → metOf s at kind ≡ metAt s at
+      met r = met-same s at kind (eqb-true (getD s at 0) kind r)
+
+      ends : known (getD s at 0) ≡ true → eqb (getD s at 0) kind ≡ true
+          → not (eqb (metOf s at kind .next) at) ≡ leb (at + sizeOf (getD s at 0)) (length s)
+      ends k r = ap (λ (m : Met). not (eqb (m .next) at)) (met r) ∙ next-tells k
+
+      ranged : known (getD s at 0) ≡ true → eqb (getD s at 0) kind ≡ true → leb (at + sizeOf (getD s at 0)) (length s) ≡ true
+          → (eqb (metOf s at kind .found .kind) kind && inRange top long (metOf s at kind .found)) ≡ inRange top long (decode s at)
+      ranged k r w =
+          let e : metOf s at kind .found ≡ decode s at = ap (λ (m : Met). m .found) (met r) ∙ found-tells k w in
+          ap (λ (x : Record). eqb (x .kind) kind && inRange top long x) e
+          ∙ of-kind (getD s at 0) kind (inRange top long (decode s at)) (eqb-true (getD s at 0) kind r)
 
 -- ---- A record of the sheet
 

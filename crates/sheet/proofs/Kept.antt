@@ -2,22 +2,23 @@
 use mathlib.Core.Path.{_≡_, refl, sym, ap, _∙_}
 use mathlib.Core.Bool.{Bool, true, false, cond, _||_, or-true}
 use mathlib.Core.List.{List, [], _∷_, _++_}
-use Prim.Native.Nat.{ℕ, zero, suc, _+_, _≤_, _<_}
+use Prim.Native.Nat.{ℕ, zero, suc, _+_, _≤_, _<_, max}
 use native.Mathlib.Nat.{not-suc-le-zero}
 use native.Mathlib.Numerals.{add-one}
 use native.Mathlib.Omega.{arith}
 use native.Mathlib.Decide.{ℕ-discrete}
 use borrow.Author.Tests.{eqb-true, ne-eqb, eq-eqb, le-leb, lt-leb, leb-true, leb-false, lt-ltb, le-ltb}
-use lib.ListN.{length, getD, set, length-append, length-set, List·getD-append}
+use lib.ListN.{length, getD, set, length-append, length-set, replicate, List·getD-append}
 use lib.Seq.{getD-set-same, getD-set-other, getD-at}
 use lib.Dec.{eqb, leb, ltb}
 use Rattle.common.specs.Checks.{check, verdict}
 use Rattle.common.specs.Checks.Verdict.{Passed}
+use Rattle.common.proofs.Runs.{zero-at}
 use Rattle.format.specs.declared.Record.{Record}
 use Rattle.format.specs.Kinds.{nothing}
-use Rattle.sheet.specs.Sheets.{mostInAll, hasMaster, countOf, overLimit, metBefore}
-use Rattle.sheet.specs.Steps.{among, lateNo, countsWith, idsWith}
-use Rattle.sheet.proofs.Counts.{count-more, count-none, count-zero}
+use Rattle.sheet.specs.Sheets.{mostInAll, hasMaster, countOf, longestOf, overLimit, metBefore}
+use Rattle.sheet.specs.Steps.{among, lateNo, countsWith, longestsWith, idsWith}
+use Rattle.sheet.proofs.Counts.{count-more, longest-more, count-none, count-zero}
 use Rattle.sheet.proofs.Judged.{numbered}
 
 -- ---- Identifiers met before
@@ -95,11 +96,16 @@ module _ (counts ids : List ℕ) (n : ℕ) (r : Record) where
 
 -- ---- What is kept
 
--- behind these streams of kind k: how many each master has, or their identifiers
-pub record Keeps (k : ℕ) (before : List Record) (counts ids : List ℕ) : Type 0 where
-  pub masters : length counts ≡ 33
+-- 33 places with a figure for each master, where streams of kind k have one
+pub record Figures (k : ℕ) (figure : ℕ → ℕ) (xs : List ℕ) : Type 0 where
+  pub places : length xs ≡ 33
+  pub each : (k ≡ 6 → ⊥) → (x : ℕ) → x ≤ 32 → getD xs x 0 ≡ figure x
+
+-- behind these streams of kind k: how many each master has and the longest C of them, or their identifiers
+pub record Keeps (k : ℕ) (before : List Record) (counts longests ids : List ℕ) : Type 0 where
+  pub counted : Figures k (λ x. countOf x before) counts
+  pub longest : Figures k (λ x. longestOf x before) longests
   pub variables : length ids ≡ 64
-  pub counted : (k ≡ 6 → ⊥) → (x : ℕ) → x ≤ 32 → getD counts x 0 ≡ countOf x before
   pub named : k ≡ 6 → (i : ℕ) → i < length before → getD ids i 0 ≡ getD before i nothing .a
 
 -- an identifier is kept exactly if a stream has it
@@ -123,15 +129,36 @@ among-count before ids x h = split (among x (length before) ids) refl
         different i l e = let z : true ≡ false = sym (among-yes x i (length before) ids l (h i l ∙ e)) ∙ q in let z' : _≡_ {A = ℕ} 0 1 = cc in omega arith
 
 -- nothing yet
-pub keeps-none : (k : ℕ) (counts ids : List ℕ) → length counts ≡ 33 → length ids ≡ 64 → ((x : ℕ) → x ≤ 32 → getD counts x 0 ≡ 0) → Keeps k [] counts ids
-unfolding countOf
-keeps-none k counts ids m v z = record { masters = m; variables = v; counted = λ h x l. z x l; named = λ h i l. absurd (not-suc-le-zero l) }
+pub keeps-none : (k : ℕ) → Keeps k [] (replicate 33 0) (replicate 33 0) (replicate 64 0)
+unfolding countOf longestOf
+keeps-none k =
+    record {
+      counted = record { places = refl; each = λ h x l. zero-at 33 x };
+      longest = record { places = refl; each = λ h x l. zero-at 33 x };
+      variables = refl;
+      named = λ h i l. absurd (not-suc-le-zero l);
+    }
 
 either-length : (b : Bool) (xs ys : List ℕ) → length xs ≡ length ys → length (cond b xs ys) ≡ length xs
 either-length true xs ys e = refl
 either-length false xs ys e = sym e
 
-module _ (before : List Record) (counts ids : List ℕ) (r : Record) (keeps : Keeps (r .kind) before counts ids) where
+-- one master's figure changes, and no other's
+figures-more : (k : ℕ) (f g : ℕ → ℕ) (xs : List ℕ) (m v : ℕ) → Figures k f xs → ((k ≡ 6 → ⊥) → m ≤ 32) → ((k ≡ 6 → ⊥) → v ≡ g m)
+    → ((x : ℕ) → (m ≡ x → ⊥) → g x ≡ f x) → Figures k g (cond (eqb k 6) xs (set xs m v))
+figures-more k f g xs m v w l own other =
+    record {
+      places = either-length (eqb k 6) xs (set xs m v) (sym (length-set xs m v)) ∙ w .places;
+      each = λ e x h. rw (ne-eqb k 6 e) (split e x h (ℕ-discrete m x));
+    }
+  where
+    split : (k ≡ 6 → ⊥) → (x : ℕ) → x ≤ 32 → Dec (m ≡ x) → getD (set xs m v) x 0 ≡ g x
+    split e x h (yes q) =
+        let b : m < length xs = omega (arith, l e, w .places) in
+        ap (λ (y : ℕ). getD (set xs m v) y 0) (sym q) ∙ (getD-set-same xs m v 0 b ∙ (own e ∙ ap g q))
+    split e x h (no q) = getD-set-other xs m x v 0 (λ z. q (sym z)) ∙ (w .each e x h ∙ sym (other x q))
+
+module _ (before : List Record) (counts longests ids : List ℕ) (r : Record) (keeps : Keeps (r .kind) before counts longests ids) where
   -- the verdict by what is kept: one too many, or met before
   pub late-variable : r .kind ≡ 6 → (p : ℕ) → verdict (check 5 (overLimit before r) p ∷ check 7 (metBefore before r) p ∷ []) ≡ numbered (lateNo counts ids (length before) r) p Passed
   unfolding verdict overLimit metBefore lateNo mostInAll hasMaster numbered
@@ -147,7 +174,7 @@ module _ (before : List Record) (counts ids : List ℕ) (r : Record) (keeps : Ke
       → verdict (check 5 (overLimit before r) p ∷ check 7 (metBefore before r) p ∷ []) ≡ numbered (lateNo counts ids (length before) r) p Passed
   unfolding verdict overLimit metBefore lateNo mostInAll numbered
   late-stream m e l p =
-      rw (keeps .counted e (r .a) l, ne-eqb (r .kind) 6 e, m) (split (leb 800 (length before)) (leb 80 (countOf (r .a) before)))
+      rw (keeps .counted .each e (r .a) l, ne-eqb (r .kind) 6 e, m) (split (leb 800 (length before)) (leb 80 (countOf (r .a) before)))
     where
       split : (many own : Bool) → verdict (check 5 (many || own) p ∷ check 7 false p ∷ []) ≡ numbered (cond many 5 (cond own 5 0)) p Passed
       split true own = refl
@@ -155,19 +182,38 @@ module _ (before : List Record) (counts ids : List ℕ) (r : Record) (keeps : Ke
       split false false = refl
 
   -- one stream more is kept: counted for its master, and for no other
-  more-counted : (r .kind ≡ 6 → ⊥) → r .a ≤ 32 → (x : ℕ) → x ≤ 32 → getD (countsWith counts r) x 0 ≡ countOf x (before ++ (r ∷ []))
+  more-counted : ((r .kind ≡ 6 → ⊥) → r .a ≤ 32) → Figures (r .kind) (λ x. countOf x (before ++ (r ∷ []))) (countsWith counts r)
   unfolding countsWith
-  more-counted e l x h = rw (ne-eqb (r .kind) 6 e) (split (ℕ-discrete (r .a) x))
+  more-counted l =
+      figures-more (r .kind) (λ x. countOf x before) (λ x. countOf x (before ++ (r ∷ []))) counts (r .a) (getD counts (r .a) 0 + 1) (keeps .counted) l own other
     where
-      split : Dec (r .a ≡ x) → getD (set counts (r .a) (getD counts (r .a) 0 + 1)) x 0 ≡ countOf x (before ++ (r ∷ []))
-      split (yes q) =
-          let v = getD counts (r .a) 0 + 1 in
-          let k : r .a < length counts = omega (arith, keeps .masters) in
-          let w : countOf x (before ++ (r ∷ [])) ≡ countOf x before + 1 = rw (eq-eqb (r .a) x q) at (count-more x before r) in
-          ap (λ (y : ℕ). getD (set counts (r .a) v) y 0) (sym q) ∙ getD-set-same counts (r .a) v 0 k ∙ omega (arith, ap (λ (y : ℕ). getD counts y 0) q, keeps .counted e x h)
-      split (no q) =
+      own : (r .kind ≡ 6 → ⊥) → getD counts (r .a) 0 + 1 ≡ countOf (r .a) (before ++ (r ∷ []))
+      own e =
+          let w : countOf (r .a) (before ++ (r ∷ [])) ≡ countOf (r .a) before + 1 = rw (eq-eqb (r .a) (r .a) refl) at (count-more (r .a) before r) in
+          omega (arith, keeps .counted .each e (r .a) (l e))
+
+      other : (x : ℕ) → (r .a ≡ x → ⊥) → countOf x (before ++ (r ∷ [])) ≡ countOf x before
+      other x q =
           let w : countOf x (before ++ (r ∷ [])) ≡ countOf x before + 0 = rw (ne-eqb (r .a) x q) at (count-more x before r) in
-          getD-set-other counts (r .a) x (getD counts (r .a) 0 + 1) 0 (λ z. q (sym z)) ∙ omega (arith, keeps .counted e x h)
+          omega arith
+
+  -- its C, where none of its master's is longer
+  more-longest : ((r .kind ≡ 6 → ⊥) → r .a ≤ 32) → Figures (r .kind) (λ x. longestOf x (before ++ (r ∷ []))) (longestsWith longests r)
+  unfolding longestsWith
+  more-longest l =
+      figures-more (r .kind) (λ x. longestOf x before) (λ x. longestOf x (before ++ (r ∷ []))) longests (r .a) (max (getD longests (r .a) 0) (r .b))
+      (keeps .longest) l own other
+    where
+      own : (r .kind ≡ 6 → ⊥) → max (getD longests (r .a) 0) (r .b) ≡ longestOf (r .a) (before ++ (r ∷ []))
+      own e =
+          let w : longestOf (r .a) (before ++ (r ∷ [])) ≡ max (longestOf (r .a) before) (r .b) =
+          rw (eq-eqb (r .a) (r .a) refl) at (longest-more (r .a) before r) in
+          omega (arith, keeps .longest .each e (r .a) (l e))
+
+      other : (x : ℕ) → (r .a ≡ x → ⊥) → longestOf x (before ++ (r ∷ [])) ≡ longestOf x before
+      other x q =
+          let w : longestOf x (before ++ (r ∷ [])) ≡ max (longestOf x before) 0 = rw (ne-eqb (r .a) x q) at (longest-more x before r) in
+          omega arith
 
   -- or its identifier behind those before it
   more-named : r .kind ≡ 6 → length before < 64 → (i : ℕ) → i < length (before ++ (r ∷ [])) → getD (idsWith ids (length before) r) i 0 ≡ getD (before ++ (r ∷ [])) i nothing .a
@@ -183,12 +229,14 @@ module _ (before : List Record) (counts ids : List ℕ) (r : Record) (keeps : Ke
           getD-set-other ids (length before) i (r .a) 0 q ∙ (keeps .named e i k ∙ ap (λ (x : Record). x .a) (sym (List·getD-append before (r ∷ []) nothing i k)))
 
   pub keeps-more : ((r .kind ≡ 6 → ⊥) → r .a ≤ 32) → (r .kind ≡ 6 → length before < 64)
-      → Keeps (r .kind) (before ++ (r ∷ [])) (countsWith counts r) (idsWith ids (length before) r)
-  unfolding countsWith idsWith
+      → Keeps (r .kind) (before ++ (r ∷ [])) (countsWith counts r) (longestsWith longests r) (idsWith ids (length before) r)
+  unfolding idsWith
   keeps-more l h =
       record {
-        masters = either-length (eqb (r .kind) 6) counts (set counts (r .a) (getD counts (r .a) 0 + 1)) (sym (length-set counts (r .a) (getD counts (r .a) 0 + 1))) ∙ keeps .masters;
-        variables = either-length (eqb (r .kind) 6) (set ids (length before) (r .a)) ids (length-set ids (length before) (r .a)) ∙ (length-set ids (length before) (r .a) ∙ keeps .variables);
-        counted = λ e x k. more-counted e (l e) x k;
+        counted = more-counted l;
+        longest = more-longest l;
+        variables =
+            let l' = length-set ids (length before) (r .a) in
+            either-length (eqb (r .kind) 6) (set ids (length before) (r .a)) ids l' ∙ (l' ∙ keeps .variables);
         named = λ e i k. more-named e (h e) i k;
       }

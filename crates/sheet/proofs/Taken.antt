@@ -8,13 +8,14 @@ use native.Mathlib.Omega.{arith}
 use lib.ListN.{length, getD}
 use Rattle.format.specs.declared.Met.{Met}
 use Rattle.format.specs.declared.Record.{Record}
-use Rattle.format.specs.Kinds.{nothing, metAt}
+use Rattle.format.specs.Kinds.{decode, nothing, metAt, metOf}
+use Rattle.format.proofs.Records.{met-same}
 use Rattle.sheet.specs.Sheets.{Sheet, sheetOf}
 use Rattle.sheet.specs.Whole.{Outcome, placeOf, reading, told}
 use Rattle.sheet.specs.Steps.{sheetIn, Ready}
 use Rattle.sheet.specs.Whole.Outcome.{Read, Not}
 use Rattle.sheet.specs.declared.Reading.the-variants as answer
-use Rattle.sheet.proofs.Walk.{length-streams}
+use Rattle.sheet.proofs.Walk.{length-streams, stream-at}
 use Rattle.sheet.proofs.Known.{Known, reading-read}
 
 -- the answer `Accepted head n first`: the first record and n streams behind it are the whole sheet
@@ -62,10 +63,17 @@ module _ {s : List ℕ} {kind first n : ℕ} (ready : Ready s kind first n) wher
     pub is : m .found ≡ getD (sheetIn s n .streams) i nothing
     pub next : m .next ≡ placeOf s (suc (i + 1))
 
-  pub stream-met : (i at : ℕ) (m : Met) → i < n → at ≡ placeOf s (suc i) → m ≡ metAt s at → StreamMet i m
-  stream-met i at m l e q =
+  -- the byte at its place is its kind, the one behind the bus's first record
+  stream-kind : (i : ℕ) → i < n → getD s (placeOf s (suc i)) 0 ≡ kind + 1
+  unfolding sheetIn sheetOf decode
+  stream-kind i l =
       let l' : i < length (sheetIn s n .streams) = omega (arith, ready-streams) in
-      let q' : m ≡ metAt s (placeOf s (suc i)) = q ∙ ap (metAt s) e in
+      ap (λ (r : Record). r .kind) (sym (stream-at s n i l)) ∙ (ready-known .kinds i l' ∙ ap (λ (k : ℕ). k + 1) (ready .bus))
+
+  pub stream-met-of : (i at : ℕ) (m : Met) → i < n → at ≡ placeOf s (suc i) → m ≡ metOf s at (kind + 1) → StreamMet i m
+  stream-met-of i at m l e q =
+      let l' : i < length (sheetIn s n .streams) = omega (arith, ready-streams) in
+      let q' : m ≡ metAt s (placeOf s (suc i)) = q ∙ (ap (λ (p : ℕ). metOf s p (kind + 1)) e ∙ met-same s (placeOf s (suc i)) (kind + 1) (stream-kind i l)) in
       record {
         is = ap (λ (x : Met). x .found) q' ∙ ready-known .met i l';
         next = ap (λ (x : Met). x .next) q' ∙ rw add-one (ready-known .next i l');

@@ -1,5 +1,5 @@
 -- Page 01, 'Sheet records': what a sheet says, and the limits on its records. Assumes nothing.
-use Prim.Native.Nat.{ℕ, _+_}
+use Prim.Native.Nat.{ℕ, _+_, max}
 use mathlib.Core.List.{List, [], _∷_}
 use mathlib.Core.Bool.{Bool, cond, _&&_, _||_}
 use lib.ListN.{length, getD, drop}
@@ -35,6 +35,11 @@ fits (h ∷ rs) k = eqb k (h .kind + 1)
 unfoldable pub countOf : ℕ → List Record → ℕ
 countOf x [] = 0
 countOf x (r ∷ rs) = when (eqb (r .a) x) 1 + countOf x rs
+
+-- the greatest second field of those of these records that have x in their first, and 0 if there are none: the longest C of a master's streams
+unfoldable pub longestOf : ℕ → List Record → ℕ
+longestOf x [] = 0
+longestOf x (r ∷ rs) = max (when (eqb (r .a) x) (r .b)) (longestOf x rs)
 
 -- streams in all, by their kind: 800, and 64 variables
 unfoldable pub mostInAll : ℕ → ℕ

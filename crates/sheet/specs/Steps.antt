@@ -1,7 +1,7 @@
 -- Page 01, 'Numbered refusals': what the parts of the reader answer at a record, a refusal's number or 0 for none, and what it keeps
--- of the streams behind it: how many each master has, or the identifiers in sheet order. Then what the parts of a planner go by.
+-- of the streams behind it: how many each master has and the longest C of them, or the identifiers in sheet order. Then what the parts of a planner go by.
 -- Words of inner contracts alone. Assumes nothing.
-use Prim.Native.Nat.{ℕ, zero, suc, _+_, _<_}
+use Prim.Native.Nat.{ℕ, zero, suc, _+_, _<_, max}
 use mathlib.Core.Path.{_≡_}
 use mathlib.Core.List.{List}
 use mathlib.Core.Bool.{Bool, false, cond, _||_}
@@ -33,6 +33,9 @@ lateNo counts ids n r =
 -- what is kept once it passed
 unfoldable pub countsWith : List ℕ → Record → List ℕ
 countsWith counts r = cond (eqb (r .kind) 6) counts (set counts (r .a) (getD counts (r .a) 0 + 1))
+
+unfoldable pub longestsWith : List ℕ → Record → List ℕ
+longestsWith longests r = cond (eqb (r .kind) 6) longests (set longests (r .a) (max (getD longests (r .a) 0) (r .b)))
 
 unfoldable pub idsWith : List ℕ → ℕ → Record → List ℕ
 idsWith ids n r = cond (eqb (r .kind) 6) (set ids n (r .a)) ids

@@ -10,7 +10,7 @@ use Rattle.common.specs.Checks.Verdict.{Passed, Refused}
 use Rattle.common.specs.Runs.{tab}
 use Rattle.format.specs.declared.Record.{Record}
 use Rattle.format.specs.Kinds.{known, sizeOf, decode, inRange}
-use Rattle.sheet.specs.Sheets.{Sheet, countOf, headOf, streamsOf, sheetOf, fits, overLimit, metBefore}
+use Rattle.sheet.specs.Sheets.{Sheet, countOf, longestOf, headOf, streamsOf, sheetOf, fits, overLimit, metBefore}
 use Rattle.sheet.specs.declared.Reading.{Reading}
 use Rattle.sheet.specs.declared.Reading.the-variants as answer
 
@@ -89,14 +89,25 @@ abbrev pub told : List ℕ → Outcome → Reading
 told s (Read S) = answer.Accepted (S .head) (length (S .streams)) (placeOf s 1)
 told s (Not n p) = answer.Refused n p
 
--- how many streams master k has
+-- how many streams master k has, and the longest C of them
 unfoldable pub streamsOfMaster : Sheet → ℕ → ℕ
 unfolding countOf
 streamsOfMaster S k = countOf k (S .streams)
 
--- lent memory of 33 places: place k has the number of master k's streams. It keeps what it had on a refusal, and for WorldFIP, whose
--- variables have no master
+unfoldable pub longestOfMaster : Sheet → ℕ → ℕ
+unfolding longestOf
+longestOfMaster S k = longestOf k (S .streams)
+
+-- lent memory of 33 places: place k has a figure of master k. It keeps what it had on a refusal, and for WorldFIP, whose variables have no
+-- master
+abbrev pub byMaster : (Sheet → ℕ → ℕ) → Outcome → List ℕ → List ℕ
+byMaster figure (Read S) old = cond (eqb (S .head .kind) 5) old (tab (figure S) 33)
+byMaster figure (Not n p) old = old
+
 unfoldable pub countsTold : Outcome → List ℕ → List ℕ
 unfolding streamsOfMaster tab
-countsTold (Read S) old = cond (eqb (S .head .kind) 5) old (tab (streamsOfMaster S) 33)
-countsTold (Not n p) old = old
+countsTold o old = byMaster streamsOfMaster o old
+
+unfoldable pub longestsTold : Outcome → List ℕ → List ℕ
+unfolding longestOfMaster tab
+longestsTold o old = byMaster longestOfMaster o old

@@ -1,13 +1,17 @@
 // Reading a whole sheet, page 01 'Sheet records' and 'Numbered refusals' 1..7.
+use format::Met;
 use format::Record;
 ghost use mathlib.Core.Path.{_≡_};
+ghost use mathlib.Core.Bool.{_&&_};
 ghost use mathlib.Core.List.{[]};
-ghost use Prim.Native.Nat.{_≤_};
-ghost use Rattle.format.specs.Kinds.{known};
+ghost use mathlib.Core.Logic.{_⊎_};
+ghost use Prim.Native.Nat.{_+_, _≤_, max};
+ghost use lib.Dec.{eqb};
+ghost use Rattle.format.specs.Kinds.{known, inRange, metOf};
 ghost use Rattle.sheet.specs.Sheets.{fits};
 ghost use Rattle.sheet.specs.Steps;
-ghost use Rattle.sheet.specs.Steps.{ownNo, lateNo, countsWith, idsWith, Begun};
-ghost use Rattle.sheet.specs.Whole.{told, countsTold, reading};
+ghost use Rattle.sheet.specs.Steps.{ownNo, lateNo, countsWith, longestsWith, idsWith, Begun};
+ghost use Rattle.sheet.specs.Whole.{told, countsTold, longestsTold, reading};
 
 // No sheet of P-NET or PROFIBUS has more streams.
 pub const MOST: usize = 800;
@@ -92,11 +96,18 @@ fn late_no(counts: &[u8; 33], ids: &[u32; 64], n: usize, r: Record) -> u8
     0
 }
 
-// Keeps a stream that passed: one more of its master, or its identifier.
-fn keep(counts: &mut [u8; 33], ids: &mut [u32; 64], n: usize, r: Record)
+fn larger(a: u32, b: u32) -> u32
+    ensures { λ r. ⌜ r ≡ max a b ⌝ }
+{
+    if a < b { b } else { a }
+}
+
+// Keeps a stream that passed: one more of its master, and the longest C of those, or its identifier.
+fn keep(counts: &mut [u8; 33], longests: &mut [u32; 33], ids: &mut [u32; 64], n: usize, r: Record)
     requires { ⌜ lateNo (now counts) (now ids) n r ≡ 0 ⌝ }
     requires { ⌜ ((r .kind ≡ 6 → ⊥) → r .a ≤ 32) ⌝ }
     ensures { λ _. ⌜ now (counts .exit) ≡ countsWith (now (counts .entry)) r ⌝ }
+    ensures { λ _. ⌜ now (longests .exit) ≡ longestsWith (now (longests .entry)) r ⌝ }
     ensures { λ _. ⌜ now (ids .exit) ≡ idsWith (now (ids .entry)) n r ⌝ }
 {
     if r.kind == 6 {
@@ -104,24 +115,58 @@ fn keep(counts: &mut [u8; 33], ids: &mut [u32; 64], n: usize, r: Record)
     } else {
         let master = r.a as usize;
         counts[master] += 1;
+        longests[master] = larger(longests[master], r.b);
+    }
+}
+
+// The record at a place that a stream behind the first record of a bus can be. The kind stands as a constant for each bus, so that the
+// compiler makes a reader of its own for each.
+fn stream_at(s: &[u8], at: usize, bus: u8) -> Met
+    requires { ⌜ bus ≡ 1 ⊎ (bus ≡ 3 ⊎ bus ≡ 5) ⌝ }
+    ensures { λ r. ⌜ r ≡ metOf (now (s .entry)) at (bus + 1) ⌝ }
+{
+    match bus {
+        1 => format::record_of(s, at, 2),
+        3 => format::record_of(s, at, 4),
+        _ => format::record_of(s, at, 6),
+    }
+}
+
+// The same of its ranges.
+fn stream_in_range(bus: u8, top: u32, long: u32, r: Record) -> bool
+    requires { ⌜ bus ≡ 1 ⊎ (bus ≡ 3 ⊎ bus ≡ 5) ⌝ }
+    ensures { λ ok. ⌜ ok ≡ (eqb (r .kind) (bus + 1) && inRange top long r) ⌝ }
+{
+    match bus {
+        1 => format::in_range_of(2, top, long, r),
+        3 => format::in_range_of(4, top, long, r),
+        _ => format::in_range_of(6, top, long, r),
     }
 }
 
 // Reads the streams behind a first record that passed, up to the sheet's end or the first refusal.
-fn read_streams(s: &[u8], head: Record, first: usize, handed: &mut [u8; 33]) -> Reading
+fn read_streams(
+    s: &[u8],
+    head: Record,
+    first: usize,
+    counted: &mut [u8; 33],
+    longest: &mut [u32; 33],
+) -> Reading
     requires { ⌜ Begun (now s) head first ⌝ }
     ensures { λ r. ⌜ r ≡ told (now (s .entry)) (reading (now (s .entry))) ⌝ }
-    ensures { λ _. ⌜ now (handed .exit) ≡ countsTold (reading (now (s .entry))) (now (handed .entry)) ⌝ }
+    ensures { λ _. ⌜ now (counted .exit) ≡ countsTold (reading (now (s .entry))) (now (counted .entry)) ⌝ }
+    ensures { λ _. ⌜ now (longest .exit) ≡ longestsTold (reading (now (s .entry))) (now (longest .entry)) ⌝ }
 {
     let mut counts: [u8; 33] = [0; 33];
+    let mut longests: [u32; 33] = [0; 33];
     let mut ids: [u32; 64] = [0; 64];
     let mut n: usize = 0;
     let mut at = first;
     while at < s.len() {
         let kind = s[at];
-        let met = format::record_at(s, at);
+        let met = stream_at(s, at, head.kind);
         let stream = met.found;
-        let ranged = format::in_range(head.a, head.c, stream);
+        let ranged = stream_in_range(head.kind, head.a, head.c, stream);
         let own = own_no(kind, kind == head.kind + 1, met.next != at, ranged);
         if own != 0 {
             return Reading::Refused { no: own, place: at };
@@ -133,7 +178,7 @@ fn read_streams(s: &[u8], head: Record, first: usize, handed: &mut [u8; 33]) -> 
                 place: at,
             };
         }
-        keep(&mut counts, &mut ids, n, stream);
+        keep(&mut counts, &mut longests, &mut ids, n, stream);
         n += 1;
         at = met.next;
     }
@@ -151,15 +196,17 @@ fn read_streams(s: &[u8], head: Record, first: usize, handed: &mut [u8; 33]) -> 
     if head.kind == 5 {
         return accepted;
     }
-    *handed = counts;
+    *counted = counts;
+    *longest = longests;
     accepted
 }
 
-// What a whole sheet is: accepted, or refused with a number and a place. Reading counts the streams of each master anyway, and hands
-// the counts over where the sheet is accepted: place k has those of master k.
-pub fn read_counting(s: &[u8], handed: &mut [u8; 33]) -> Reading
+// What a whole sheet is: accepted, or refused with a number and a place. One pass reads it and gathers what the planners ask of a master: it
+// hands over, where the sheet is accepted, at place k the number of master k's streams and the longest C of them.
+pub fn read_gathering(s: &[u8], counts: &mut [u8; 33], longests: &mut [u32; 33]) -> Reading
     ensures { λ r. ⌜ r ≡ told (now (s .entry)) (reading (now (s .entry))) ⌝ }
-    ensures { λ _. ⌜ now (handed .exit) ≡ countsTold (reading (now (s .entry))) (now (handed .entry)) ⌝ }
+    ensures { λ _. ⌜ now (counts .exit) ≡ countsTold (reading (now (s .entry))) (now (counts .entry)) ⌝ }
+    ensures { λ _. ⌜ now (longests .exit) ≡ longestsTold (reading (now (s .entry))) (now (longests .entry)) ⌝ }
 {
     if s.len() == 0 {
         return Reading::Refused { no: 1, place: 0 };
@@ -172,10 +219,19 @@ pub fn read_counting(s: &[u8], handed: &mut [u8; 33]) -> Reading
     if own != 0 {
         return Reading::Refused { no: own, place: 0 };
     }
-    read_streams(s, head, met.next, handed)
+    read_streams(s, head, met.next, counts, longests)
 }
 
-// The same for callers that need no counts.
+// The same for callers that need no cycles.
+pub fn read_counting(s: &[u8], handed: &mut [u8; 33]) -> Reading
+    ensures { λ r. ⌜ r ≡ told (now (s .entry)) (reading (now (s .entry))) ⌝ }
+    ensures { λ _. ⌜ now (handed .exit) ≡ countsTold (reading (now (s .entry))) (now (handed .entry)) ⌝ }
+{
+    let mut longests: [u32; 33] = [0; 33];
+    read_gathering(s, handed, &mut longests)
+}
+
+// The same for callers that need neither.
 pub fn read(s: &[u8]) -> Reading
     ensures { λ r. ⌜ r ≡ told (now (s .entry)) (reading (now (s .entry))) ⌝ }
 {

@@ -12,14 +12,14 @@ use Rattle.common.specs.Sums.{when}
 use Rattle.common.specs.Checks.{Check, Verdict, verdict}
 use Rattle.common.specs.Checks.Verdict.{Passed, Refused}
 use Rattle.format.specs.declared.Met.{Met}
-use Rattle.format.specs.Kinds.{nothing, metAt}
+use Rattle.format.specs.Kinds.{nothing, metOf}
 use Rattle.format.proofs.Ranges.{VariableRanges, exchange-ranges, variable-ranges}
 use Rattle.sheet.specs.Sheets.{Sheet}
 use Rattle.sheet.specs.Whole.{Outcome, placeOf, reading}
 use Rattle.sheet.specs.Steps.{sheetIn, Ready}
 use Rattle.sheet.specs.Whole.Outcome.{Read}
 use Rattle.sheet.proofs.Known.{Known}
-use Rattle.sheet.proofs.Taken.{ready-known, ready-streams, stream-met}
+use Rattle.sheet.proofs.Taken.{ready-known, ready-streams, stream-met-of}
 use Rattle.table.specs.Traffic.{Traffic, Declared, plain, periodOf, ahead, rankOf, variableOf, identifierAt, microcycle, slots, inRows, rows, periodAt, askedOf, missingOf}
 use Rattle.table.proofs.Plain.{plainOf, plain-declared, plain-variable}
 use Rattle.worldfip.specs.declared.answer.Plan.the-variants as plan
@@ -59,11 +59,11 @@ module _ {s : List ℕ} {first n : ℕ} (ready : Ready s 5 first n) where
     pub small : m .found .a < 65536
     pub next : m .next ≡ placeOf s (suc (i + 1))
 
-  pub stepped : (i at : ℕ) (m : Met) → i < n → at ≡ placeOf s (suc i) → m ≡ metAt s at → Stepped i m
+  pub stepped : (i at : ℕ) (m : Met) → i < n → at ≡ placeOf s (suc i) → m ≡ metOf s at 6 → Stepped i m
   unfolding trafficOf variableAt
   stepped i at m l e q =
       let l' : i < length (sheetIn s n .streams) = omega (arith, ready-number) in
-      let here = stream-met ready i at m l e q in
+      let here = stream-met-of ready i at m l e q in
       let p : i + 1 - 1 ≡ i = omega arith in
       let b : m .found .a ≤ 65535 = rw (here .is) (in-range s (sheetIn s n) (ready-known ready) (ready .bus) i l' .identifier .most) in
       record {

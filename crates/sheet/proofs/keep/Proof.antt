@@ -2,7 +2,7 @@
 use native.Mathlib.Omega.{arith}
 use borrow.Author.Needs.{needs}
 use borrow.Author.Tests.{eq-eqb, ne-eqb}
-use Rattle.sheet.specs.Steps.{countsWith, idsWith}
+use Rattle.sheet.specs.Steps.{countsWith, longestsWith, idsWith}
 use Rattle.sheet.proofs.Kept.{not-late-variable, not-late-stream}
 use Rattle.sheet.proofs.keep.Statement.{statement}
 use Rattle.sheet.proofs.keep.Tie as tie
@@ -31,17 +31,33 @@ add-counts c =
 element-write-counts : tie.Need-element-write-counts
 element-write-counts c = omega (arith, c .before .before .before .before .pre .1 (c .before .before .if1 .left))
 
+mul-larger : tie.Need-mul-larger
+mul-larger c = search needs
+
+element-copy-out-larger : tie.Need-element-copy-out-larger
+element-copy-out-larger c = omega (arith, c .before .before .before .before .pre .1 (c .before .before .if1 .left))
+
+larger-requires : tie.Need-larger-requires
+larger-requires c κs = search needs
+
+mul-longests : tie.Need-mul-longests
+mul-longests c = search needs
+
+element-write-longests : tie.Need-element-write-longests
+element-write-longests c =
+    omega (arith, c .before .before .before .before .before .before .pre .1 (c .before .before .before .before .if1 .left))
+
 returns : tie.Need-returns
-unfolding countsWith idsWith
+unfolding countsWith longestsWith idsWith
 returns c =
     let e = eq-eqb (c .before .before .args .r .kind) 6 (c .if1 .taken) in
-    (rw e, rw e)
+    (rw e, (rw e, rw e))
 
 returns-2 : tie.Need-returns-2
-unfolding countsWith idsWith
+unfolding countsWith longestsWith idsWith
 returns-2 c =
-    let e = ne-eqb (c .before .before .before .before .args .r .kind) 6 (c .before .before .if1 .left) in
-    (rw e, rw e)
+    let e = ne-eqb (c .before .before .before .before .before .before .args .r .kind) 6 (c .before .before .before .before .if1 .left) in
+    (rw e, (rw (e, c .larger .ensures), rw e))
 
 pub keep-spec : {M : Type 1} → statement M
 keep-spec =
@@ -53,5 +69,10 @@ keep-spec =
     element-copy-out-counts
     add-counts
     element-write-counts
+    mul-larger
+    element-copy-out-larger
+    larger-requires
+    mul-longests
+    element-write-longests
     returns
     returns-2)

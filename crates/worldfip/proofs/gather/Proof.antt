@@ -29,8 +29,8 @@ abbrev μ-loop : tie.MeasureT-loop
 μ-loop s first n names₀ periods₀ at₀ i₀ names periods at i = n - i
 
 -- the record that was met is the next variable
-step : (c : tie.After-struct-known Inv-loop μ-loop) → Stepped (c .before .before .before .before .before .before .pre) (c .before .before .before .before .loop .i) (c .before .before .record-at .result)
-step c = stepped (c .before .before .before .before .before .before .pre) (c .before .before .before .before .loop .i) (c .before .before .before .before .loop .at) (c .before .before .record-at .result) (omega arith) (c .before .before .before .before .loop .inv .3) (c .before .before .record-at .ensures)
+step : (c : tie.After-struct-known Inv-loop μ-loop) → Stepped (c .before .before .before .before .before .before .pre) (c .before .before .before .before .loop .i) (c .before .before .record-of .result)
+step c = stepped (c .before .before .before .before .before .before .pre) (c .before .before .before .before .loop .i) (c .before .before .before .before .loop .at) (c .before .before .record-of .result) (omega arith) (c .before .before .before .before .loop .inv .3) (c .before .before .record-of .ensures)
 
 -- and there is room for it
 few : (c : tie.After-struct-known Inv-loop μ-loop) → c .before .before .before .before .loop .i < 64
@@ -39,8 +39,8 @@ few c = omega (arith, ready-declared (c .before .before .before .before .before 
 loop-holds : tie.Need-loop-holds Inv-loop μ-loop
 loop-holds c = (search needs, refl, refl, c .before .pre .starts, front-none _ 64, front-none _ 64)
 
-record-at-requires : tie.Need-record-at-requires Inv-loop μ-loop
-record-at-requires c κs = search needs
+record-of-requires : tie.Need-record-of-requires Inv-loop μ-loop
+record-of-requires c κs = search needs
 
 cast-names : tie.Need-cast-names Inv-loop μ-loop
 cast-names c = omega (arith, step c .small)
@@ -96,7 +96,7 @@ gather-spec =
     Inv-loop
     μ-loop
     loop-holds
-    record-at-requires
+    record-of-requires
     cast-names
     mul-names
     array-write-names
