@@ -2,10 +2,10 @@
 use mathlib.Core.Path.{_≡_, refl, sym, ap, _∙_, subst}
 use mathlib.Core.Bool.{Bool, true, false, not, _||_}
 use mathlib.Core.List.{List}
-use Prim.Native.Nat.{ℕ, _+_, _≤_, _<_}
+use Prim.Native.Nat.{ℕ, _+_, _-_, _≤_, _<_, min}
 use native.Mathlib.Omega.{arith}
 use borrow.Author.Tests.{ltb-false, le-ltb, le-leb, lt-leb, eq-eqb, ne-eqb}
-use lib.ListN.{length}
+use lib.ListN.{length, replicate}
 use lib.Dec.{ltb, eqb}
 use Rattle.common.specs.Checks.{verdict, Verdict}
 use Rattle.common.proofs.Checks.{Applies, refused-if, passed-if}
@@ -13,20 +13,27 @@ use Rattle.common.proofs.Checks.Applies.{here, later}
 use Rattle.common.proofs.Checks.Clear.{none, and}
 use Rattle.sheet.specs.Sheets.{Sheet}
 use Rattle.sheet.specs.Whole.{Outcome, orElse, reading}
-use Rattle.sheet.specs.Steps.{sheetIn, Ready}
+use Rattle.sheet.specs.Steps.{sheetIn}
 use Rattle.sheet.proofs.Taken.{ready-streams}
 use Rattle.sheet.specs.Whole.Outcome.{Read, Not}
 use Rattle.common.specs.Runs.{filled}
-use Rattle.common.specs.Sums.{firstOf}
-use Rattle.common.proofs.Runs.{filled-same}
-use Rattle.segment.specs.Segment.{Segment, segmentOf, turn, bound}
+use Rattle.common.specs.Sums.{upto}
+use Rattle.common.proofs.Sums.{upto-same}
+use Rattle.common.proofs.Runs.{filled-same, getD-tab}
+use Rattle.common.proofs.Firsts.{first-is}
+use Rattle.segment.specs.Segment as Segment
+use Rattle.segment.specs.Segment.{Segment, segmentOf, count, longest, hold, turnBy, turn, bound}
 use Rattle.segment.specs.Refined.{refined, rounds}
+use Rattle.segment.specs.Limits.{Declared}
+use Rattle.segment.proofs.Holds.{longest-at-most, turn-at-most}
 use Rattle.pnet.specs.declared.answer.Plan.{Plan}
 use Rattle.pnet.specs.declared.answer.Plan.the-variants as answer
 use Rattle.pnet.specs.Planned.{firstLate, planChecks, plannedBy, planned, planOf, atPlace, runOf}
-use Rattle.pnet.specs.Arrays.{segmentIn, Gathered, turnIn, boundIn, lateIn, refinedIn, roundsIn, Kept}
+use Rattle.token.specs.Turn.{at, charge, chargeIn, turnOf}
+use Rattle.pnet.specs.Arrays.{segmentIn, Sheeted, SetOut, Grouped, turnIn, boundIn, refinedIn, roundsIn, Kept, Shortest}
 use Rattle.pnet.proofs.Bytes.{declares, number-is}
-use Rattle.pnet.proofs.Tied.{kept, turn-tied, bound-tied, late-tied, rounds-tied, refined-tied}
+use Rattle.pnet.proofs.Gathering.{grouped-none}
+use Rattle.pnet.proofs.Tied.{Laid, kept, turn-tied, shortest-tied, bound-tied, rounds-tied, refined-tied}
 
 module _ (s : List ℕ) (la lb lc : ℕ) where
   pub planned-unread : (n p : ℕ) → reading s ≡ Not n p → planned s la lb lc ≡ Not n p
@@ -108,42 +115,105 @@ module _ (s x y z : List ℕ) where
 
 -- ---- Where the code ends with a segment's arrays
 
-module _ {s : List ℕ} {first m : ℕ} (p : Ready s 1 first m) {masters deadlines counts holds spacings : List ℕ}
-    (g : Gathered (segmentIn s m) masters deadlines counts holds spacings) (n : ℕ) (en : n ≡ segmentIn s m .masters) where
-  pub kept-all : Kept n counts holds spacings
-  kept-all = subst (λ (k : ℕ). Kept k counts holds spacings) (sym en) (kept (declares p) g)
+module _ {s : List ℕ} {N m first : ℕ} {counts longests : List ℕ} (h : Sheeted s N m first counts longests) where
+  declared : Declared (segmentIn s m)
+  declared = declares (h .ready)
 
-  module _ (late v : ℕ) (ev : v ≡ turnIn holds n) (el : late ≡ firstOf (lateIn masters deadlines counts v) m 1) where
-    late-is-first : late ≡ firstLate (segmentIn s m)
-    late-is-first =
-        let t : v ≡ turn (segmentIn s m) = ev ∙ (ap (turnIn holds) en ∙ turn-tied (declares p) g) in
-        el
-        ∙ (ap (λ (x : ℕ). firstOf (lateIn masters deadlines counts x) m 1) t
-        ∙ (ap (λ (k : ℕ). firstOf (lateIn masters deadlines counts (turn (segmentIn s m))) k 1) (number-is p) ∙ late-tied (declares p) g))
+  pub masters-few : N ≤ 32
+  masters-few = omega (arith, h .masters-are, declared .masters-to)
 
-    module _ (x y z : List ℕ) (rx : n ≤ length x) (ry : n ≤ length y) (rz : n ≤ length z) where
-      pub returned-late : late ≤ m → Returned s x y z (answer.Refused 8 late) x y z
-      unfolding segmentOf
-      returned-late l =
-          let o =
-          planned-late s (length x) (length y) (length z) (sheetIn s m) (p .reads) (p .bus) (omega (arith, en)) (omega (arith, en)) (omega (arith, en)) late late-is-first
-          (omega (arith, ready-streams p)) in
-          returned-refused s x y z 8 late o
+  pub counts-at : (y : ℕ) → y ≤ 32 → at counts y ≡ count (segmentIn s m) y
+  counts-at y l = rw (h .counts-are) (getD-tab (count (segmentIn s m)) 33 y (omega arith))
 
-      filled-tied : (f h : ℕ → ℕ) (old run : List ℕ) → run ≡ filled (atPlace f) n old → ((k : ℕ) → 1 ≤ k → k ≤ segmentIn s m .masters → f k ≡ h k) → run ≡ filled (atPlace h) n old
-      filled-tied f h old run q e = q ∙ filled-same (atPlace f) (atPlace h) n old (λ i l. e (i + 1) (omega arith) (omega (arith, en)))
+  longests-at : (y : ℕ) → y ≤ 32 → at longests y ≡ longest (segmentIn s m) y
+  longests-at y l = rw (h .longests-are) (getD-tab (longest (segmentIn s m)) 33 y (omega arith))
 
-      pub returned-filled : m < late → (a b c : List ℕ) → a ≡ filled (atPlace (boundIn counts holds n)) n x
-          → b ≡ filled (atPlace (refinedIn counts holds spacings n)) n y → c ≡ filled (atPlace (roundsIn counts holds spacings n)) n z
-          → Returned s x y z (answer.Accepted n m) a b c
-      unfolding segmentOf
-      returned-filled l a b c ea eb ec =
-          let d = declares p in
-          let S = segmentIn s m in
-          let o =
-          planned-read s (length x) (length y) (length z) (sheetIn s m) (p .reads) (p .bus) (omega (arith, en)) (omega (arith, en)) (omega (arith, en))
-          (omega (arith, ready-streams p, late-is-first)) in
-          returned-read s x y z m o n en (number-is p) a b c
-          (filled-tied (boundIn counts holds n) (bound S) x a ea (λ k lo hi. rw en (bound-tied d g k (omega (arith, d .masters-to)))))
-          (filled-tied (refinedIn counts holds spacings n) (refined S) y b eb (λ k lo hi. rw en (refined-tied d g k lo hi)))
-          (filled-tied (roundsIn counts holds spacings n) (rounds S) z c ec (λ k lo hi. rw en (rounds-tied d g k lo hi)))
+  pub counts-small : (y : ℕ) → y ≤ 32 → at counts y ≤ 80
+  counts-small y l = omega (arith, counts-at y l, declared .counts y)
+
+  pub longests-small : (y : ℕ) → y ≤ 32 → at longests y ≤ 1548
+  longests-small y l = omega (arith, longests-at y l, longest-at-most (segmentIn s m) declared y)
+
+  charge-is : (y : ℕ) → y ≤ 32 → chargeIn counts longests y ≡ hold (segmentIn s m) y
+  unfolding chargeIn charge hold
+  charge-is y l = rw (counts-at y l, longests-at y l)
+
+  -- V is that of the segment
+  pub turn-is : turnOf counts longests N ≡ turn (segmentIn s m)
+  unfolding turnOf turn turnBy
+  turn-is =
+      let few : min N 32 ≡ segmentIn s m .masters = omega (arith, masters-few, h .masters-are) in
+      ap (upto (chargeIn counts longests)) few
+      ∙ upto-same (chargeIn counts longests) (hold (segmentIn s m)) (segmentIn s m .masters) (λ y lo hi. charge-is y (omega (arith, declared .masters-to)))
+
+  pub turn-small : turnOf counts longests N ≤ 51040
+  turn-small = omega (arith, turn-is, turn-at-most (segmentIn s m) declared)
+
+  module _ {holds ends : List ℕ} (o : SetOut counts longests N holds ends) where
+    holds-at : (y : ℕ) → 1 ≤ y → y ≤ segmentIn s m .masters → at holds y ≡ hold (segmentIn s m) y
+    holds-at y lo hi = o .holds-are y lo (omega (arith, h .masters-are)) ∙ charge-is y (omega (arith, declared .masters-to))
+
+    -- nothing is placed yet
+    pub grouped-first : (spacings : List ℕ) → m ≤ length spacings → Grouped (segmentIn s m) 0 ends (replicate 33 1000000000) spacings
+    grouped-first spacings room =
+        grouped-none (segmentIn s m) ends spacings (o .ends-long) (omega (arith, number-is (h .ready)))
+        (λ y lo hi.
+        o .ends-are y lo (omega (arith, h .masters-are))
+        ∙ upto-same (at counts) (count (segmentIn s m)) (y - 1) (λ z a b. counts-at z (omega (arith, declared .masters-to))))
+
+    module _ (v : ℕ) (ev : v ≡ turnOf counts longests N) {ends' shortest spacings : List ℕ} (placed : Grouped (segmentIn s m) m ends' shortest spacings) where
+      laid : Laid (segmentIn s m) counts holds ends' shortest spacings
+      laid =
+          record {
+            counts-are = counts-at;
+            holds-are = holds-at;
+            grouped = subst (λ (i : ℕ). Grouped (segmentIn s m) i ends' shortest spacings) (number-is (h .ready)) placed;
+          }
+
+      -- among N masters, for V
+      v-is : turnIn holds (segmentIn s m .masters) ≡ v
+      v-is = turn-tied declared laid ∙ sym (ev ∙ turn-is)
+
+      pub kept-all : Kept N v counts holds ends' spacings
+      kept-all =
+          subst (λ (k : ℕ). Kept k v counts holds ends' spacings) (sym (h .masters-are))
+          (subst (λ (x : ℕ). Kept (segmentIn s m .masters) x counts holds ends' spacings) v-is (kept declared laid))
+
+      module _ (late : ℕ) (first-late : late ≡ firstLate (segmentIn s m)) (l : m < late) where
+        passes : (x : ℕ) → 1 ≤ x → x ≤ segmentIn s m .number → bound (segmentIn s m) (segmentIn s m .stream x .master) ≤ segmentIn s m .stream x .deadline
+        unfolding firstLate Segment.late
+        passes x lo hi = ltb-false _ _ (first-is (Segment.late (segmentIn s m)) (segmentIn s m .number) 1 .fails x lo (omega (arith, first-late, number-is (h .ready))))
+
+        pub shortest-all : Shortest N v counts ends' shortest spacings
+        shortest-all =
+            subst (λ (k : ℕ). Shortest k v counts ends' shortest spacings) (sym (h .masters-are))
+            (subst (λ (x : ℕ). Shortest (segmentIn s m .masters) x counts ends' shortest spacings) v-is (shortest-tied declared laid passes))
+
+        module _ (x y z : List ℕ) (rx : N ≤ length x) (ry : N ≤ length y) (rz : N ≤ length z) where
+          filled-tied : (f g : ℕ → ℕ) (old run : List ℕ) → run ≡ filled (atPlace f) N old → ((k : ℕ) → 1 ≤ k → k ≤ segmentIn s m .masters → f k ≡ g k) → run ≡ filled (atPlace g) N old
+          filled-tied f g old run q e = q ∙ filled-same (atPlace f) (atPlace g) N old (λ i l'. e (i + 1) (omega arith) (omega (arith, h .masters-are)))
+
+          pub returned-filled : (a b c : List ℕ) → a ≡ filled (atPlace (boundIn counts holds N)) N x → b ≡ filled (atPlace (refinedIn counts holds ends' spacings N)) N y
+              → c ≡ filled (atPlace (roundsIn counts holds ends' spacings N)) N z → Returned s x y z (answer.Accepted N m) a b c
+          unfolding segmentOf
+          returned-filled a b c ea eb ec =
+              let S = segmentIn s m in
+              let d = declared in
+              let en = h .masters-are in
+              let o' =
+              planned-read s (length x) (length y) (length z) (sheetIn s m) (h .ready .reads) (h .ready .bus) (omega (arith, en)) (omega (arith, en)) (omega (arith, en))
+              (omega (arith, ready-streams (h .ready), first-late)) in
+              returned-read s x y z m o' N en (number-is (h .ready)) a b c
+              (filled-tied (boundIn counts holds N) (bound S) x a ea (λ k lo hi. rw en (bound-tied d laid k (omega (arith, d .masters-to)))))
+              (filled-tied (refinedIn counts holds ends' spacings N) (refined S) y b eb (λ k lo hi. rw en (refined-tied d laid k lo hi)))
+              (filled-tied (roundsIn counts holds ends' spacings N) (rounds S) z c ec (λ k lo hi. rw en (rounds-tied d laid k lo hi)))
+
+  pub returned-late : (late : ℕ) → late ≡ firstLate (segmentIn s m) → late ≤ m → (x y z : List ℕ) → N ≤ length x → N ≤ length y → N ≤ length z
+      → Returned s x y z (answer.Refused 8 late) x y z
+  unfolding segmentOf
+  returned-late late el l x y z rx ry rz =
+      let en = h .masters-are in
+      let o =
+      planned-late s (length x) (length y) (length z) (sheetIn s m) (h .ready .reads) (h .ready .bus) (omega (arith, en)) (omega (arith, en)) (omega (arith, en)) late el
+      (omega (arith, ready-streams (h .ready))) in
+      returned-refused s x y z 8 late o

@@ -1,4 +1,7 @@
+pub mod Looks
 pub mod Arrays
+pub mod Searching
+pub mod Masters
 pub mod Gathering
 pub mod Bytes
 pub mod Tied

@@ -1,121 +1,151 @@
 -- The figures that are read off the arrays are those of the segment that they hold. Assumes nothing.
-use mathlib.Core.Path.{_≡_, ap, _∙_, fun-ext}
+use mathlib.Core.Path.{_≡_, refl, ap, _∙_, fun-ext}
 use mathlib.Core.Bool.{Bool, true, false}
 use mathlib.Core.List.{List}
 use Prim.Native.Nat.{ℕ, _+_, _-_, _*_, _≤_, _<_}
 use native.Mathlib.Omega.{arith}
-use borrow.Author.Tests.{lt-ltb, le-ltb}
+use borrow.Author.Tests.{eqb-true, lt-ltb, le-ltb}
 use lib.Dec.{ltb}
-use Rattle.common.specs.Sums.{when, upto, up, firstOf}
+use Rattle.common.specs.Sums.{when, upto, up}
 use Rattle.common.proofs.Sums.{upto-same, upto-term, upto-most}
-use Rattle.common.proofs.Firsts.{first-same}
-use Rattle.segment.specs.Segment.{Segment, owns, count, hold, turnBy, boundBy, turn, bound, late}
+use Rattle.segment.specs.Segment.{Segment, owns, count, hold, turnBy, boundBy, turn, bound}
 use Rattle.segment.specs.Refined.{saving, rightBy, mostRounds, askedBy, right, rounds, refined}
 use Rattle.segment.specs.Limits.{Declared}
-use Rattle.segment.proofs.Holds.{hold-at-least, hold-at-most}
-use Rattle.pnet.specs.Planned.{firstLate}
-use Rattle.pnet.specs.Arrays.{at, Gathered, askedIn, turnIn, boundIn, lateIn, savedIn, rightIn, roundsIn, refinedIn, Spaced, Served, Kept}
+use Rattle.segment.proofs.Holds.{hold-at-least, hold-at-most, bound-at-most}
+use Rattle.token.specs.Turn.{at}
+use Rattle.pnet.specs.Arrays.{Grouped, askedIn, askedAt, turnIn, boundIn, savedIn, rightIn, roundsIn, refinedIn, Spaced, Served, Kept, Shortest}
+use Rattle.pnet.proofs.Gathering.{start, start-inside}
 
-module _ {S : Segment} (d : Declared S) {masters deadlines counts holds spacings : List ℕ} (g : Gathered S masters deadlines counts holds spacings) where
-  -- ---- In range
+-- the arrays hold a segment: what each master has, and all its streams placed
+pub record Laid (S : Segment) (counts holds ends shortest spacings : List ℕ) : Type 0 where
+  pub counts-are : (y : ℕ) → y ≤ 32 → at counts y ≡ count S y
+  pub holds-are : (y : ℕ) → 1 ≤ y → y ≤ S .masters → at holds y ≡ hold S y
+  pub grouped : Grouped S (S .number) ends shortest spacings
 
-  -- a test that no stream meets is met by none of the spacings in use
-  none-meets : (test : ℕ → Bool) → ((i : ℕ) → 1 ≤ i → i ≤ S .number → test (S .stream i .spacing) ≡ false)
-      → (y j : ℕ) → y ≤ 32 → j < at counts y → test (at spacings (80 * y + j)) ≡ true → ⊥
-  none-meets test e y j l h q =
+module _ {S : Segment} (d : Declared S) {counts holds ends shortest spacings : List ℕ} (g : Laid S counts holds ends shortest spacings) where
+  inside : (y : ℕ) → y ≤ S .masters → y ≤ 32
+  inside y hi = omega (arith, d .masters-to)
+
+  -- ---- Where a master's spacings stand
+
+  end-is : (y : ℕ) → 1 ≤ y → y ≤ S .masters → at ends y ≡ start S y + count S y
+  unfolding count
+  end-is y lo hi = g .grouped .ends-are y lo hi
+
+  start-is : (y : ℕ) → 1 ≤ y → y ≤ S .masters → at ends y - at counts y ≡ start S y
+  start-is y lo hi = omega (arith, end-is y lo hi, g .counts-are y (inside y hi))
+
+  sum-is : (f : ℕ → ℕ) (y : ℕ) → 1 ≤ y → y ≤ S .masters
+      → upto (λ j. f (at spacings (at ends y - at counts y + (j - 1)))) (at counts y) ≡ upto (λ x. when (owns S y x) (f (S .stream x .spacing))) (S .number)
+  unfolding count
+  sum-is f y lo hi = rw (start-is y lo hi, g .counts-are y (inside y hi)) (g .grouped .spacings-are f y lo hi)
+
+  -- a test that none of its streams meets is met by none of its spacings
+  none-meets : (test : ℕ → Bool) (y : ℕ) → 1 ≤ y → y ≤ S .masters → ((x : ℕ) → 1 ≤ x → x ≤ S .number → owns S y x ≡ true → test (S .stream x .spacing) ≡ false)
+      → (j : ℕ) → j < at counts y → test (at spacings (at ends y - at counts y + j)) ≡ true → ⊥
+  none-meets test y lo hi e j h q =
       let f : ℕ → ℕ = λ t. when (test t) 1 in
+      let from = at ends y - at counts y in
       let b : j + 1 - 1 ≡ j = omega arith in
-      let one : f (at spacings (80 * y + (j + 1 - 1))) ≡ 1 = ap (λ (x : ℕ). f (at spacings (80 * y + x))) b ∙ ap (λ (t : Bool). when t 1) q in
-      let some : f (at spacings (80 * y + (j + 1 - 1))) ≤ upto (λ j. f (at spacings (80 * y + (j - 1)))) (at counts y) = upto-term (λ j. f (at spacings (80 * y + (j - 1)))) (at counts y) (j + 1) (omega arith) (omega arith) in
-      let all : upto (λ i. when (owns S y i) (f (S .stream i .spacing))) (S .number) ≤ S .number * 0 = upto-most (λ i. when (owns S y i) (f (S .stream i .spacing))) 0 (S .number) (λ i lo hi. none (owns S y i) (ap (λ (t : Bool). when t 1) (e i lo hi))) in
-      omega (arith, g .spacings-are f y l)
+      let one : f (at spacings (from + (j + 1 - 1))) ≡ 1 = ap (λ (x : ℕ). f (at spacings (from + x))) b ∙ ap (λ (t : Bool). when t 1) q in
+      let some : f (at spacings (from + (j + 1 - 1))) ≤ upto (λ j. f (at spacings (from + (j - 1)))) (at counts y) =
+      upto-term (λ j. f (at spacings (from + (j - 1)))) (at counts y) (j + 1) (omega arith) (omega arith) in
+      let all : upto (λ x. when (owns S y x) (f (S .stream x .spacing))) (S .number) ≤ S .number * 0 =
+      upto-most (λ x. when (owns S y x) (f (S .stream x .spacing))) 0 (S .number) (λ x a b'. none (owns S y x) (λ o. ap (λ (t : Bool). when t 1) (e x a b' o))) in
+      omega (arith, sum-is f y lo hi)
     where
-      none : {x : ℕ} (b : Bool) → x ≡ 0 → when b x ≤ 0
-      none true q' = omega arith
+      none : {x : ℕ} (b : Bool) → (b ≡ true → x ≡ 0) → when b x ≤ 0
+      none true q' = omega (arith, q' refl)
       none false q' = omega arith
 
-  spaced : (y : ℕ) → y ≤ 32 → Spaced spacings y (at counts y)
-  spaced y l = record { from = λ j h. omega (arith, not-less j h); to = λ j h. omega (arith, not-more j h) }
+  spaced : (y : ℕ) → 1 ≤ y → y ≤ S .masters → Spaced spacings (at ends y - at counts y) (at counts y)
+  spaced y lo hi =
+      record {
+        inside = omega (arith, start-is y lo hi, g .counts-are y (inside y hi), start-inside S d y lo hi, g .grouped .room);
+        least = λ j h. omega (arith, not-less j h);
+        most = λ j h. omega (arith, not-more j h);
+      }
     where
-      not-less : (j : ℕ) → j < at counts y → at spacings (80 * y + j) < 1 → ⊥
-      not-less j h q = none-meets (λ t. ltb t 1) (λ i lo hi. le-ltb (S .stream i .spacing) 1 (d .ranges i lo hi .spacing-from)) y j l h (lt-ltb (at spacings (80 * y + j)) 1 q)
+      not-less : (j : ℕ) → j < at counts y → at spacings (at ends y - at counts y + j) < 1 → ⊥
+      not-less j h q = none-meets (λ t. ltb t 1) y lo hi (λ x a b o. le-ltb (S .stream x .spacing) 1 (d .ranges x a b .spacing-from)) j h (lt-ltb _ 1 q)
 
-      not-more : (j : ℕ) → j < at counts y → 1000000000 < at spacings (80 * y + j) → ⊥
-      not-more j h q =
-          none-meets (λ t. ltb 1000000000 t) (λ i lo hi. le-ltb 1000000000 (S .stream i .spacing) (d .ranges i lo hi .spacing-to)) y j l h (lt-ltb 1000000000 (at spacings (80 * y + j)) q)
+      not-more : (j : ℕ) → j < at counts y → 1000000000 < at spacings (at ends y - at counts y + j) → ⊥
+      not-more j h q = none-meets (λ t. ltb 1000000000 t) y lo hi (λ x a b o. le-ltb 1000000000 (S .stream x .spacing) (d .ranges x a b .spacing-to)) j h (lt-ltb 1000000000 _ q)
 
-  pub kept : Kept (S .masters) counts holds spacings
-  kept = record { few = d .masters-to; each = λ y lo hi. served y (omega (arith, d .masters-to)) }
+  pub kept : Kept (S .masters) (turnIn holds (S .masters)) counts holds ends spacings
+  kept = record { few = d .masters-to; turn-is = refl; each = served }
     where
-      served : (y : ℕ) → y ≤ 32 → Served counts holds spacings y
-      served y l =
+      served : (y : ℕ) → 1 ≤ y → y ≤ S .masters → Served counts holds ends spacings y
+      served y lo hi =
           record {
-            inside = l;
-            count-to = omega (arith, g .counts-are y l, d .counts y);
-            hold-from = omega (arith, g .holds-are y l, hold-at-least S y);
-            hold-to = omega (arith, g .holds-are y l, hold-at-most S d y);
-            spaced = spaced y l;
+            inside = inside y hi;
+            count-to = omega (arith, g .counts-are y (inside y hi), d .counts y);
+            hold-from = omega (arith, g .holds-are y lo hi, hold-at-least S y);
+            hold-to = omega (arith, g .holds-are y lo hi, hold-at-most S d y);
+            behind = omega (arith, end-is y lo hi, g .counts-are y (inside y hi));
+            spaced = spaced y lo hi;
           }
 
-  pub masters-inside : (i : ℕ) → i < S .number → at masters i ≤ 32
-  masters-inside i l = omega (arith, g .masters-are i l, d .ranges (i + 1) (omega arith) (omega arith) .master-to, d .masters-to)
-
-  pub counts-inside : (y : ℕ) → y ≤ 32 → at counts y ≤ 80
-  counts-inside y l = omega (arith, g .counts-are y l, d .counts y)
-
-  -- ---- V, R and what is late
+  -- ---- V and R
 
   pub turn-tied : turnIn holds (S .masters) ≡ turn S
   unfolding turnIn turn turnBy
-  turn-tied = upto-same (at holds) (hold S) (S .masters) (λ y lo hi. g .holds-are y (omega (arith, d .masters-to)))
+  turn-tied = upto-same (at holds) (hold S) (S .masters) (λ y lo hi. g .holds-are y lo hi)
 
   pub bound-tied : (k : ℕ) → k ≤ 32 → boundIn counts holds (S .masters) k ≡ bound S k
   unfolding boundIn bound boundBy turn
   bound-tied k l = rw (g .counts-are k l, turn-tied)
-
-  pub late-tied : firstOf (lateIn masters deadlines counts (turn S)) (S .number) 1 ≡ firstLate S
-  unfolding firstLate lateIn late bound boundBy turn
-  late-tied = first-same (lateIn masters deadlines counts (turn S)) (late S) (S .number) 1 (λ i lo hi. same i lo (omega arith))
-    where
-      same : (i : ℕ) → 1 ≤ i → i ≤ S .number → lateIn masters deadlines counts (turn S) i ≡ late S i
-      same i lo hi =
-          let e : i - 1 + 1 ≡ i = omega arith in
-          let inside : i - 1 < S .number = omega arith in
-          let m : at masters (i - 1) ≡ S .stream i .master = g .masters-are (i - 1) inside ∙ ap (λ (x : ℕ). S .stream x .master) e in
-          let t : at deadlines (i - 1) ≡ S .stream i .deadline = g .deadlines-are (i - 1) inside ∙ ap (λ (x : ℕ). S .stream x .deadline) e in
-          let c : at counts (at masters (i - 1)) ≡ count S (S .stream i .master) = ap (at counts) m ∙ g .counts-are (S .stream i .master) (omega (arith, masters-inside (i - 1) inside)) in
-          rw (t, c)
-
-  -- ---- W and its rounds
 
   -- R(y), as it stands in the window of a(y)
   window-tied : (y : ℕ) → y ≤ 32 → at counts y * turnIn holds (S .masters) ≡ boundBy (hold S) S y
   unfolding boundIn bound
   window-tied y l = bound-tied y l
 
-  asked-tied : (y w : ℕ) → y ≤ 32 → askedIn spacings y (w + at counts y * turnIn holds (S .masters)) (at counts y) ≡ askedBy (hold S) S y w
-  unfolding askedIn askedBy
-  asked-tied y w l =
-      ap (λ (R : ℕ). askedIn spacings y (w + R) (at counts y)) (window-tied y l) ∙ g .spacings-are (up (w + boundBy (hold S) S y)) y l
+  -- where every stream passes, no R is above a T
+  pub shortest-tied : ((x : ℕ) → 1 ≤ x → x ≤ S .number → bound S (S .stream x .master) ≤ S .stream x .deadline)
+      → Shortest (S .masters) (turnIn holds (S .masters)) counts ends shortest spacings
+  unfolding bound owns
+  shortest-tied passes = record { covers = covers; above-none = λ y j lo hi h. omega (arith, not-above y j lo hi h) }
+    where
+      own-passes : (y x : ℕ) → 1 ≤ x → x ≤ S .number → owns S y x ≡ true → boundBy (hold S) S y ≤ S .stream x .spacing
+      own-passes y x lo hi o =
+          omega (arith, passes x lo hi, d .ranges x lo hi .deadline-to, ap (boundBy (hold S) S) (eqb-true (S .stream x .master) y o))
+
+      covers : (y : ℕ) → 1 ≤ y → y ≤ S .masters → at counts y * turnIn holds (S .masters) ≤ at shortest y
+      covers y lo hi =
+          let small = bound-at-most S d y in
+          rw (window-tied y (inside y hi)) (g .grouped .greatest-such y (boundBy (hold S) S y) (inside y hi) (omega (arith, small)) (own-passes y))
+
+      not-above : (y j : ℕ) → 1 ≤ y → y ≤ S .masters → j < at counts y → at spacings (at ends y - at counts y + j) < at shortest y → ⊥
+      not-above y j lo hi h q =
+          none-meets (λ t. ltb t (at shortest y)) y lo hi (λ x a b o. le-ltb (S .stream x .spacing) (at shortest y) (g .grouped .above-none y x (inside y hi) a b o)) j h
+          (lt-ltb _ (at shortest y) q)
+
+  -- ---- W and its rounds
+
+  asked-tied : (y w : ℕ) → 1 ≤ y → y ≤ S .masters → askedAt counts ends spacings (turnIn holds (S .masters)) y w ≡ askedBy (hold S) S y w
+  unfolding askedAt askedIn askedBy
+  asked-tied y w lo hi =
+      ap (λ (R : ℕ). askedIn spacings (at ends y - at counts y) (w + R) (at counts y)) (window-tied y (inside y hi)) ∙ sum-is (up (w + boundBy (hold S) S y)) y lo hi
 
   module _ (k : ℕ) (lo : 1 ≤ k) (hi : k ≤ S .masters) where
-    saved-tied : (y w : ℕ) → y ≤ 32 → k ≤ 32 → savedIn counts holds spacings (turnIn holds (S .masters)) k w y ≡ saving (hold S) (count S k) k (askedBy (hold S) S y w) y
+    saved-tied : (y w : ℕ) → 1 ≤ y → y ≤ S .masters
+        → savedIn counts holds ends spacings (turnIn holds (S .masters)) k w y ≡ saving (hold S) (count S k) k (askedBy (hold S) S y w) y
     unfolding savedIn saving
-    saved-tied y w l inside = rw (g .holds-are y l, g .counts-are k inside, asked-tied y w l)
+    saved-tied y w lo' hi' = rw (g .holds-are y lo' hi', g .counts-are k (inside k hi), asked-tied y w lo' hi')
 
-    right-tied : (w : ℕ) → rightIn counts holds spacings (S .masters) k w ≡ right S k w
+    right-tied : (w : ℕ) → rightIn counts holds ends spacings (S .masters) k w ≡ right S k w
     unfolding rightIn right rightBy boundIn turn
     right-tied w =
-        let inside : k ≤ 32 = omega (arith, d .masters-to) in
         let v = turnIn holds (S .masters) in
-        let each : upto (savedIn counts holds spacings v k w) (S .masters) ≡ upto (λ y. saving (hold S) (count S k) k (askedBy (hold S) S y w) y) (S .masters) =
-        upto-same (savedIn counts holds spacings v k w) (λ y. saving (hold S) (count S k) k (askedBy (hold S) S y w) y) (S .masters) (λ y lo' hi'. saved-tied y w (omega (arith, d .masters-to)) inside) in
-        rw (each, g .counts-are k inside, turn-tied)
+        let each : upto (savedIn counts holds ends spacings v k w) (S .masters) ≡ upto (λ y. saving (hold S) (count S k) k (askedBy (hold S) S y w) y) (S .masters) =
+        upto-same (savedIn counts holds ends spacings v k w) (λ y. saving (hold S) (count S k) k (askedBy (hold S) S y w) y) (S .masters) (λ y lo' hi'. saved-tied y w lo' hi') in
+        rw (each, g .counts-are k (inside k hi), turn-tied)
 
-    pub rounds-tied : roundsIn counts holds spacings (S .masters) k ≡ rounds S k
+    pub rounds-tied : roundsIn counts holds ends spacings (S .masters) k ≡ rounds S k
     unfolding roundsIn rounds mostRounds
-    rounds-tied = rw (fun-ext right-tied, g .counts-are k (omega (arith, d .masters-to)))
+    rounds-tied = rw (fun-ext right-tied, g .counts-are k (inside k hi))
 
-    pub refined-tied : refinedIn counts holds spacings (S .masters) k ≡ refined S k
+    pub refined-tied : refinedIn counts holds ends spacings (S .masters) k ≡ refined S k
     unfolding refinedIn refined
     refined-tied = rw (rounds-tied, fun-ext right-tied)

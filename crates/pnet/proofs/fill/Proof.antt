@@ -11,34 +11,35 @@ use Rattle.pnet.proofs.fill.Statement.{statement}
 use Rattle.pnet.proofs.fill.Tie as tie
 
 abbrev Inv-loop : tie.InvT-loop
-Inv-loop counts holds spacings n turn bound₀ refined₀ rounds₀ i₀ bound refined rounds i = (i ≤ n) × Filling (atPlace (boundIn counts holds n)) i bound₀ bound × Filling (atPlace (refinedIn counts holds spacings n)) i refined₀ refined × Filling (atPlace (roundsIn counts holds spacings n)) i rounds₀ rounds
+Inv-loop counts holds ends shortest spacings n turn bound₀ refined₀ rounds₀ i₀ bound refined rounds i =
+    (i ≤ n)
+    × Filling (atPlace (boundIn counts holds n)) i bound₀ bound
+    × Filling (atPlace (refinedIn counts holds ends spacings n)) i refined₀ refined
+    × Filling (atPlace (roundsIn counts holds ends spacings n)) i rounds₀ rounds
 
 abbrev μ-loop : tie.MeasureT-loop
-μ-loop counts holds spacings n turn bound₀ refined₀ rounds₀ i₀ bound refined rounds i = n - i
+μ-loop counts holds ends shortest spacings n turn bound₀ refined₀ rounds₀ i₀ bound refined rounds i =
+    n - i
 
 loop-holds : tie.Need-loop-holds Inv-loop μ-loop
 loop-holds c = (search needs, filling-none _ _, filling-none _ _, filling-none _ _)
 
 add-k : tie.Need-add-k Inv-loop μ-loop
-add-k c = omega (arith, c .before .before .before .before .before .pre .0 .1 .few)
-
-mul-r : tie.Need-mul-r Inv-loop μ-loop
-mul-r c = omega (arith, c .before .before .before .before .before .pre .0 .1 .few)
+add-k c = omega (arith, c .before .before .before .before .before .before .pre .0 .0 .few)
 
 element-copy-out-r : tie.Need-element-copy-out-r Inv-loop μ-loop
-element-copy-out-r c = omega (arith, c .before .before .before .before .before .pre .0 .1 .few)
+element-copy-out-r c = omega (arith, c .before .before .before .before .before .before .pre .0 .0 .few)
 
-mul-r-2 : tie.Need-mul-r-2 Inv-loop μ-loop
-mul-r-2 c =
-    let a = c .before .before .before .before .before .before .args in
-    let p = c .before .before .before .before .before .before .pre .0 in
-    let k = c .before .before .loop .i + 1 in
-    omega (arith, bound-is (a .counts .now) (a .holds .now) (a .n) k (a .turn) (p .0), bound-small (a .counts .now) (a .holds .now) (a .spacings .now) (a .n) k (p .1) (omega arith) (omega arith))
+cast-r : tie.Need-cast-r Inv-loop μ-loop
+cast-r c = omega (arith, c .before .before .before .before .before .before .before .pre .0 .0 .each (c .before .before .loop .i + 1) (omega arith) (omega arith) .count-to)
+
+mul-r : tie.Need-mul-r Inv-loop μ-loop
+mul-r c = omega (arith, bound-small (c .before .before .before .before .before .before .before .pre .0 .0) (c .before .before .loop .i + 1) (omega arith) (omega arith))
 
 search-requires : tie.Need-search-requires Inv-loop μ-loop
 search-requires c κs =
-    let p = c .before .before .before .before .before .before .pre .0 in
-    (p .0, search needs, search needs, p .1)
+    let p = c .before .before .before .before .before .before .before .pre .0 in
+    (search needs, search needs, p .0, p .1)
 
 mul-bound : tie.Need-mul-bound Inv-loop μ-loop
 mul-bound c = search needs
@@ -66,11 +67,11 @@ loop-less c = search needs
 
 loop-again : tie.Need-loop-again Inv-loop μ-loop
 loop-again c =
-    let a = c .before .before .before .before .before .before .before .args in
-    let p = c .before .before .before .before .before .before .before .pre in
+    let a = c .before .before .before .before .before .before .before .before .args in
+    let p = c .before .before .before .before .before .before .before .before .pre .0 .0 in
     let l = c .before .before .before .loop in (
       search needs,
-      filling-more _ (l .inv .1) (omega arith) (bound-is (a .counts .now) (a .holds .now) (a .n) (l .i + 1) (a .turn) (p .0 .0)),
+      filling-more _ (l .inv .1) (omega arith) (bound-is (a .counts .now) (a .holds .now) (a .n) (l .i + 1) (a .turn) (p .turn-is)),
       filling-more _ (l .inv .2) (omega arith) (c .search .ensures .0),
       filling-more _ (l .inv .3) (omega arith) (c .search .ensures .1),
     )
@@ -86,7 +87,7 @@ same-length-3 c = c .before .loop .inv .3 .long
 
 returns : tie.Need-returns Inv-loop μ-loop
 returns c =
-    let n = c .before .before .before .before .before .args .n in
+    let n = c .before .before .before .before .before .before .args .n in
     let l = c .before .loop in
     let e : l .i ≡ n = omega arith in
     (filling-done n (l .inv .1) e, (filling-done n (l .inv .2) e, filling-done n (l .inv .3) e))
@@ -99,9 +100,9 @@ fill-spec =
     μ-loop
     loop-holds
     add-k
-    mul-r
     element-copy-out-r
-    mul-r-2
+    cast-r
+    mul-r
     search-requires
     mul-bound
     slice-write-bound
