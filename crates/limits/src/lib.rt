@@ -3,72 +3,90 @@ use pnet::Plan;
 use sheet::MOST;
 use sheet::Reading;
 ghost use mathlib.Core.Path.{_≡_};
-ghost use Prim.Native.Nat.{ℕ, _-_, _≤_};
-ghost use lib.ListN.{length, getD};
+ghost use Prim.Native.Nat.{ℕ, _≤_};
+ghost use lib.ListN.{length};
 ghost use Rattle.common.specs.Runs.{filled};
 ghost use Rattle.sheet.specs.Steps.{Ready};
 ghost use Rattle.segment.specs.Segment;
-ghost use Rattle.pnet.specs.Arrays.{segmentIn};
-ghost use Rattle.pnet.specs.Planned.{planOf, atPlace};
+ghost use Rattle.token.specs.Turn.{at};
+ghost use Rattle.pnet.specs.Arrays.{segmentIn, Sheeted};
+ghost use Rattle.pnet.specs.Planned.{firstLate, planOf, atPlace};
 ghost use Rattle.limits.specs.Bounded.{bounded, boundOf, masterOf, streamRun};
 
-// Each stream's master and bound, from the bounds of the masters.
+// The first of n streams whose master's R is above its D, and n + 1 where there is none; turn is V.
+fn first_late(s: &[u8], first: usize, n: usize, counts: &[u8; 33], turn: u32) -> usize
+    requires { ⌜ Ready (now s) 1 first n ⌝ }
+    requires { ⌜ (turn ≡ Segment.turn (segmentIn (now s) n)) × ((y : ℕ) → y ≤ 32 → at (now counts) y ≡ Segment.count (segmentIn (now s) n) y) ⌝ }
+    ensures { λ r. ⌜ r ≡ firstLate (segmentIn (now (s .entry)) n) ⌝ }
+{
+    let mut at = first;
+    let mut i: usize = 0;
+    while i < n {
+        let met = format::record_of(s, at, 2);
+        let r = met.found;
+        let bound = counts[r.a as usize] as u32 * turn;
+        if r.d < bound {
+            return i + 1;
+        }
+        at = met.next;
+        i += 1;
+    }
+    n + 1
+}
+
+// Each stream's master and bound; turn is V.
 fn by_stream(
     s: &[u8],
     first: usize,
     n: usize,
-    each: &[u32; 32],
+    counts: &[u8; 33],
+    turn: u32,
     masters: &mut [u8],
     bound: &mut [u32],
 )
-    requires { ⌜ Ready (now s) 1 first n ⌝ }
-    requires { ⌜ (n ≤ length (now masters)) × (n ≤ length (now bound)) ⌝ }
-    requires { ⌜ ((k : ℕ) → 1 ≤ k → k ≤ segmentIn (now s) n .masters → getD (now each) (k - 1) 0 ≡ Segment.bound (segmentIn (now s) n) k) ⌝ }
+    requires { ⌜ Ready (now s) 1 first n × (n ≤ length (now masters)) × (n ≤ length (now bound)) ⌝ }
+    requires { ⌜ (turn ≡ Segment.turn (segmentIn (now s) n)) × ((y : ℕ) → y ≤ 32 → at (now counts) y ≡ Segment.count (segmentIn (now s) n) y) ⌝ }
     ensures { λ _. ⌜ now (masters .exit) ≡ filled (atPlace (masterOf (segmentIn (now (s .entry)) n))) n (now (masters .entry)) ⌝ }
     ensures { λ _. ⌜ now (bound .exit) ≡ filled (atPlace (boundOf (segmentIn (now (s .entry)) n))) n (now (bound .entry)) ⌝ }
 {
     let mut at = first;
     let mut i: usize = 0;
     while i < n {
-        let met = format::record_at(s, at);
+        let met = format::record_of(s, at, 2);
         let r = met.found;
         masters[i] = r.a as u8;
-        bound[i] = each[r.a as usize - 1];
+        bound[i] = counts[r.a as usize] as u32 * turn;
         at = met.next;
         i += 1;
     }
 }
 
-// The masters and bounds of the n streams of a P-NET sheet, unless 8 is given. The bounds are the planner's own.
+// The masters and bounds of the n streams of a P-NET sheet of N masters, unless 8 is given.
 fn bounds_of(
     s: &[u8],
+    all: usize,
     first: usize,
     n: usize,
     room: usize,
+    counts: &[u8; 33],
+    longests: &[u32; 33],
     masters: &mut [u8; MOST],
     bound: &mut [u32; MOST],
 ) -> Plan
-    requires { ⌜ Ready (now s) 1 first n × (n ≤ room) ⌝ }
+    requires { ⌜ Sheeted (now s) all n first (now counts) (now longests) × (n ≤ room) ⌝ }
     ensures { λ r. ⌜ r ≡ planOf (bounded (now (s .entry)) room) ⌝ }
     ensures { λ _. ⌜ now (masters .exit) ≡ streamRun (bounded (now (s .entry)) room) masterOf (now (masters .entry)) ⌝ }
     ensures { λ _. ⌜ now (bound .exit) ≡ streamRun (bounded (now (s .entry)) room) boundOf (now (bound .entry)) ⌝ }
 {
-    let mut each = [0u32; 32];
-    let mut refined = [0u32; 32];
-    let mut rounds = [0u32; 32];
-    let plan = pnet::plan(s, &mut each, &mut refined, &mut rounds);
-    match plan {
-        Plan::Refused { no, place } => Plan::Refused { no, place },
-        Plan::Accepted {
-            masters: count,
-            streams,
-        } => {
-            by_stream(s, first, n, &each, masters, bound);
-            Plan::Accepted {
-                masters: count,
-                streams,
-            }
-        }
+    let turn = token::turn_of(counts, longests, all) as u32;
+    let late = first_late(s, first, n, counts, turn);
+    if late <= n {
+        return Plan::Refused { no: 8, place: late };
+    }
+    by_stream(s, first, n, counts, turn, masters, bound);
+    Plan::Accepted {
+        masters: all,
+        streams: n,
     }
 }
 
@@ -79,7 +97,9 @@ pub fn bounds(s: &[u8], room: usize, masters: &mut [u8; MOST], bound: &mut [u32;
     ensures { λ _. ⌜ now (masters .exit) ≡ streamRun (bounded (now (s .entry)) room) masterOf (now (masters .entry)) ⌝ }
     ensures { λ _. ⌜ now (bound .exit) ≡ streamRun (bounded (now (s .entry)) room) boundOf (now (bound .entry)) ⌝ }
 {
-    let read = sheet::read(s);
+    let mut counts: [u8; 33] = [0; 33];
+    let mut longests: [u32; 33] = [0; 33];
+    let read = sheet::read_gathering(s, &mut counts, &mut longests);
     match read {
         Reading::Refused { no, place } => Plan::Refused { no, place },
         Reading::Accepted {
@@ -96,7 +116,17 @@ pub fn bounds(s: &[u8], room: usize, masters: &mut [u8; MOST], bound: &mut [u32;
                     place: streams,
                 };
             }
-            bounds_of(s, first, streams, room, masters, bound)
+            bounds_of(
+                s,
+                head.a as usize,
+                first,
+                streams,
+                room,
+                &counts,
+                &longests,
+                masters,
+                bound,
+            )
         }
     }
 }

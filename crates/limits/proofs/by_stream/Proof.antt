@@ -15,37 +15,37 @@ use Rattle.limits.proofs.by_stream.Statement.{statement}
 use Rattle.limits.proofs.by_stream.Tie as tie
 
 abbrev Inv-loop : tie.InvT-loop
-Inv-loop s first n each masters₀ bound₀ at₀ i₀ masters bound at i =
+Inv-loop s first n counts turn masters₀ bound₀ at₀ i₀ masters bound at i =
     (i ≤ n)
     × (at ≡ placeOf s (suc i))
     × Filling (atPlace (masterOf (segmentIn s n))) i masters₀ masters
     × Filling (atPlace (boundOf (segmentIn s n))) i bound₀ bound
 
 abbrev μ-loop : tie.MeasureT-loop
-μ-loop s first n each masters₀ bound₀ at₀ i₀ masters bound at i = n - i
+μ-loop s first n counts turn masters₀ bound₀ at₀ i₀ masters bound at i = n - i
 
 loop-holds : tie.Need-loop-holds Inv-loop μ-loop
-loop-holds c = (search needs, c .before .before .before .pre .0 .starts, filling-none _ _, filling-none _ _)
+loop-holds c = (search needs, c .before .before .before .pre .0 .0 .starts, filling-none _ _, filling-none _ _)
 
-record-at-requires : tie.Need-record-at-requires Inv-loop μ-loop
-record-at-requires c κs = search needs
+record-of-requires : tie.Need-record-of-requires Inv-loop μ-loop
+record-of-requires c κs = search needs
 
 -- the record read is stream i + 1
-its : (c : tie.After-record-at Inv-loop μ-loop)
+its : (c : tie.After-record-of Inv-loop μ-loop)
     → Here (c .before .before .before .before .before .before .args .s .now) (c .before .before .before .before .before .before .args .n)
-    (c .before .before .loop .i) (c .record-at .result)
+    (c .before .before .loop .i) (c .record-of .result)
 its c =
     let l = c .before .before .loop in
-    here (c .before .before .before .before .before .before .pre .0) (l .i) (l .at) (c .record-at .result) (omega arith) (l .inv .1)
-    (c .record-at .ensures)
+    here (c .before .before .before .before .before .before .pre .0 .0) (l .i) (l .at) (c .record-of .result) (omega arith) (l .inv .1)
+    (c .record-of .ensures)
 
--- and its master and bound are in the arrays
-stream : (c : tie.After-record-at Inv-loop μ-loop)
-    → Placed (c .before .before .before .before .before .before .args .s .now) (c .before .before .before .before .before .before .args .n)
-    (c .before .before .loop .i) (c .before .before .before .before .before .before .args .each .now) (c .record-at .result .found .a)
+-- and its master and bound are those that the code has
+stream : (c : tie.After-record-of Inv-loop μ-loop)
+    → Placed (c .before .before .before .before .before .before .args .s .now) (c .before .before .before .before .before .before .args .n) (c .before .before .loop .i) (c .before .before .before .before .before .before .args .counts .now) (c .before .before .before .before .before .before .args .turn)
+    (c .record-of .result .found .a)
 stream c =
     let start = c .before .before .before .before .before .before in
-    placed (start .pre .0) (start .args .each .now) (start .pre .1 .1) (c .before .before .loop .i) (c .record-at .result) (omega arith) (its c)
+    placed (start .pre .0 .0) (start .args .counts .now) (start .args .turn) (start .pre .1 .0) (start .pre .1 .1) (c .before .before .loop .i) (c .record-of .result) (omega arith) (its c)
 
 cast-masters : tie.Need-cast-masters Inv-loop μ-loop
 cast-masters c = omega (arith, stream (c .before .before))
@@ -56,14 +56,14 @@ slice-write-masters c = search needs
 cast-bound : tie.Need-cast-bound Inv-loop μ-loop
 cast-bound c = omega (arith, stream (c .before .before .before))
 
-sub-bound : tie.Need-sub-bound Inv-loop μ-loop
-sub-bound c = omega (arith, stream (c .before .before .before))
-
-mul-bound : tie.Need-mul-bound Inv-loop μ-loop
-mul-bound c = omega (arith, stream (c .before .before .before))
-
 element-copy-out-bound : tie.Need-element-copy-out-bound Inv-loop μ-loop
 element-copy-out-bound c = omega (arith, stream (c .before .before .before))
+
+cast-bound-2 : tie.Need-cast-bound-2 Inv-loop μ-loop
+cast-bound-2 c = omega (arith, stream (c .before .before .before .before))
+
+mul-bound : tie.Need-mul-bound Inv-loop μ-loop
+mul-bound c = omega (arith, stream (c .before .before .before .before))
 
 mul-bound-2 : tie.Need-mul-bound-2 Inv-loop μ-loop
 mul-bound-2 c = omega (arith, stream (c .before .before .before .before))
@@ -104,13 +104,13 @@ by-stream-spec =
     Inv-loop
     μ-loop
     loop-holds
-    record-at-requires
+    record-of-requires
     cast-masters
     slice-write-masters
     cast-bound
-    sub-bound
-    mul-bound
     element-copy-out-bound
+    cast-bound-2
+    mul-bound
     mul-bound-2
     slice-write-bound
     add-i
