@@ -129,6 +129,33 @@ def pnet_chain(rng):
     return pnet_sheet(n, streams)
 
 
+def pnet_links(rng):
+    """The same with several streams to a master, and several masters that search.
+
+    The spacings lie at, just below and just above the values that the search of
+    the busiest masters goes through, so that a count kept one W too long, or not
+    long enough, would show.
+    """
+    n = rng.choice([3, 4, 8, 16])
+    own = rng.choice([4, 12, 30])
+    counts = {y: own if y <= 2 else rng.randint(0, own) for y in range(1, n + 1)}
+    cycle = {y: rng.choice([1, 53, rng.randint(1, 300)]) for y in counts}
+    streams = [[y, cycle[y]] for y, count in counts.items() for _ in range(count)]
+    bounds = pnet_bounds(n, streams)
+    saved = {y: 37 + cycle[y] for y in counts if counts[y]}
+    w = bounds[1] - sum((own - counts[y]) * saved[y] for y in saved)
+    rng.shuffle(streams)
+    # a spacing just passed leads on to the next; one that is not passed ends the chain, so few are
+    beside = [-1] * rng.choice([5, 20, 100]) + [-3, -2, 0, 1]
+    for s in streams:
+        y = s[0]
+        t = bounds[y] + max(0, w + rng.choice(beside))
+        s += [t, rng.choice([t, bounds[y]])]
+        if counts[y] < own:
+            w += saved[y]
+    return pnet_sheet(n, streams)
+
+
 def pnet_late(rng):
     """Deadlines at the bound, and one below for at least one stream."""
     n = rng.choice([1, 2, 4, 10, 32])
@@ -687,7 +714,7 @@ def edges(rng):
 
 
 FAMILIES = [
-    pnet_roomy, pnet_tight, pnet_busy_master, pnet_chain, pnet_late, pnet_many, pnet_over,
+    pnet_roomy, pnet_tight, pnet_busy_master, pnet_chain, pnet_links, pnet_late, pnet_many, pnet_over,
     profibus_random, profibus_exact, profibus_ties, profibus_below, profibus_short, profibus_over,
     worldfip_harmonic, worldfip_mixed, worldfip_one_slot, worldfip_many_slots,
     worldfip_full_row, worldfip_last_row, worldfip_many_rows, worldfip_huge,
