@@ -282,6 +282,7 @@ int main(void)
     pnet_chain(32, 1, 30, 100, 70), pnet_line();
     pnet_chain(32, 8, 80, 800, 160), pnet_line();
     pnet_chain(32, 3, 80, 800, 560), pnet_line();
+    pnet_chain(15, 5, 80, 800, 400), pnet_line();
     for (uint32_t streams = 100; streams <= 800; streams *= 2)
         pnet_chain(32, 1, streams < 200 ? 40 : 80, streams, 60), pnet_line();
     profibus_sheet(3, 3);
