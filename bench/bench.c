@@ -62,7 +62,7 @@ static void pnet_sheet(uint32_t masters, uint32_t streams, uint32_t spacing)
 
 /* Many rounds: the first `busy` masters have `own` streams each, and the others share the rest. The spacings of the first `links`
    of these are set one behind the other: each value of a busy master's search takes one more request in, and what that adds takes
-   the next value past the next spacing. So a busy master has links + 1 rounds. A master with the fewest streams has one round on
+   the next value past the next spacing. So a busy master has links + 1 rounds. A master with the fewest streams has at most one on
    any sheet, as nothing is saved at the others. */
 static void pnet_chain(uint32_t masters, uint32_t busy, uint32_t own, uint32_t streams, uint32_t links)
 {
