@@ -28,49 +28,45 @@ returns c =
 same : (c : tie.Else1) → c .before .before .args .r .kind ≡ c .before .before .args .kind
 same c = omega (arith, c .if1 .left)
 
+-- so it is judged by that kind's fields
+judged : (c : tie.Else1) → (eqb (c .before .before .args .r .kind) (c .before .before .args .kind) && inRange (c .before .before .args .top) (c .before .before .args .long) (c .before .before .args .r))
+    ≡ ranged (c .before .before .args .top) (c .before .before .args .long) (c .before .before .args .r) (fieldsOf (c .before .before .args .kind)) (numbers (c .before .before .args .r))
+judged c =
+    let a = c .before .before .args in
+    by-fields (a .kind) (a .top) (a .long) (a .r) (same c)
+
 returns-2 : tie.Need-returns-2
 unfolding ranged within limit fieldsOf kinds
-returns-2 c =
-    let a = c .before .before .before .args in
-    rw (by-fields (a .kind) (a .top) (a .long) (a .r) (same (c .before)), c .match .keys1) (simp (and-assoc, and-true))
+returns-2 c = rw (judged (c .before), c .match .keys1) (simp (and-assoc, and-true))
 
 returns-3 : tie.Need-returns-3
 unfolding ranged within limit fieldsOf kinds
-returns-3 c =
-    let a = c .before .before .before .args in
-    rw (by-fields (a .kind) (a .top) (a .long) (a .r) (same (c .before)), c .match .keys2) (simp (and-assoc, and-true))
+returns-3 c = rw (judged (c .before), c .match .keys2) (simp (and-assoc, and-true))
 
 returns-4 : tie.Need-returns-4
 unfolding ranged within limit fieldsOf kinds
-returns-4 c =
-    let a = c .before .before .before .args in
-    rw (by-fields (a .kind) (a .top) (a .long) (a .r) (same (c .before)), c .match .keys3) (simp (and-assoc, and-true))
+returns-4 c = rw (judged (c .before), c .match .keys3) (simp (and-assoc, and-true))
 
 returns-5 : tie.Need-returns-5
 unfolding ranged within limit fieldsOf kinds
-returns-5 c =
-    let a = c .before .before .before .args in
-    rw (by-fields (a .kind) (a .top) (a .long) (a .r) (same (c .before)), c .match .keys4) (simp (and-assoc, and-true))
+returns-5 c = rw (judged (c .before), c .match .keys4) (simp (and-assoc, and-true))
 
 returns-6 : tie.Need-returns-6
 unfolding ranged within limit fieldsOf kinds
-returns-6 c =
-    let a = c .before .before .before .args in
-    rw (by-fields (a .kind) (a .top) (a .long) (a .r) (same (c .before)), c .match .keys5) (simp (and-assoc, and-true))
+returns-6 c = rw (judged (c .before), c .match .keys5) (simp (and-assoc, and-true))
 
 returns-7 : tie.Need-returns-7
 unfolding ranged within limit fieldsOf kinds
 returns-7 c =
-    let a = c .before .before .before .args in
-    let l = le-leb 0 (a .r .a) (omega arith) in
-    rw (by-fields (a .kind) (a .top) (a .long) (a .r) (same (c .before)), c .match .keys6) (simp (l, and-assoc, and-true))
+    let l = le-leb 0 (c .before .before .before .args .r .a) (omega arith) in
+    rw (judged (c .before), c .match .keys6) (simp (l, and-assoc, and-true))
 
 returns-8 : tie.Need-returns-8
 unfolding ranged
 returns-8 c =
-    let a = c .before .before .before .args in
-    let none = no-fields (a .kind) (unknown (a .kind) (λ lo hi. omega (arith, c .match .rest))) in
-    rw (by-fields (a .kind) (a .top) (a .long) (a .r) (same (c .before)), none) (simp (and-assoc, and-true))
+    let k = c .before .before .before .args .kind in
+    let none = no-fields k (unknown k (λ lo hi. omega (arith, c .match .rest))) in
+    rw (judged (c .before), none) (simp (and-assoc, and-true))
 
 pub in-range-of-spec : {M : Type 1} → statement M
 in-range-of-spec =

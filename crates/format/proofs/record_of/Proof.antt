@@ -2,7 +2,8 @@
 use mathlib.Core.Path.{_≡_, refl, sym, _∙_}
 use lib.ListN.{getD}
 use native.Mathlib.Omega.{arith}
-use Rattle.format.specs.Kinds.{kinds, fieldsOf, known}
+use Rattle.format.specs.declared.Met.{Met}
+use Rattle.format.specs.Kinds.{kinds, fieldsOf, known, metAt, metOf}
 use Rattle.format.specs.Widths.{widthAt}
 use Rattle.format.proofs.Tables.{wide, unknown}
 use Rattle.format.proofs.Records.{met-past, met-unknown, met-same, met-other, met-none}
@@ -33,6 +34,13 @@ returns-2 c =
 stands : (c : tie.Else2) → getD (c .before .before .before .before .args .s .now) (c .before .before .before .before .args .at) 0 ≡ c .before .before .before .before .args .kind
 stands c = omega (arith, c .if2 .left)
 
+-- so what is met there is what was asked for
+as-asked : (c : tie.Else2) {m : Met} → m ≡ metAt (c .before .before .before .before .args .s .now) (c .before .before .before .before .args .at)
+    → m ≡ metOf (c .before .before .before .before .args .s .now) (c .before .before .before .before .args .at) (c .before .before .before .before .args .kind)
+as-asked c e =
+    let a = c .before .before .before .before .args in
+    e ∙ sym (met-same (a .s .now) (a .at) (a .kind) (stands c))
+
 whole-at-requires : tie.Need-whole-at-requires
 unfolding widthAt fieldsOf kinds known
 whole-at-requires c κs = (search needs, rw (stands (c .before), c .match .keys1) (wide 1 refl))
@@ -61,34 +69,22 @@ nothing-at-requires-3 : tie.Need-nothing-at-requires-3
 nothing-at-requires-3 c κs = search needs
 
 returns-3 : tie.Need-returns-3
-returns-3 c =
-    let a = c .before .before .before .before .before .before .args in
-    c .whole-at .ensures ∙ sym (met-same (a .s .now) (a .at) (a .kind) (stands (c .before .before)))
+returns-3 c = as-asked (c .before .before) (c .whole-at .ensures)
 
 returns-4 : tie.Need-returns-4
-returns-4 c =
-    let a = c .before .before .before .before .before .before .args in
-    c .whole-at2 .ensures ∙ sym (met-same (a .s .now) (a .at) (a .kind) (stands (c .before .before)))
+returns-4 c = as-asked (c .before .before) (c .whole-at2 .ensures)
 
 returns-5 : tie.Need-returns-5
-returns-5 c =
-    let a = c .before .before .before .before .before .before .args in
-    c .whole-at3 .ensures ∙ sym (met-same (a .s .now) (a .at) (a .kind) (stands (c .before .before)))
+returns-5 c = as-asked (c .before .before) (c .whole-at3 .ensures)
 
 returns-6 : tie.Need-returns-6
-returns-6 c =
-    let a = c .before .before .before .before .before .before .args in
-    c .whole-at4 .ensures ∙ sym (met-same (a .s .now) (a .at) (a .kind) (stands (c .before .before)))
+returns-6 c = as-asked (c .before .before) (c .whole-at4 .ensures)
 
 returns-7 : tie.Need-returns-7
-returns-7 c =
-    let a = c .before .before .before .before .before .before .args in
-    c .whole-at5 .ensures ∙ sym (met-same (a .s .now) (a .at) (a .kind) (stands (c .before .before)))
+returns-7 c = as-asked (c .before .before) (c .whole-at5 .ensures)
 
 returns-8 : tie.Need-returns-8
-returns-8 c =
-    let a = c .before .before .before .before .before .before .args in
-    c .whole-at6 .ensures ∙ sym (met-same (a .s .now) (a .at) (a .kind) (stands (c .before .before)))
+returns-8 c = as-asked (c .before .before) (c .whole-at6 .ensures)
 
 returns-9 : tie.Need-returns-9
 returns-9 c =
