@@ -29,7 +29,7 @@ use Rattle.segment.proofs.Holds.{longest-at-most, turn-at-most}
 use Rattle.pnet.specs.declared.answer.Plan.{Plan}
 use Rattle.pnet.specs.declared.answer.Plan.the-variants as answer
 use Rattle.pnet.specs.Planned.{firstLate, planChecks, plannedBy, planned, planOf, atPlace, runOf}
-use Rattle.token.specs.Turn.{at, charge, chargeIn, turnOf}
+use Rattle.token.specs.Turn.{at, chargeIn, turnOf}
 use Rattle.pnet.specs.Arrays.{segmentIn, Sheeted, SetOut, Grouped, turnIn, boundIn, refinedIn, roundsIn, Kept, Shortest}
 use Rattle.pnet.proofs.Bytes.{declares, number-is}
 use Rattle.pnet.proofs.Gathering.{grouped-none}
@@ -135,7 +135,7 @@ module _ {s : List ℕ} {N m first : ℕ} {counts longests : List ℕ} (h : Shee
   longests-small y l = omega (arith, longests-at y l, longest-at-most (segmentIn s m) declared y)
 
   charge-is : (y : ℕ) → y ≤ 32 → chargeIn counts longests y ≡ hold (segmentIn s m) y
-  unfolding chargeIn charge hold
+  unfolding chargeIn hold
   charge-is y l = rw (counts-at y l, longests-at y l)
 
   -- V is that of the segment

@@ -7,7 +7,8 @@ use native.Mathlib.Decide.{ℕ-discrete}
 use lib.ListN.{length, set, length-set}
 use lib.Seq.{getD-set-same, getD-set-other}
 use Rattle.common.specs.Sums.{upto}
-use Rattle.token.specs.Turn.{at, charge, chargeIn}
+use Rattle.segment.specs.Segment.{charge}
+use Rattle.token.specs.Turn.{at, chargeIn}
 use Rattle.pnet.specs.Arrays.{SetOut}
 
 pub set-out-none : (counts longests holds ends : List ℕ) → length holds ≡ 33 → length ends ≡ 33 → SetOut counts longests 0 holds ends

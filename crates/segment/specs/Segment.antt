@@ -53,10 +53,14 @@ unfoldable pub longest : Segment → ℕ → ℕ
 unfolding greatest owns
 longest S k = greatest (λ i. when (owns S k i) (S .stream i .cycle)) (S .number)
 
--- H: what master y holds the token at most: 47 and its longest C, or 10 for a master without streams
+-- H of a master with s streams, the longest C of them being c: 47 and c, or 10 for a master without streams
+unfoldable pub charge : ℕ → ℕ → ℕ
+charge s c = cond (eqb s 0) 10 (47 + c)
+
+-- H: what master y holds the token at most
 unfoldable pub hold : Segment → ℕ → ℕ
-unfolding count longest
-hold S y = cond (eqb (count S y) 0) 10 (47 + longest S y)
+unfolding count longest charge
+hold S y = charge (count S y) (longest S y)
 
 -- V under a charge h for each master: its sum over masters 1..N
 unfoldable pub turnBy : (ℕ → ℕ) → Segment → ℕ

@@ -3,7 +3,7 @@ use mathlib.Core.Bool.{Bool, true, false, cond}
 use Prim.Native.Nat.{ℕ, _+_, _≤_}
 use native.Mathlib.Omega.{arith}
 use lib.Dec.{eqb}
-use Rattle.token.specs.Turn.{charge}
+use Rattle.segment.specs.Segment.{charge}
 
 pub charge-small : (s c : ℕ) → c ≤ 1548 → charge s c ≤ 1595
 unfolding charge

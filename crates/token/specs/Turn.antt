@@ -1,19 +1,14 @@
 -- Page 01, 'P-NET bounds': H and V, from what reading a sheet gathered of its masters: at place y the number of master y's streams, and the
 -- longest C of them. Assumes nothing.
-use Prim.Native.Nat.{ℕ, _+_, min}
-use mathlib.Core.Bool.{cond}
+use Prim.Native.Nat.{ℕ, min}
 use mathlib.Core.List.{List}
 use lib.ListN.{getD}
-use lib.Dec.{eqb}
 use Rattle.common.specs.Sums.{upto}
+use Rattle.segment.specs.Segment.{charge}
 
 -- what stands at a place, and 0 past the end
 abbrev pub at : List ℕ → ℕ → ℕ
 at l i = getD l i 0
-
--- H of a master with s streams, the longest C of them being c: 47 and c, or 10 for a master without streams
-unfoldable pub charge : ℕ → ℕ → ℕ
-charge s c = cond (eqb s 0) 10 (47 + c)
 
 -- H of master y
 unfoldable pub chargeIn : List ℕ → List ℕ → ℕ → ℕ

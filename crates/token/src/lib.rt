@@ -1,7 +1,8 @@
 // The turn of the token, page 01 'P-NET bounds': H and V, from what reading a sheet gathered of its masters.
 ghost use mathlib.Core.Path.{_≡_};
 ghost use Prim.Native.Nat.{_≤_, min};
-ghost use Rattle.token.specs.Turn.{charge, turnOf};
+ghost use Rattle.segment.specs.Segment.{charge};
+ghost use Rattle.token.specs.Turn.{turnOf};
 
 // H of a master with so many streams, of which the longest cycle is given.
 pub fn hold_of(count: u8, longest: u32) -> u64

@@ -2,7 +2,7 @@
 use native.Mathlib.Omega.{arith}
 use borrow.Author.Tests.{eq-eqb, ne-eqb}
 use borrow.Author.Needs.{needs}
-use Rattle.token.specs.Turn.{charge}
+use Rattle.segment.specs.Segment.{charge}
 use Rattle.token.proofs.hold_of.Statement.{statement}
 use Rattle.token.proofs.hold_of.Tie as tie
 
