@@ -3,26 +3,21 @@ use Prim.Native.Nat.{ℕ, _+_, _≤_, _<_, min}
 use mathlib.Core.Path.{_≡_, refl, sym, ap, _∙_}
 use mathlib.Core.List.{List}
 use native.Mathlib.Omega.{arith}
-use borrow.Author.Tests.{ltb-false, not-false, eqb-true}
-use lib.Dec.{ltb}
 use lib.ListN.{length, getD}
-use Rattle.common.specs.Checks.{Verdict, verdict}
+use Rattle.common.specs.Checks.{Verdict}
 use Rattle.common.specs.Checks.Verdict.{Passed, Refused}
 use Rattle.common.specs.Runs.{filled}
-use Rattle.common.proofs.Checks.{Clear, passed-then}
-use Rattle.common.proofs.Checks.Clear.{none, and}
 use Rattle.common.proofs.Runs.{filled-same, filled-at}
 use Rattle.sheet.specs.Sheets.{Sheet}
-use Rattle.sheet.specs.Whole.{Outcome, orElse, reading}
+use Rattle.sheet.specs.Whole.{Outcome, orElse}
 use Rattle.sheet.specs.Whole.Outcome.{Read, Not}
-use Rattle.sheet.proofs.Known.{reading-read}
 use Rattle.segment.specs.Segment.{Segment, segmentOf}
-use Rattle.segment.proofs.Declares.{declared}
-use Rattle.pnet.specs.Planned.{segmentChecks, planOf, atPlace}
+use Rattle.pnet.specs.Planned.{planOf, atPlace}
 use Rattle.pnet.specs.declared.answer.Plan.the-variants as answer
 use Rattle.log.specs.Log.{fresh}
 use Rattle.log.specs.Records.{heard}
-use Rattle.limits.specs.Bounded.{boundedBy, bounded, streamRun}
+use Rattle.limits.specs.Bounded.{bounded, streamRun}
+use Rattle.limits.proofs.Bounded.{bounded-fits, bounded-declared}
 use Rattle.capture.specs.Compared.{comparedBy, compared}
 use Rattle.tally.specs.Pieces.{most}
 use Rattle.capture.specs.Steps.{planBy, runBy}
@@ -46,34 +41,13 @@ pub told-refused : (o : Outcome) (n p : ℕ) → planOf o ≡ answer.Refused n p
 told-refused (Read H) n p e = let z : _≡_ {A = ℕ} 0 1 = cc in absurd (omega arith)
 told-refused (Not a b) n p e = cc
 
-module _ (s : List ℕ) (room : ℕ) (H : Sheet) where
-  -- it was read, and passes
-  pub passes : bounded s room ≡ Read H → (reading s ≡ Read H) × Clear (segmentChecks H (ltb room (length (H .streams))) (length (H .streams)))
-  unfolding bounded
-  passes e = by (reading s) refl e
-    where
-      by : (o : Outcome) → reading s ≡ o → boundedBy o room ≡ Read H
-          → (reading s ≡ Read H) × Clear (segmentChecks H (ltb room (length (H .streams))) (length (H .streams)))
-      by (Not n p) q r = let z : _≡_ {A = ℕ} 0 1 = cc in absurd (omega arith)
-      by (Read G) q r = on (verdict (segmentChecks G (ltb room (length (G .streams))) (length (G .streams)))) refl r
-        where
-          on : (v : Verdict) → verdict (segmentChecks G (ltb room (length (G .streams))) (length (G .streams))) ≡ v → orElse v (Read G) ≡ Read H
-              → (reading s ≡ Read H) × Clear (segmentChecks H (ltb room (length (H .streams))) (length (H .streams)))
-          on (Refused n p) v r' = let z : _≡_ {A = ℕ} 0 1 = cc in absurd (omega arith)
-          on Passed v r' = let g : G ≡ H = cc in rw (← g) (q, passed-then _ v)
-
-  clear-room : Clear (segmentChecks H (ltb room (length (H .streams))) (length (H .streams))) → (H .head .kind ≡ 1) × (length (H .streams) ≤ room)
-  clear-room (and k (and r (and l none))) = (eqb-true _ _ (not-false _ k), ltb-false _ _ r)
-
 pub accepts : (s : List ℕ) (room m k : ℕ) → planOf (bounded s room) ≡ answer.Accepted m k → Accepts s room m k
 unfolding segmentOf
 accepts s room m k e =
     let t = told-accepted (bounded s room) m k e in
     let H = t .0 in
-    let p = passes s room H (t .1 .0) in
-    let r = clear-room s room H (p .1) in
-    let d = declared s H (reading-read s H (p .0)) (r .0) in
-    record { sheet = H; is = t .1 .0; masters = t .1 .1 .0; number = t .1 .1 .1; fits = omega (arith, r .1, t .1 .1 .1); few = omega (arith, d .number-to, t .1 .1 .1) }
+    let d = bounded-declared s room H (t .1 .0) in
+    record { sheet = H; is = t .1 .0; masters = t .1 .1 .0; number = t .1 .1 .1; fits = omega (arith, bounded-fits s room H (t .1 .0), t .1 .1 .1); few = omega (arith, d .number-to, t .1 .1 .1) }
 
 -- ---- The capture
 

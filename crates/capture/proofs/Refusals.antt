@@ -28,8 +28,8 @@ use Rattle.limits.specs.Bounded.{boundedBy, bounded}
 use Rattle.capture.specs.Compared.{comparedBy, compared}
 use Rattle.capture.specs.Refusals.{Room, Bounded, Given, Accepted}
 use Rattle.capture.specs.Refusals.Given.{unread, another-bus, no-room, too-late, in-capture}
-use Rattle.limits.proofs.Bounded.{bounded-unread, bounded-other, bounded-short, bounded-late, bounded-read}
-use Rattle.capture.proofs.Beside.{passes, compared-refused}
+use Rattle.limits.proofs.Bounded.{bounded-unread, bounded-other, bounded-short, bounded-late, bounded-read, bounded-passes}
+use Rattle.capture.proofs.Beside.{compared-refused}
 
 module _ (s c : List ℕ) (la lb lc ld : ℕ) where
   -- the shortest run is the room
@@ -85,7 +85,7 @@ module _ (s c : List ℕ) (la lb lc ld : ℕ) where
       split (Not m k) e r = unread (e ∙ r)
 
   bounded-then : (H : Sheet) → bounded s room ≡ Read H → Bounded s la lb lc ld H
-  bounded-then H e = let p = passes s room H e in no-line H (p .0) (p .1)
+  bounded-then H e = let p = bounded-passes s room H e in no-line H (p .0) (p .1)
 
   bounded-if : (H : Sheet) → Bounded s la lb lc ld H → bounded s room ≡ Read H
   unfolding segmentOf

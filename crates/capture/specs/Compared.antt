@@ -4,7 +4,7 @@ use mathlib.Core.List.{List}
 use lib.ListN.{length}
 use Rattle.sheet.specs.Whole.{Outcome, orElse}
 use Rattle.sheet.specs.Whole.Outcome.{Read, Not}
-use Rattle.segment.specs.Segment.{Segment, bound}
+use Rattle.segment.specs.Segment.{Segment}
 use Rattle.limits.specs.Bounded.{bounded, boundOf}
 use Rattle.log.specs.declared.Event.{Event}
 use Rattle.log.specs.Log.{fresh, left, answered, largest, above}

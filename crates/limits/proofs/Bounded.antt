@@ -1,25 +1,31 @@
 -- The sheet that a capture is laid beside: the refusals case by case, and the streams one by one. Assumes nothing.
-use mathlib.Core.Path.{_≡_, sym, ap, _∙_}
+use mathlib.Core.Path.{_≡_, refl, sym, ap, _∙_}
 use mathlib.Core.Bool.{true}
 use mathlib.Core.List.{List}
 use Prim.Native.Nat.{ℕ, _+_, _*_, _≤_, _<_}
 use native.Mathlib.Omega.{arith}
-use borrow.Author.Tests.{lt-ltb, le-ltb, le-leb, lt-leb, eq-eqb, ne-eqb}
+use borrow.Author.Tests.{lt-ltb, le-ltb, le-leb, lt-leb, eq-eqb, ne-eqb, ltb-false, eqb-true, not-false}
 use lib.ListN.{length}
 use lib.Dec.{ltb}
-use Rattle.common.specs.Checks.{Check, verdict}
-use Rattle.common.specs.Checks.Verdict.{Passed}
+use Rattle.common.specs.Checks.{Check, Verdict, verdict}
+use Rattle.common.specs.Checks.Verdict.{Passed, Refused}
 use Rattle.common.specs.Runs.{filled}
-use Rattle.common.proofs.Checks.{Applies, refused-if, passed-if}
+use Rattle.common.proofs.Checks.{Applies, Clear, refused-if, passed-if, passed-then}
 use Rattle.common.proofs.Checks.Applies.{here, later}
 use Rattle.common.proofs.Checks.Clear.{none, and}
 use Rattle.format.specs.declared.Met.{Met}
+use Rattle.format.specs.declared.Record.{Record}
 use Rattle.sheet.specs.Sheets.{Sheet}
-use Rattle.sheet.specs.Whole.{Outcome, orElse, reading}
+use Rattle.sheet.specs.Whole.{Outcome, orElse, reading, told}
 use Rattle.sheet.specs.Whole.Outcome.{Read, Not}
+use Rattle.sheet.specs.declared.Reading.{Reading}
+use Rattle.sheet.specs.declared.Reading.the-variants as reader
 use Rattle.sheet.specs.Steps.{sheetIn, Ready}
-use Rattle.sheet.proofs.Taken.{ready-streams}
+use Rattle.sheet.proofs.Known.{reading-read}
+use Rattle.sheet.proofs.Taken.{Taken, taken, not-taken, taken-ready, ready-streams}
 use Rattle.segment.specs.Segment.{Stream, Segment, segmentOf, count, turn}
+use Rattle.segment.specs.Limits.{Declared}
+use Rattle.segment.proofs.Declares.{declared}
 use Rattle.segment.proofs.Holds.{turn-at-most, bound-at-most}
 use Rattle.token.specs.Turn.{at}
 use Rattle.pnet.specs.Planned.{firstLate, segmentChecks, planOf, atPlace}
@@ -66,6 +72,49 @@ module _ (s : List ℕ) (room : ℕ) where
           let v : verdict checks ≡ Passed = passed-if (and (rw (eq-eqb (H .head .kind) 1 k)) (and (le-ltb room _ l) (and (lt-leb _ _ h) none))) in
           checked ∙ rw v
 
+-- ---- What a sheet is that is not refused
+
+module _ (s : List ℕ) (room : ℕ) (H : Sheet) (e : bounded s room ≡ Read H) where
+  -- it was read, and passes
+  pub bounded-passes : (reading s ≡ Read H) × Clear (segmentChecks H (ltb room (length (H .streams))) (length (H .streams)))
+  unfolding bounded
+  bounded-passes = by (reading s) refl e
+    where
+      by : (o : Outcome) → reading s ≡ o → boundedBy o room ≡ Read H
+          → (reading s ≡ Read H) × Clear (segmentChecks H (ltb room (length (H .streams))) (length (H .streams)))
+      by (Not n p) q r = let z : _≡_ {A = ℕ} 0 1 = cc in absurd (omega arith)
+      by (Read G) q r = on (verdict (segmentChecks G (ltb room (length (G .streams))) (length (G .streams)))) refl r
+        where
+          on : (v : Verdict) → verdict (segmentChecks G (ltb room (length (G .streams))) (length (G .streams))) ≡ v → orElse v (Read G) ≡ Read H
+              → (reading s ≡ Read H) × Clear (segmentChecks H (ltb room (length (H .streams))) (length (H .streams)))
+          on (Refused n p) v r' = let z : _≡_ {A = ℕ} 0 1 = cc in absurd (omega arith)
+          on Passed v r' = let g : G ≡ H = cc in rw (← g) (q, passed-then _ v)
+
+  clear-room : Clear (segmentChecks H (ltb room (length (H .streams))) (length (H .streams))) → (H .head .kind ≡ 1) × (length (H .streams) ≤ room)
+  clear-room (and k (and r (and l none))) = (eqb-true _ _ (not-false _ k), ltb-false _ _ r)
+
+  pub bounded-fits : length (H .streams) ≤ room
+  bounded-fits = clear-room (bounded-passes .1) .1
+
+  pub bounded-declared : Declared (segmentOf H)
+  bounded-declared = declared s H (reading-read s H (bounded-passes .0)) (clear-room (bounded-passes .1) .0)
+
+-- ---- From the reader's answer, as the code takes it apart
+
+module _ (s : List ℕ) {answered : Reading} (e : answered ≡ told s (reading s)) where
+  pub answer-taken : {head : Record} {n first : ℕ} → answered ≡ reader.Accepted head n first → Taken s head n first
+  answer-taken {head} {n} {first} q = taken s head n first (sym e ∙ q)
+
+  pub answer-refused : {n p : ℕ} → answered ≡ reader.Refused n p → (room : ℕ) → bounded s room ≡ Not n p
+  answer-refused {n} {p} q room = bounded-unread s room n p (not-taken s n p (sym e ∙ q))
+
+module _ {s : List ℕ} {head : Record} {n first : ℕ} (took : Taken s head n first) (room : ℕ) where
+  pub taken-other : (head .kind ≡ 1 → ⊥) → bounded s room ≡ Not 3 0
+  taken-other k = bounded-other s room (sheetIn s n) (took .reads) (λ e. k (ap (λ (r : Record). r .kind) (took .begins) ∙ e))
+
+  pub taken-short : head .kind ≡ 1 → room < n → bounded s room ≡ Not 13 n
+  taken-short k = let ready = taken-ready took k in bounded-short s room (sheetIn s n) (took .reads) (ready .bus) n (ready-streams ready)
+
 -- ---- The answer and the two runs together, as the code returns them
 
 -- the answer r, and the runs a and b where x and y were lent
@@ -86,26 +135,28 @@ module _ {s : List ℕ} {N n first : ℕ} {counts longests : List ℕ} (h : Shee
   few : length (sheetIn s n .streams) ≤ room
   few = omega (arith, ready-streams (h .ready))
 
+  pub sheeted-late : late ≤ n → bounded s room ≡ Not 8 late
+  sheeted-late l = bounded-late s room (sheetIn s n) (h .ready .reads) (h .ready .bus) few late first-late (omega (arith, ready-streams (h .ready)))
+
   pub returned-late : late ≤ n → (x y : List ℕ) → Returned s room x y (answer.Refused 8 late) x y
-  returned-late l x y =
-      returned-refused s room x y 8 late (bounded-late s room (sheetIn s n) (h .ready .reads) (h .ready .bus) few late first-late (omega (arith, ready-streams (h .ready))))
+  returned-late l x y = returned-refused s room x y 8 late (sheeted-late l)
 
   module _ (l : n < late) where
-    read : bounded s room ≡ Read (sheetIn s n)
-    read = bounded-read s room (sheetIn s n) (h .ready .reads) (h .ready .bus) few (omega (arith, ready-streams (h .ready), first-late))
+    pub sheeted-read : bounded s room ≡ Read (sheetIn s n)
+    sheeted-read = bounded-read s room (sheetIn s n) (h .ready .reads) (h .ready .bus) few (omega (arith, ready-streams (h .ready), first-late))
 
     run-read : (figure : Segment → ℕ → ℕ) (old run : List ℕ) → run ≡ filled (atPlace (figure (segmentIn s n))) n old
         → run ≡ streamRun (bounded s room) figure old
     run-read figure old run q =
         (q ∙ ap (λ (x : ℕ). filled (atPlace (figure (segmentIn s n))) x old) (sym (ready-streams (h .ready))))
-        ∙ ap (λ (o : Outcome). streamRun o figure old) (sym read)
+        ∙ ap (λ (o : Outcome). streamRun o figure old) (sym sheeted-read)
 
     pub returned-accepted : (x y a b : List ℕ) → a ≡ filled (atPlace (masterOf (segmentIn s n))) n x
         → b ≡ filled (atPlace (boundOf (segmentIn s n))) n y → Returned s room x y (answer.Accepted N n) a b
     unfolding segmentOf
     returned-accepted x y a b p q =
         let r : answer.Accepted N n ≡ planOf (Read (sheetIn s n)) = ap (λ (k : ℕ). answer.Accepted k n) (h .masters-are) ∙ ap (answer.Accepted (sheetIn s n .head .a)) (sym (ready-streams (h .ready))) in
-        (r ∙ ap planOf (sym read), (run-read masterOf x a p, run-read boundOf y b q))
+        (r ∙ ap planOf (sym sheeted-read), (run-read masterOf x a p, run-read boundOf y b q))
 
 -- ---- Stream by stream
 

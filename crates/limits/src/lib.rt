@@ -1,17 +1,27 @@
-// The bounds that a capture is laid beside, page 02 'Ask 1': for each stream of a P-NET sheet its master and its master's R.
+// The bounds of a P-NET sheet without a search: for a capture, page 02 'Ask 1', each stream's master and its master's R; for a path,
+// page 02 'Ask 4', R of the master that sends.
 use pnet::Plan;
 use sheet::MOST;
 use sheet::Reading;
 ghost use mathlib.Core.Path.{_≡_};
 ghost use Prim.Native.Nat.{ℕ, _≤_};
 ghost use lib.ListN.{length};
+ghost use lib.Dec.{leb};
 ghost use Rattle.common.specs.Runs.{filled};
+ghost use Rattle.common.specs.Sums.{when};
 ghost use Rattle.sheet.specs.Steps.{Ready};
 ghost use Rattle.segment.specs.Segment;
 ghost use Rattle.token.specs.Turn.{at};
 ghost use Rattle.pnet.specs.Arrays.{segmentIn, Sheeted};
 ghost use Rattle.pnet.specs.Planned.{firstLate, planOf, atPlace};
 ghost use Rattle.limits.specs.Bounded.{bounded, boundOf, masterOf, streamRun};
+ghost use Rattle.limits.specs.Sender.{sound, senderOf};
+
+// What the sheet of a segment says of the master that sends there: its R, or the refusal's number and place.
+pub enum Sender {
+    Bound(u32),
+    Refused { no: u8, place: usize },
+}
 
 // The first of n streams whose master's R is above its D, and n + 1 where there is none; turn is V.
 fn first_late(s: &[u8], first: usize, n: usize, counts: &[u8; 33], turn: u32) -> usize
@@ -127,6 +137,71 @@ pub fn bounds(s: &[u8], room: usize, masters: &mut [u8; MOST], bound: &mut [u32;
                 masters,
                 bound,
             )
+        }
+    }
+}
+
+// How many streams a master has; one above 32 has none.
+fn streams_of(counts: &[u8; 33], master: u8) -> u8
+    ensures { λ r. ⌜ r ≡ when (leb master 32) (at (now (counts .entry)) master) ⌝ }
+{
+    if master > 32 {
+        return 0;
+    }
+    counts[master as usize]
+}
+
+// R of the master that sends on a P-NET segment of N masters and n streams, unless 8 is given.
+fn bound_by(
+    s: &[u8],
+    all: usize,
+    first: usize,
+    n: usize,
+    counts: &[u8; 33],
+    longests: &[u32; 33],
+    master: u8,
+) -> Sender
+    requires { ⌜ Sheeted (now s) all n first (now counts) (now longests) ⌝ }
+    ensures { λ r. ⌜ r ≡ senderOf (sound (now (s .entry))) master ⌝ }
+{
+    let turn = token::turn_of(counts, longests, all) as u32;
+    let late = first_late(s, first, n, counts, turn);
+    if n < late {
+        let own = streams_of(counts, master) as u32;
+        let bound = own * turn;
+        return Sender::Bound(bound);
+    }
+    Sender::Refused { no: 8, place: late }
+}
+
+// The sheet of one segment of a path, and R of the master that sends there: 0 for a master that it does not have, or that has no
+// streams.
+pub fn bound_of(s: &[u8], master: u8) -> Sender
+    ensures { λ r. ⌜ r ≡ senderOf (sound (now (s .entry))) master ⌝ }
+{
+    let mut counts: [u8; 33] = [0; 33];
+    let mut longests: [u32; 33] = [0; 33];
+    let read = sheet::read_gathering(s, &mut counts, &mut longests);
+    match read {
+        Reading::Refused { no, place } => Sender::Refused { no, place },
+        Reading::Accepted {
+            head,
+            streams,
+            first,
+        } => {
+            if head.kind == 1 {
+                bound_by(
+                    s,
+                    head.a as usize,
+                    first,
+                    streams,
+                    &counts,
+                    &longests,
+                    master,
+                )
+            } else {
+                Sender::Refused { no: 3, place: 0 }
+            }
         }
     }
 }

@@ -1,25 +1,22 @@
 -- A P-NET report: what the three runs of an accepted sheet give is what the segment's figures are, master by master. Assumes nothing.
-use mathlib.Core.Path.{_≡_, refl, sym, ap, _∙_}
+use mathlib.Core.Path.{_≡_, refl, ap, _∙_}
 use mathlib.Core.List.{List, _++_}
 use mathlib.Core.Bool.{Bool, true, false, _||_}
-use Prim.Native.Nat.{ℕ, _+_, _*_, _≤_, _<_}
-use native.Mathlib.Nat.{mul-le-mul, zero-mul}
+use Prim.Native.Nat.{ℕ, _+_, _≤_, _<_}
 use native.Mathlib.Omega.{arith}
-use native.Mathlib.Decide.{ℕ-discrete}
-use lib.Dec.{eqb, ltb}
-use borrow.Author.Tests.{ne-eqb, ltb-false}
+use lib.Dec.{ltb}
+use borrow.Author.Tests.{ltb-false}
 use Rattle.common.specs.Checks.{verdict, Verdict}
 use Rattle.common.specs.Checks.Verdict.{Passed, Refused}
 use Rattle.common.proofs.Checks.{Clear, passed-then}
 use Rattle.common.proofs.Checks.Clear.{and}
 use Rattle.common.proofs.Runs.{filled-at}
-use Rattle.common.proofs.Sums.{upto-term}
 use Rattle.sheet.specs.Sheets.{Sheet}
 use Rattle.sheet.specs.Whole.{Outcome, orElse, reading}
 use Rattle.sheet.specs.Whole.Outcome.{Read, Not}
-use Rattle.segment.specs.Segment.{Segment, segmentOf, count, hold, turnBy, boundBy, turn, bound}
+use Rattle.segment.specs.Segment.{Segment, segmentOf, bound}
 use Rattle.segment.specs.Refined.{refined, rounds}
-use Rattle.segment.proofs.Holds.{hold-at-least}
+use Rattle.segment.proofs.Holds.{silent-by-bound}
 use Rattle.pnet.specs.Planned.{planChecks, plannedBy, planned, planOf, atPlace, runOf}
 use Rattle.pnet.specs.declared.answer.Plan.the-variants as answer
 use Rattle.text.proofs.Writing.{texts-same}
@@ -29,31 +26,13 @@ use Rattle.lines.specs.Lines.{masterText}
 use Rattle.report.specs.Arrays.{masterAt, segmentText}
 use Rattle.report.specs.Whole.{masterOf, mastersOf, segmentReport}
 
--- ---- A master without streams is the one whose bound is 0
-
-module _ (S : Segment) (k : ℕ) (lo : 1 ≤ k) (hi : k ≤ S .masters) where
-  turn-some : 10 ≤ turn S
-  unfolding turn turnBy
-  turn-some = omega (arith, upto-term (hold S) (S .masters) k lo hi, hold-at-least S k)
-
-  pub silent-by-bound : eqb (bound S k) 0 ≡ eqb (count S k) 0
-  unfolding bound boundBy turn
-  silent-by-bound = split (ℕ-discrete (count S k) 0)
-    where
-      split : Dec (count S k ≡ 0) → eqb (bound S k) 0 ≡ eqb (count S k) 0
-      split (yes e) = rw e (ap (λ (x : ℕ). eqb x 0) (zero-mul (turn S)))
-      split (no e) =
-          let a : 1 ≤ count S k = omega (arith, e) in
-          let b : 1 * 10 ≤ count S k * turn S = mul-le-mul a turn-some in
-          ne-eqb (bound S k) 0 (λ z. omega (arith, b)) ∙ sym (ne-eqb (count S k) 0 e)
-
 -- ---- From the runs to the segment
 
 module _ (S : Segment) (R W M : ℕ → ℕ) (i : ℕ) (h : i < S .masters)
     (r : R i ≡ bound S (i + 1)) (w : W i ≡ refined S (i + 1)) (m : M i ≡ rounds S (i + 1)) where
   master-same : masterAt R W M i ≡ masterOf S (i + 1)
   unfolding masterAt masterText masterOf
-  master-same = rw (r, w, m, silent-by-bound S (i + 1) (omega arith) (omega arith))
+  master-same = rw (r, w, m, silent-by-bound S (omega arith) (i + 1))
 
 -- what a sheet passed that was planned without refusal
 planned-read : (s : List ℕ) (H : Sheet) (la lb lc : ℕ) → planned s la lb lc ≡ Read H → (reading s ≡ Read H) × (verdict (planChecks H la lb lc) ≡ Passed)

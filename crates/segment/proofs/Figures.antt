@@ -12,7 +12,7 @@ use Rattle.segment.specs.Segment.{Segment, owns, count, hold, turnBy, bo
 use Rattle.segment.specs.Refined.{rightBy, valueOf, roundsOf, mostRounds, askedBy, right, rounds, refined}
 use Rattle.segment.proofs.Sequence.{Settles, Least, value-rises, still-at-once}
 use Rattle.segment.proofs.Right.{rightOf, charge, right-is-charges, right-rises, right-at-most, right-least, right-rounds, right-rounds-at-most, right-value-at-most}
-use Rattle.segment.proofs.Holds.{hold-at-least}
+use Rattle.segment.proofs.Holds.{hold-at-least, bound-silent-by}
 
 -- ---- For any charge and any count
 
@@ -58,11 +58,11 @@ module _ (h : ℕ → ℕ) (a : ℕ → ℕ → ℕ) (S : Segment) (k : ℕ) whe
   -- a master without streams: all three are 0
   pub silent-zero-by : count S k ≡ 0
       → (boundBy h S k ≡ 0) × (valueOf (rightBy h a S k) (roundsOf (rightBy h a S k) (mostRounds S k)) ≡ 0) × (roundsOf (rightBy h a S k) (mostRounds S k) ≡ 0)
-  unfolding rightBy boundBy turnBy mostRounds valueOf
+  unfolding rightBy turnBy mostRounds valueOf
   silent-zero-by e =
       let v : rightBy h a S k 0 ≡ 0 = simp e (omega (arith, zero-mul (upto h (S .masters)))) in
       let r : roundsOf (rightBy h a S k) (1 + (S .masters - 1) * count S k) ≡ 0 = still-at-once (rightBy h a S k) v ((S .masters - 1) * count S k) in
-      (simp e (zero-mul (upto h (S .masters))), ap (valueOf (rightBy h a S k)) r, r)
+      (bound-silent-by h S k e, ap (valueOf (rightBy h a S k)) r, r)
 
 -- ---- The planner's
 

@@ -1,8 +1,10 @@
 -- Page 01, 'P-NET bounds': laws of s, H, V and R that the planner and the bus's runs rest on. Assumes nothing.
-use mathlib.Core.Path.{_≡_, refl}
+use mathlib.Core.Path.{_≡_, refl, sym, _∙_}
+use mathlib.Core.Logic.{_≢_}
 use mathlib.Core.Bool.{Bool, true, false, cond}
-use Prim.Native.Nat.{ℕ, _+_, _≤_}
-use native.Mathlib.Nat.{mul-le-mul}
+use Prim.Native.Nat.{ℕ, _+_, _*_, _≤_, _<_}
+use native.Mathlib.Nat.{zero-mul, mul-zero, mul-le-mul}
+use native.Mathlib.Decide.{ℕ-discrete}
 use native.Mathlib.Omega.{arith}
 use borrow.Author.Tests.{eq-eqb, ne-eqb}
 use lib.Dec.{eqb}
@@ -27,6 +29,16 @@ module _ (S : Segment) (i : ℕ) where
     pub cycle-at-most-longest : (k : ℕ) → owns S k i ≡ true → S .stream i .cycle ≤ longest S k
     unfolding longest
     cycle-at-most-longest k e = rw e at (greatest-most (λ j. when (owns S k j) (S .stream j .cycle)) (S .number) i lo hi)
+
+-- a number that no stream has for its master has none
+count-not-owned : (S : Segment) (k : ℕ) → ((i : ℕ) → 1 ≤ i → i ≤ S .number → S .stream i .master ≢ k) → count S k ≡ 0
+unfolding count owns
+count-not-owned S k other =
+    omega (
+      arith,
+      upto-most (λ i. when (owns S k i) 1) 0 (S .number) (λ i lo hi. rw (ne-eqb (S .stream i .master) k (other i lo hi)) (omega arith)),
+      mul-zero (S .number),
+    )
 
 -- ---- H
 
@@ -67,9 +79,47 @@ cycle-held S i lo hi =
     let k = S .stream i .master in
     omega (arith, hold-some S k (count-owned S i lo hi k (owned S i)), cycle-at-most-longest S i lo hi k (owned S i))
 
--- ---- How large the figures of a declared segment are
+-- ---- R is 0 for a master without streams, and for no other
+
+-- whatever is charged
+pub bound-silent-by : (h : ℕ → ℕ) (S : Segment) (k : ℕ) → count S k ≡ 0 → boundBy h S k ≡ 0
+unfolding boundBy
+bound-silent-by h S k e = rw e (zero-mul (turnBy h S))
+
+pub bound-silent : (S : Segment) (k : ℕ) → count S k ≡ 0 → bound S k ≡ 0
+unfolding bound
+bound-silent S = bound-silent-by (hold S) S
+
+-- V is at least an unused visit, so a master with streams has at least that for each
+module _ (S : Segment) (some : 1 ≤ S .masters) where
+  turn-at-least : 10 ≤ turn S
+  unfolding turn turnBy
+  turn-at-least = omega (arith, upto-term (hold S) (S .masters) 1 (omega arith) some, hold-at-least S 1)
+
+  pub bound-at-least : (k : ℕ) → count S k * 10 ≤ bound S k
+  unfolding bound boundBy turn
+  bound-at-least k = mul-le-mul {n₁ = count S k} {m₁ = 10} {n₂ = count S k} {m₂ = turnBy (hold S) S} (omega arith) turn-at-least
+
+  pub silent-by-bound : (k : ℕ) → eqb (bound S k) 0 ≡ eqb (count S k) 0
+  silent-by-bound k = split (ℕ-discrete (count S k) 0)
+    where
+      split : Dec (count S k ≡ 0) → eqb (bound S k) 0 ≡ eqb (count S k) 0
+      split (yes e) = rw (bound-silent S k e, e)
+      split (no e) = ne-eqb (bound S k) 0 (λ z. omega (arith, e, bound-at-least k)) ∙ sym (ne-eqb (count S k) 0 e)
+
+-- ---- Who has streams in a declared segment, and how large its figures are
 
 module _ (S : Segment) (d : Declared S) where
+  -- masters are numbered from 1 to N
+  pub count-above-masters : (k : ℕ) → S .masters < k → count S k ≡ 0
+  count-above-masters k l = count-not-owned S k (λ i lo hi e. omega (arith, d .ranges i lo hi .master-to))
+
+  pub count-of-zero : (k : ℕ) → k ≡ 0 → count S k ≡ 0
+  count-of-zero k z = count-not-owned S k (λ i lo hi e. omega (arith, d .ranges i lo hi .master-from))
+
+  pub bound-none : (k : ℕ) → bound S k ≡ 0 → count S k ≡ 0
+  bound-none k e = omega (arith, bound-at-least S (d .masters-from) k)
+
   pub longest-at-most : (y : ℕ) → longest S y ≤ 1548
   unfolding longest
   longest-at-most y = greatest-least (λ i. when (owns S y i) (S .stream i .cycle)) 1548 (S .number) (λ i lo hi. split (owns S y i) (d .ranges i lo hi .cycle-to))
