@@ -1,0 +1,3 @@
+pub mod Path
+pub mod Refusals
+pub mod Ways
