@@ -35,9 +35,10 @@ placeText n p =
     cond (leb n 7) (word " at byte " · decimal p)
     (cond (leb n 9) (word " at stream " · decimal p) (cond (eqb n 12) (word " at variable " · decimal p) []))
 
-unfoldable pub placeEnd : ℕ → ℕ → List ℕ
-placeEnd n p = placeText n p · word "\n"
+-- refusal n with place p, without the line's end: some reports say more behind it
+unfoldable pub refusedText : ℕ → ℕ → List ℕ
+refusedText n p = word "refused " · decimal n · placeText n p
 
 -- the whole report of refusal n with place p
 unfoldable pub refusalText : ℕ → ℕ → List ℕ
-refusalText n p = word "refused " · decimal n · placeEnd n p
+refusalText n p = refusedText n p · word "\n"

@@ -7,7 +7,7 @@ use units::BitPeriods;
 use units::Micros;
 ghost use mathlib.Core.List.{_++_};
 ghost use Rattle.text.specs.Text.{Wrote};
-ghost use Rattle.phrases.specs.Phrases.{inBp, inUs, inBoth, nameOf, placeEnd, refusalText};
+ghost use Rattle.phrases.specs.Phrases.{inBp, inUs, inBoth, nameOf, placeText, refusedText, refusalText};
 
 pub fn put_bp(out: &mut [u8], at: usize, before: &[u8], b: BitPeriods) -> usize
     ensures { λ r. ⌜ Wrote (now (out .entry)) at (now (before .entry) ++ inBp b) (now (out .exit)) r ⌝ }
@@ -36,25 +36,33 @@ pub fn put_name(out: &mut [u8], at: usize, k: u64) -> usize
     put_places(out, number, 2, k)
 }
 
-// A refusal's place in words, and the line's end.
-fn put_place(out: &mut [u8], at: usize, number: u8, place: u64) -> usize
-    ensures { λ r. ⌜ Wrote (now (out .entry)) at (placeEnd number place) (now (out .exit)) r ⌝ }
+// A refusal's place in words, and what follows it.
+fn put_place(out: &mut [u8], at: usize, number: u8, place: u64, after: &[u8]) -> usize
+    ensures { λ r. ⌜ Wrote (now (out .entry)) at (placeText number place ++ now (after .entry)) (now (out .exit)) r ⌝ }
 {
     if number <= 7 {
-        return put_counted(out, at, b" at byte ", place, b"\n");
+        return put_counted(out, at, b" at byte ", place, after);
     }
     if number <= 9 {
-        return put_counted(out, at, b" at stream ", place, b"\n");
+        return put_counted(out, at, b" at stream ", place, after);
     }
     if number == 12 {
-        return put_counted(out, at, b" at variable ", place, b"\n");
+        return put_counted(out, at, b" at variable ", place, after);
     }
-    put_word(out, at, b"\n")
+    put_word(out, at, after)
 }
 
+// A refusal, and what follows it on its line.
+pub fn put_refused(out: &mut [u8], at: usize, number: u8, place: u64, after: &[u8]) -> usize
+    ensures { λ r. ⌜ Wrote (now (out .entry)) at (refusedText number place ++ now (after .entry)) (now (out .exit)) r ⌝ }
+{
+    let next = put_counted(out, at, b"refused ", number as u64, b"");
+    put_place(out, next, number, place, after)
+}
+
+// A refusal's whole line.
 pub fn put_refusal(out: &mut [u8], at: usize, number: u8, place: u64) -> usize
     ensures { λ r. ⌜ Wrote (now (out .entry)) at (refusalText number place) (now (out .exit)) r ⌝ }
 {
-    let next = put_counted(out, at, b"refused ", number as u64, b"");
-    put_place(out, next, number, place)
+    put_refused(out, at, number, place, b"\n")
 }

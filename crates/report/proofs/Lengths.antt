@@ -3,7 +3,7 @@ use mathlib.Core.List.{[], _++_}
 use mathlib.Core.Bool.{Bool, true, false, cond}
 use Prim.Native.Nat.{ℕ, _+_, _*_, _/_, _%_, _^_, _≤_, _<_}
 use native.Mathlib.Omega.{arith}
-use lib.Dec.{leb, eqb}
+use lib.Dec.{eqb}
 use lib.ListN.{length, length-append}
 use Rattle.profibus.specs.declared.answer.RingPeriods.{RingPeriods}
 use Rattle.segment.specs.Segment.{Segment, count, bound}
@@ -12,11 +12,12 @@ use Rattle.units.specs.Units.{bp, microsUp}
 use Rattle.units.specs.declared.BitPeriods.{BitPeriods}
 use Rattle.units.specs.declared.Micros.{Micros}
 use Rattle.text.specs.Text.{word, places, decimal, texts}
-use Rattle.phrases.specs.Phrases.{inBp, inUs, inBoth, nameOf, placeText, placeEnd, refusalText}
+use Rattle.phrases.specs.Phrases.{inBp, inUs, inBoth, nameOf, refusedText, refusalText}
 use Rattle.lines.specs.Lines.{figuresOf, masterLine, ringText, nameText, nameAt, rowLine, tableHead}
 use Rattle.report.specs.Whole.{mostText, masterOf, mastersOf, rowAt, tableText}
 use Rattle.text.proofs.Lengths.{decimal-most, decimal-any, texts-most}
 use Rattle.text.proofs.Numbers.{length-places}
+use Rattle.phrases.proofs.Lengths.{refused-most}
 
 -- ---- P-NET
 
@@ -95,17 +96,6 @@ table-most u slots rows row name few small =
 
 -- ---- Refusals
 
-place-most : (n p : ℕ) → length (placeEnd n p) ≤ 35
-unfolding placeEnd placeText
-place-most n p = split (leb n 7) (leb n 9) (eqb n 12)
-  where
-    split : (a b c : Bool)
-        → length (cond a (word " at byte " ++ decimal p) (cond b (word " at stream " ++ decimal p) (cond c (word " at variable " ++ decimal p) [])) ++ word "\n") ≤ 35
-    split true b c = simp length-append (omega (arith, decimal-any p))
-    split false true c = simp length-append (omega (arith, decimal-any p))
-    split false false true = simp length-append (omega (arith, decimal-any p))
-    split false false false = omega arith
-
 pub refusal-most : (n p : ℕ) → length (refusalText n p) ≤ 64
 unfolding refusalText
-refusal-most n p = omega (arith, length-append (decimal n) (placeEnd n p), decimal-any n, place-most n p)
+refusal-most n p = omega (arith, length-append (refusedText n p) (word "\n"), refused-most n p)

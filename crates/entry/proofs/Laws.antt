@@ -1,0 +1,83 @@
+-- What one digit more says, and that a number that 32 bits do not hold stays one. Assumes nothing.
+use Prim.Native.Nat.{ℕ, _+_, _-_, _*_, _≤_, _<_, min}
+use mathlib.Core.Path.{_≡_, refl, sym, ap, _∙_}
+use mathlib.Core.List.{List, [], _∷_}
+use mathlib.Core.Bool.{Bool, true, false, cond, _&&_, _||_, true≢false, false≢true}
+use native.Mathlib.Numerals.{add-one}
+use native.Mathlib.Omega.{arith}
+use borrow.Author.Tests.{ltb-true, ltb-false, le-leb, lt-leb, ne-eqb}
+use lib.Dec.{leb, ltb}
+use lib.ListN.{length, getD, drop}
+use lib.Seq.{drop-cons, drop-length}
+use Rattle.entry.specs.declared.Entered.{Entered}
+use Rattle.entry.specs.declared.Entered.the-variants as answer
+use Rattle.entry.specs.Entered.{isDigit, allDigits, valueBehind, enteredOf}
+
+-- ---- One digit
+
+-- the code's test
+pub in-range : (d : ℕ) → (ltb d 48 || ltb 57 d) ≡ false → (48 ≤ d) × (d ≤ 57)
+in-range d h = by (ltb d 48) (ltb 57 d) refl refl h
+  where
+    by : (a b : Bool) → ltb d 48 ≡ a → ltb 57 d ≡ b → (a || b) ≡ false → (48 ≤ d) × (d ≤ 57)
+    by false false p q h = (ltb-false d 48 p, ltb-false 57 d q)
+    by false true p q h = absurd (true≢false h)
+    by true b p q h = absurd (true≢false h)
+
+is-digit : (d : ℕ) → 48 ≤ d → d ≤ 57 → isDigit d ≡ true
+unfolding isDigit
+is-digit d lo hi = simp (le-leb 48 d lo, le-leb d 57 hi)
+
+is-none : (d : ℕ) → (ltb d 48 || ltb 57 d) ≡ true → isDigit d ≡ false
+unfolding isDigit
+is-none d h = by (ltb d 48) (ltb 57 d) refl refl h
+  where
+    by : (a b : Bool) → ltb d 48 ≡ a → ltb 57 d ≡ b → (a || b) ≡ true → (leb 48 d && leb d 57) ≡ false
+    by true b p q h = simp (lt-leb 48 d (ltb-true d 48 p))
+    by false true p q h = simp (le-leb 48 d (ltb-false d 48 p), lt-leb d 57 (ltb-true 57 d q))
+    by false false p q h = absurd (false≢true h)
+
+-- ---- What digits say behind n
+
+-- two numbers that count as one still do with more digits
+alike : (m n : ℕ) (t : List ℕ) → min m 4294967295 ≡ min n 4294967295 → min (valueBehind m t) 4294967295 ≡ min (valueBehind n t) 4294967295
+unfolding valueBehind
+alike m n [] e = e
+alike m n (b ∷ t) e = alike (m * 10 + (b - 48)) (n * 10 + (b - 48)) t (omega arith)
+
+-- the answer, with n for the digits so far and t for what is left
+unfoldable pub enteredBehind : ℕ → List ℕ → Entered
+enteredBehind n t = cond (allDigits t) (answer.Number (min (valueBehind n t) 4294967295)) answer.Nothing
+
+module _ (n d : ℕ) (t : List ℕ) where
+  pub behind-digit : 48 ≤ d → d ≤ 57 → enteredBehind n (d ∷ t) ≡ enteredBehind (min (n * 10 + (d - 48)) 4294967295) t
+  unfolding enteredBehind allDigits valueBehind
+  behind-digit lo hi =
+      rw (is-digit d lo hi)
+      (ap (λ (v : ℕ). cond (allDigits t) (answer.Number v) answer.Nothing) (alike (n * 10 + (d - 48)) (min (n * 10 + (d - 48)) 4294967295) t (omega arith)))
+
+  pub behind-other : (ltb d 48 || ltb 57 d) ≡ true → enteredBehind n (d ∷ t) ≡ answer.Nothing
+  unfolding enteredBehind allDigits
+  behind-other h = rw (is-none d h) refl
+
+pub behind-none : (n : ℕ) → n ≤ 4294967295 → enteredBehind n [] ≡ answer.Number n
+unfolding enteredBehind allDigits valueBehind
+behind-none n s = ap answer.Number (omega arith)
+
+-- ---- The walk
+
+pub entered-empty : (t : List ℕ) → length t ≡ 0 → enteredOf t ≡ answer.Nothing
+unfolding enteredOf
+entered-empty [] e = refl
+entered-empty (b ∷ t) e = absurd (omega arith)
+
+pub entered-some : (t : List ℕ) → (length t ≡ 0 → ⊥) → enteredOf t ≡ enteredBehind 0 t
+unfolding enteredOf enteredBehind
+entered-some t some = rw (ne-eqb (length t) 0 some) refl
+
+-- what is left begins with the next byte
+pub left-more : (t : List ℕ) (i : ℕ) → i < length t → drop i t ≡ getD t i 0 ∷ drop (i + 1) t
+left-more t i h = drop-cons t i 0 h ∙ ap (λ (k : ℕ). getD t i 0 ∷ drop k t) (sym (add-one i))
+
+pub left-none : (t : List ℕ) (i : ℕ) → i ≡ length t → drop i t ≡ []
+left-none t i e = ap (λ (k : ℕ). drop k t) e ∙ drop-length t
