@@ -22,20 +22,25 @@ use Rattle.pnet_run.specs.Run.{Request, Answer, Queues, Token, Run}
 use Rattle.pnet_run.specs.Promise.{Spaced, Answered, Safe, Reached, Accepted, Even}
 use Rattle.pnet_run.proofs.Demand.{accepted-if-none-is-late, each-request-is-answered-within-the-bound, some-run-takes-exactly-the-bound, no-lower-figure-would-be-true}
 
+-- 'an accepted P-NET sheet': it is read, and each stream passes
+pub accepted-on-bus : (s : List ℕ) (H : Sheet) → refusals.OnBus s H → ((i : ℕ) → 1 ≤ i → i ≤ segmentOf H .number → refusals.Passes (segmentOf H) i)
+    → Accepted (segmentOf H)
+unfolding late
+accepted-on-bus s H bus pass =
+    accepted-if-none-is-late (segmentOf H) (declared s H (reading-read s H (bus .reads)) (bus .pnet))
+    (λ i from to. le-ltb (segmentOf H .stream i .deadline) (bound (segmentOf H) (segmentOf H .stream i .master)) (pass i from to .in-time))
+
 -- the bytes s, and the three lent runs before the call; the planner accepts the sheet H that the bytes say
 module _ (s bounds refined rounds : List ℕ) (H : Sheet) (accepts : planned s (length bounds) (length refined) (length rounds) ≡ Read H) where
   passed : refusals.Accepted s (length bounds) (length refined) (length rounds) H
   passed = accepted-exactly s (length bounds) (length refined) (length rounds) H .0 accepts
 
-  in-range : Declared (segmentOf H)
-  in-range = declared s H (reading-read s H (passed .on-bus .reads)) (passed .on-bus .pnet)
-
-  -- 'an accepted P-NET sheet': what the planner accepts is one
+  -- what the planner accepts is one
   pub accepted-as-demanded : Accepted (segmentOf H)
-  unfolding late
-  accepted-as-demanded =
-      accepted-if-none-is-late (segmentOf H) in-range
-      (λ i from to. le-ltb (segmentOf H .stream i .deadline) (bound (segmentOf H) (segmentOf H .stream i .master)) (passed .passes i from to .in-time))
+  accepted-as-demanded = accepted-on-bus s H (passed .on-bus) (passed .passes)
+
+  in-range : Declared (segmentOf H)
+  in-range = accepted-as-demanded .declared
 
   -- k is one of its masters
   module _ (k : ℕ) (from : 1 ≤ k) (to : k ≤ H .head .a) where

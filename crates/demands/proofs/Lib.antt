@@ -9,3 +9,4 @@ pub mod Passing
 pub mod Captured
 pub mod CapturedBytes
 pub mod CaptureCase
+pub mod Relayed
