@@ -1,4 +1,4 @@
-"""Write the sample sheets and captures and their listings, or say whether they are current.
+"""Write the sample sheets, captures and paths and their listings, or say whether they are current.
 
     make.py            writes every NAME.sheet, NAME.capture and NAME.txt beside this file
     make.py --check    changes nothing; exit status 1 if a file is not current
@@ -221,6 +221,48 @@ CAPTURES = [
     ),
 ]
 
+# name, what it shows, segments (a sheet above and the master that sends there), forwarding times and deadline in bp, expected report
+PATHS = [
+    (
+        "path-two-segments",
+        "Accepted. Master 1 of the first segment asks; master 2 of the second is the\n"
+        "gateway. 1,000 bp, 30 bp, 2,000 bp, and 30 bp once more for the reply.",
+        [("pnet-two-masters", 1), ("pnet-four-masters", 2)],
+        [30],
+        3_060,
+        "P-NET path\n"
+        "segment 1 M01 bound 1000 bp\n"
+        "gateway 1 request 30 bp reply 30 bp\n"
+        "segment 2 M02 bound 2000 bp\n"
+        "total 3060 bp deadline 3060 bp\n",
+    ),
+    (
+        "path-late",
+        "Refused with 19. The deadline is one bp below the total.",
+        [("pnet-two-masters", 1), ("pnet-four-masters", 2)],
+        [30],
+        3_059,
+        "refused 19\n",
+    ),
+    (
+        "path-late-sheet",
+        "Refused with 8. The second sheet is refused for itself, whoever sends there.",
+        [("pnet-two-masters", 1), ("pnet-four-masters-late", 3)],
+        [30],
+        100_000,
+        "refused 8 at stream 3 of segment 2\n",
+    ),
+    (
+        "path-silent-gateway",
+        "Refused with 18. Master 2 of the second segment has no streams: the relayed\n"
+        "stream has to stand in the sheet of every segment that it crosses.",
+        [("pnet-two-masters", 1), ("pnet-silent-masters", 2)],
+        [30],
+        100_000,
+        "refused 18 at segment 2\n",
+    ),
+]
+
 
 def record(kind, *numbers):
     body = b"".join(n.to_bytes(f[0], "big") for n, f in zip(numbers, FIELDS[kind]))
@@ -278,10 +320,22 @@ def sheet_files():
         yield name + ".txt", listing(name, about, records, cut, report).encode("ascii")
 
 
+def path_files(made):
+    for name, about, segments, times, deadline, report in PATHS:
+        told = second_opinion.path_report([(made[sheet + ".sheet"], master) for sheet, master in segments], times, deadline)
+        if told != report.encode("ascii"):
+            sys.exit("%s: the second opinion reports otherwise:\n%s" % (name, told.decode("ascii")))
+        command = "planner --path"
+        for number, (sheet, master) in zip([deadline] + times, segments):
+            command += " %d bp %s.sheet %d" % (number, sheet, master)
+        yield name + ".txt", (command + "\n\n" + about + "\n\nReport:\n\n" + report).encode("ascii")
+
+
 def files():
     """Every file's name and contents."""
     made = dict(sheet_files())
     made.update(capture_files(made))
+    made.update(path_files(made))
     return made
 
 

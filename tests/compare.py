@@ -1,8 +1,8 @@
 """Compare a planner's reports with the second opinion's, byte by byte.
 
-    compare.py PROGRAM... [--seed S] [--count N] [--captures N] [--jobs J]
+    compare.py PROGRAM... [--seed S] [--count N] [--captures N] [--paths N] [--jobs J]
 
-So many sheets, and then so many pairs of a sheet and a capture.
+So many sheets, then so many pairs of a sheet and a capture, then so many paths.
 
 PROGRAM may be several words, so that a program built for another machine can
 be run under an emulator.
@@ -20,6 +20,7 @@ sys.path.insert(0, os.path.dirname(os.path.abspath(__file__)))
 sys.dont_write_bytecode = True
 
 import captures  # noqa: E402
+import paths  # noqa: E402
 import second_opinion  # noqa: E402
 import sheets  # noqa: E402
 
@@ -28,12 +29,15 @@ SECONDS_FOR_A_SHEET = 120
 COUNT_THAT_MEETS_ALL = 1000
 LEAST_OF_EACH = 10
 
-ACCEPTED = ["P-NET segment", "PROFIBUS ring", "WorldFIP table"]
-OF_SHEETS = ["accepted, " + head for head in ACCEPTED] + [
+ACCEPTED = ["P-NET segment", "PROFIBUS ring", "WorldFIP table", "P-NET path"]
+OF_SHEETS = ["accepted, " + head for head in ACCEPTED[:3]] + [
     "refused %d" % number for number in range(1, 13)
 ]
 OF_CAPTURES = ["every answer within its bound", "answers above the bound"] + [
     "capture refused %d" % number for number in (1, 2, 14, 15, 16)
+]
+OF_PATHS = ["accepted, P-NET path", "sheet of a path refused"] + [
+    "path refused %d" % number for number in (4, 17, 18, 19)
 ]
 
 
@@ -44,6 +48,10 @@ def outcome(report):
     if lines[0] == "P-NET capture":
         return lines[-1].split(" in ")[0]
     refused = " ".join(lines[0].split()[:2])
+    if " of segment " in lines[0]:
+        return "sheet of a path refused"
+    if lines[0] == "refused 19" or any(word in lines[0] for word in ("gateway", "deadline", "segment")):
+        return "path " + refused
     return "capture " + refused if " capture " in lines[0] else refused
 
 
@@ -104,8 +112,27 @@ def compare_pair(task):
         return compare_one((program + names, label, capture, given, expected))
 
 
+def compare_path(task):
+    """By files, now and then with one of them on standard input."""
+    program, name, segments, times, deadline = task
+    expected = second_opinion.path_report(segments, times, deadline)
+    with tempfile.TemporaryDirectory() as folder:
+        words = ["--path", str(deadline), "bp"]
+        given = b""
+        for number, (data, master) in enumerate(segments):
+            file_name = os.path.join(folder, "%d.sheet" % number)
+            with open(file_name, "wb") as file:
+                file.write(data)
+            if number == 1 and len(data) % 3 == 0:
+                file_name, given = "-", data
+            words += ([str(times[number - 1]), "bp"] if number else []) + [file_name, str(master)]
+        label = "path %s | %s bp | %d bp: %s" % (
+            ", ".join("%s:%d" % (shortened(data.hex(), 200), master) for data, master in segments), times, deadline, name)
+        return compare_one((program + words, label, b"", given, expected))
+
+
 def arguments(words):
-    options = {"--seed": 1, "--count": 3000, "--captures": 1000, "--jobs": os.cpu_count() or 1}
+    options = {"--seed": 1, "--count": 3000, "--captures": 1000, "--paths": 1000, "--jobs": os.cpu_count() or 1}
     program = []
     rest = iter(words)
     for word in rest:
@@ -147,11 +174,13 @@ def main():
     if shutil.which(program[0]) is None:
         sys.exit("no such program: %s" % program[0])
     seed, jobs = options["--seed"], options["--jobs"]
-    count, pairs = options["--count"], options["--captures"]
+    count, pairs, ways = options["--count"], options["--captures"], options["--paths"]
     tasks = ((program, name, data) for name, data in sheets.sheets(seed, count))
     good = compare_all(compare_sheet, tasks, count, OF_SHEETS, jobs, "sheets")
     tasks = ((program, *pair) for pair in captures.captures(seed, pairs))
     good &= compare_all(compare_pair, tasks, pairs, OF_CAPTURES, jobs, "pairs of a sheet and a capture")
+    tasks = ((program, *path) for path in paths.paths(seed, ways))
+    good &= compare_all(compare_path, tasks, ways, OF_PATHS, jobs, "paths")
     return 0 if good else 1
 
 

@@ -46,9 +46,12 @@ PHRASES = (
     "%d for its completed answer" % second_opinion.ANSWER,
     "true below %d bp" % second_opinion.COUNTER,
     "neither %d nor %d" % (second_opinion.REQUEST, second_opinion.ANSWER),
+    "0..%d bp" % second_opinion.FORWARDING_LIMIT,
+    "1..%d bp" % second_opinion.BILLION,
+    "1 to %d gateways" % second_opinion.GATEWAYS_LIMIT,
 )
 # those that a program can show: its own room is never short, so 13 is not among them
-REFUSALS = [number for number in range(1, 17) if number != 13]
+REFUSALS = [number for number in range(1, 20) if number != 13]
 GOOD_SHEET = bytes.fromhex("0101020100cb000003e8000003e8")
 KIND = re.compile(r" {3}(\d) +(\d+)  ([^:]+): (.*)")
 FIELD = re.compile(r"(.+) \((\d)\) (?:(any)|(\d+)\.\.(\w+)(?: (bp|us))?)$")
@@ -124,6 +127,17 @@ def complaint_troubles(program, words, part):
         yield "%s: wrote %r, and said %r" % (words, out, err)
 
 
+def path_troubles(program, sheet, missing):
+    """Words behind --path that are not fours of a number, its unit, a sheet and a master."""
+    first = ["--path", "1000", "bp", sheet, "1"]
+    for words in (["--path"], ["--path", "1000"], first[:4], first + ["5", "bp"], first + ["5", "bp", sheet]):
+        yield from complaint_troubles(program, words, "DEADLINE bp")
+    for at, word in ((1, "1000bp"), (1, ""), (1, "-1"), (2, "us"), (2, ""), (4, "M1"), (4, "1.0")):
+        yield from complaint_troubles(program, first[:at] + [word] + first[at + 1 :], "cannot take " + word)
+    yield from complaint_troubles(program, first + ["5", "bp", missing, "1"], missing)
+    yield from complaint_troubles(program, first[:3] + ["-", "1", "5", "bp", "-", "1"], "standard input")
+
+
 def main(program):
     if not program:
         sys.exit(__doc__)
@@ -145,6 +159,7 @@ def main(program):
         troubles += complaint_troubles(program, [sheet, folder], folder)
         troubles += complaint_troubles(program, [folder, sheet], folder)
         troubles += complaint_troubles(program, ["-", "-"], "standard input")
+        troubles += path_troubles(program, sheet, missing)
     for trouble in troubles:
         print(trouble)
     print("the program's help and complaints: %d wrong" % len(troubles))

@@ -1,4 +1,4 @@
-"""Run a planner on every sample sheet and capture and compare its report with the one in the listing.
+"""Run a planner on every sample sheet, capture and path and compare its report with the one in the listing.
 
     samples.py PROGRAM...
 """
@@ -34,8 +34,20 @@ def main(program):
         if done.stdout != expected:
             wrong += 1
             print("%s\nexpected %r\ngot      %r" % (capture.name, expected, done.stdout))
-    print("%d sample sheets, %d captures, %d reports differ" % (len(sheets), len(captures), wrong))
-    return 1 if wrong or not sheets or not captures else 0
+    paths = sorted(SAMPLES.glob("path-*.txt"))
+    for path in paths:
+        listing = path.read_bytes()
+        expected = listing.split(b"\nReport:\n\n", 1)[1]
+        # the listing's first line is the command as a user in the samples' folder would type it
+        typed = listing.split(b"\n", 1)[0].decode("ascii").split()[1:]
+        words = program + [str(SAMPLES / word) if word.endswith(".sheet") else word for word in typed]
+        done = subprocess.run(words, stdout=subprocess.PIPE, check=False)
+        if done.stdout != expected:
+            wrong += 1
+            print("%s\nexpected %r\ngot      %r" % (path.name, expected, done.stdout))
+    found = (len(sheets), len(captures), len(paths))
+    print("%d sample sheets, %d captures, %d paths, %d reports differ" % (found + (wrong,)))
+    return 1 if wrong or 0 in found else 0
 
 
 if __name__ == "__main__":

@@ -1,4 +1,4 @@
-"""A second opinion on sheets and captures: pages 01 and 02 written again in plain Python.
+"""A second opinion on sheets, captures and paths: pages 01 and 02 written again in plain Python.
 
 It shares no code with the planner, so that the two can only agree where both
 follow the page. It favours the page's own words over speed: the refined
@@ -29,6 +29,9 @@ WorldfipPlan = namedtuple("WorldfipPlan", "microcycle slots rows rank")
 # what a capture shows of each stream: master and bound, then answers, largest response, answers above the
 # bound and requests left open
 Shown = namedtuple("Shown", "master bound answers largest above left")
+
+# bounds: R of each segment's sender; total: what the path costs
+Crossed = namedtuple("Crossed", "bounds total")
 
 # place: the place just after the record
 Written = namedtuple("Written", "place record")
@@ -415,6 +418,47 @@ def compare_capture(data, capture, lent=None):
     return [Shown(master, bound, *figure) for master, bound, figure in zip(masters, bounds, figures)]
 
 
+# ---------------------------------------------------------------- paths
+
+GATEWAYS_LIMIT = 10
+FORWARDING_LIMIT = 1_000_000
+
+
+def first_refused(segments):
+    """The first segment, from 1, whose sheet the planner refuses, with that refusal; or nothing."""
+    for number, (data, _) in enumerate(segments, start=1):
+        plan = plan_pnet(data)
+        if isinstance(plan, Refusal):
+            return number, plan
+    return None
+
+
+def cross_path(segments, times, deadline):
+    """What a path of segments, each a sheet and the master that sends there, costs with its gateways' times."""
+    refused = first_refused(segments)
+    if refused:
+        return refused[1]
+    gateways = max(len(segments) - 1, 0)
+    if not 1 <= gateways <= GATEWAYS_LIMIT:
+        return Refusal(17, gateways)
+    for number, time in enumerate(times, start=1):
+        if not 0 <= time <= FORWARDING_LIMIT:
+            return Refusal(4, number)
+    if not 1 <= deadline <= BILLION:
+        return Refusal(4, 0)
+    bounds = []
+    for number, (data, master) in enumerate(segments, start=1):
+        if master not in [stream[0] for stream in read(data).streams]:
+            return Refusal(18, number)
+        bounds.append(plan_pnet(data).bound[master - 1])
+    # the request goes forth, hop by hop; then the reply passes the gateways once more
+    total = bounds[0]
+    for time, bound in zip(times, bounds[1:]):
+        total += time + bound
+    total += sum(times)
+    return Refusal(19, 0) if total > deadline else Crossed(bounds, total)
+
+
 # ---------------------------------------------------------------- report
 
 
@@ -506,6 +550,31 @@ def capture_lines(data, capture):
 def capture_report(data, capture):
     """The program's standard output for this sheet and this capture, byte for byte."""
     return "".join(line + "\n" for line in capture_lines(data, capture)).encode("ascii")
+
+
+def path_lines(segments, times, deadline):
+    refused = first_refused(segments)
+    if refused:
+        number, refusal = refused
+        return ["%s of segment %d" % (refusal_line(refusal), number)]
+    crossed = cross_path(segments, times, deadline)
+    if isinstance(crossed, Refusal):
+        number, place = crossed
+        where = {17: " at %d gateways", 18: " at segment %d", 4: " at gateway %d" if place else " at deadline"}
+        words = where.get(number, "")
+        return ["refused %d" % number + (words % place if "%" in words else words)]
+    lines = ["P-NET path"]
+    for number, ((_, master), bound) in enumerate(zip(segments, crossed.bounds), start=1):
+        if number > 1:
+            lines.append("gateway %d request %d bp reply %d bp" % ((number - 1,) + (times[number - 2],) * 2))
+        lines.append("segment %d M%02d bound %d bp" % (number, master, bound))
+    lines.append("total %d bp deadline %d bp" % (crossed.total, deadline))
+    return lines
+
+
+def path_report(segments, times, deadline):
+    """The program's standard output for this path, byte for byte."""
+    return "".join(line + "\n" for line in path_lines(segments, times, deadline)).encode("ascii")
 
 
 def main(names):

@@ -50,6 +50,8 @@ def shown(answer):
         )
     if isinstance(answer, list) and all(isinstance(one, opinion.Shown) for one in answer):
         return "; ".join("%d %d %d %d" % one[2:] for one in answer)
+    if isinstance(answer, opinion.Crossed):
+        return "total %d" % answer.total
     if isinstance(answer, opinion.Written):
         return "%s then %d" % (answer.record.hex(), answer.place)
     if isinstance(answer, bytes):
@@ -148,6 +150,53 @@ capture | 0101 020100cb000003e8000003e8 | 11 0000 00000000 | 14 at 0
 capture | 0101 020100cb000003e8000003e8 | 10 0001 fffffff0 11 0001 00000010 | 1 32 0 0
 """
 
+# segments (a sheet in hex, A for the one below, - for none, and the sending master), forwarding times, D, answer; n*x is n times x
+SHEET_A = "0102 020100cb0000270f0000270f 020200cb0000270f0000270f"
+PATHS = """
+12*A:1 | 11*0 | 1000 | 17 at 11
+11*A:1, -:1 | 11*0 | 1000 | 1 at 0
+63:1 | - | 1000 | 2 at 0
+A:1, 0102 020100cb0000006300000063:1 | 5 | 99999 | 8 at 1
+0102 020100cb0000006300000063:1, 63:1 | 5 | 99999 | 8 at 1
+- | - | 0 | 17 at 0
+A:1 | - | 0 | 17 at 0
+A:1, A:2 | 30 | 1060 | total 1060
+A:1, A:2 | 30 | 1059 | 19 at 0
+A:9, A:2 | 1000001 | 0 | 4 at 1
+A:9, A:2 | 1000000 | 0 | 4 at 0
+A:1, A:9 | 0 | 1 | 18 at 2
+11*A:1 | 10*0 | 5500 | total 5500
+11*A:1 | 10*0 | 5499 | 19 at 0
+11*A:2 | 10*1000000 | 20005500 | total 20005500
+11*A:2 | 9*1000000, 1000001 | 20005500 | 4 at 10
+A:1, A:1 | 0 | 1000000001 | 4 at 0
+A:1, A:1 | 0 | 1000000000 | total 1000
+A:0, A:1 | 0 | 1000 | 18 at 1
+A:1, 0103 020200cb0000270f0000270f:1 | 0 | 1000 | 18 at 2
+A:1, 05 00000190 06 0011 000003e8:1 | 0 | 1000 | 3 at 0
+A:1, 05 00000190:1 | 0 | 1000 | 6 at 5
+"""
+
+
+def repeated(text):
+    """What a list in the words above says, one by one."""
+    for part in text.split(","):
+        times, star, one = part.strip().rpartition("*")
+        if one != "-":
+            yield from [one] * (int(times) if star else 1)
+
+
+def path_of(text):
+    """A line's segments, times, deadline and answer."""
+    segments, times, deadline, expected = [part.strip() for part in text.split("|")]
+    made = []
+    for one in repeated(segments):
+        data, master = one.split(":")
+        data = {"A": SHEET_A, "-": ""}.get(data.strip(), data)
+        made.append((bytes.fromhex(data), int(master)))
+    return made, [int(time) for time in repeated(times)], int(deadline), expected
+
+
 # what the page or the readings say in prose, without an input of their own
 PROSE = [
     # 13 comes after 3, 10 and 11, and before 8 and 12
@@ -217,6 +266,24 @@ PROSE = [
      "answers above the bound in 1 streams, first stream 1\n"),
     ("a refused capture", lambda: opinion.capture_report(sheet(*TWO_MASTERS), events((17, 1, 0))),
      "refused 15 at capture byte 0\n"),
+    ("the report of a path",
+     lambda: opinion.path_report([(sheet(*TWO_MASTERS), 1), (sheet(*FOUR_MASTERS), 2)], [30], 3_060),
+     "P-NET path\n"
+     "segment 1 M01 bound 1000 bp\n"
+     "gateway 1 request 30 bp reply 30 bp\n"
+     "segment 2 M02 bound 2000 bp\n"
+     "total 3060 bp deadline 3060 bp\n"),
+    ("a refused sheet of a path",
+     lambda: opinion.path_report([(sheet(*TWO_MASTERS), 1), (sheet(*FOUR_MASTERS_LATE), 2)], [0], 1),
+     "refused 8 at stream 5 of segment 2\n"),
+    ("an empty path", lambda: opinion.path_report([], [], 1), "refused 17 at 0 gateways\n"),
+    ("a slow gateway",
+     lambda: opinion.path_report([(sheet(*TWO_MASTERS), 1)] * 3, [0, 1_000_001], 1), "refused 4 at gateway 2\n"),
+    ("no deadline", lambda: opinion.path_report([(sheet(*TWO_MASTERS), 1)] * 2, [0], 0), "refused 4 at deadline\n"),
+    ("a master without streams",
+     lambda: opinion.path_report([(sheet(*TWO_MASTERS), 1), (sheet(*TWO_MASTERS), 3)], [0], 1), "refused 18 at segment 2\n"),
+    ("a deadline that is missed",
+     lambda: opinion.path_report([(sheet(*TWO_MASTERS), 1)] * 2, [0], 1_999), "refused 19\n"),
     ("unknown kind to the writer", lambda: opinion.write_record(0, 9, 7, ()), "2 at 9"),
     ("a whole record", lambda: opinion.write_record(14, 2, 2, (32, 1_548, 9, 9)),
      "0220060c0000000900000009 then 14"),
@@ -256,6 +323,9 @@ def vectors():
         else:
             data = [bytes.fromhex(part.replace("-", "")) for part in given]
             yield line, lambda n=name, d=data: call(n, *d), expected
+    for line in PATHS.strip().splitlines():
+        *path, expected = path_of(line)
+        yield line, lambda p=path: opinion.cross_path(*p), expected
     yield from PROSE
 
 

@@ -1,7 +1,7 @@
 // A tester's capture beside the bounds of a sheet, read piece by piece: nothing is kept of a capture but what `tally::take` keeps.
+use crate::complain;
 use crate::input::read_all;
-use libc::STDERR_FILENO;
-use libc::STDOUT_FILENO;
+use crate::write;
 use pnet::Plan;
 use sheet::MOST;
 use tally::Taken;
@@ -12,12 +12,6 @@ const PIECE: usize = 65_534;
 
 // No place of a capture is counted behind this one, 2^63.
 const LAST: usize = 9_223_372_036_854_775_808;
-
-fn write(text: &[u8]) {
-    if !io::write_all(STDOUT_FILENO, text) {
-        os::fail(b"standard output");
-    }
-}
 
 // A refusal of the sheet.
 fn write_refusal(no: u8, place: usize) {
@@ -92,10 +86,7 @@ fn hear(fd: i32, name: &[u8], streams: usize, masters: &[u8; MOST], bound: &[u32
         }
         before += PIECE;
     }
-    io::write_all(
-        STDERR_FILENO,
-        b"planner: the capture is too long to be counted\n",
-    );
+    complain(b"planner: the capture is too long to be counted\n");
 }
 
 // Lays the capture behind a descriptor beside the bounds of a sheet.

@@ -1,4 +1,4 @@
-// What --help writes: what the bytes of a sheet and of a capture are, with units.
+// What --help writes: what the bytes of a sheet and of a capture are, and what a path is, with units.
 use libc::STDOUT_FILENO;
 
 fn line(text: &[u8]) {
@@ -12,6 +12,10 @@ fn usage() {
     line(b"planner < SHEET          reads the sheet from standard input");
     line(b"planner SHEET            reads it from the file SHEET");
     line(b"planner SHEET CAPTURE    lays a tester's capture beside the bounds of a P-NET sheet");
+    line(b"planner --path DEADLINE bp SHEET MASTER TIME bp SHEET MASTER ..");
+    line(
+        b"                         goes over a path of several P-NET segments, for as many gateways as TIMEs",
+    );
     line(b"planner --help           writes this");
     line(b"");
     line(b"- stands for standard input: planner SHEET - < CAPTURE");
@@ -65,6 +69,21 @@ fn captures() {
     );
 }
 
+fn paths() {
+    line(
+        b"A path has 1 to 10 gateways and a sheet for each segment. MASTER sends there, after the first segment the gateway: the relayed stream stands in every",
+    );
+    line(
+        b"sheet, under the master that carries it. TIME: the gateway's forwarding time, 0..1000000 bp. DEADLINE: of the whole path, 1..1000000000 bp.",
+    );
+    line(
+        b"Its report has a line for each hop. total: each segment's bound for its MASTER, and each TIME twice, for the request and for its reply. The reply is",
+    );
+    line(
+        b"there within it, if each MASTER keeps its spacing and each gateway its time, and if no reply waits for a token on its way back.",
+    );
+}
+
 fn refusals() {
     line(b"A sheet that cannot be planned is refused with a number and a place:");
     line(b"   1  it is empty, or ends inside a record     2  a kind that is not 1..6");
@@ -74,9 +93,13 @@ fn refusals() {
     line(b"   9  a PROFIBUS stream fails at L            10  no exchange fits a microcycle");
     line(b"  11  more than 4096 rows                     12  a variable misses its period");
     line(b"  14  a stream that is not on the sheet       15  an answer with no request open");
-    line(b"  16  a request while one is open");
+    line(b"  16  a request while one is open             17  a path of not 1 to 10 gateways");
+    line(b"  18  a MASTER absent or without streams      19  a path's total above its DEADLINE");
     line(
         b"In a capture 1 is a record that is cut, 2 a kind that is neither 16 nor 17, and the place is a byte of the capture.",
+    );
+    line(
+        b"In a path 4 is a TIME or the DEADLINE out of range; where a sheet is refused for itself, the line says of which segment.",
     );
 }
 
@@ -90,6 +113,8 @@ pub(crate) fn help() {
     figures();
     line(b"");
     captures();
+    line(b"");
+    paths();
     line(b"");
     refusals();
 }

@@ -1,5 +1,6 @@
 // Reads a sheet from standard input, or from the file that its argument names, and writes its report to standard output. With a
-// second name it lays that capture beside the sheet's bounds.
+// second name it lays that capture beside the sheet's bounds; behind `--path` it goes over several sheets.
+mod along;
 mod beside;
 mod help;
 mod input;
@@ -10,14 +11,16 @@ use libc::STDIN_FILENO;
 use libc::STDOUT_FILENO;
 use report::Reported;
 
+pub(crate) fn write(text: &[u8]) {
+    if !io::write_all(STDOUT_FILENO, text) {
+        os::fail(b"standard output");
+    }
+}
+
 fn write_report(s: &[u8]) {
     let mut text = report::text_buffer();
     match report::report(s, &mut text) {
-        Reported::Written(n) => {
-            if !io::write_all(STDOUT_FILENO, &text[..n]) {
-                os::fail(b"standard output");
-            }
-        }
+        Reported::Written(n) => write(&text[..n]),
         Reported::NoRoom => {}
     }
 }
@@ -35,7 +38,7 @@ fn plan(fd: i32, name: &[u8]) {
 }
 
 // The file of a name; `-` is standard input.
-fn open(name: &[u8]) -> i32 {
+pub(crate) fn open(name: &[u8]) -> i32 {
     if check::same(name, b"-") {
         return STDIN_FILENO;
     }
@@ -92,7 +95,7 @@ fn compare_files(sheet_name: &[u8], name: &[u8]) {
     libc::close(sheet_fd);
 }
 
-fn complain(words: &[u8]) {
+pub(crate) fn complain(words: &[u8]) {
     io::write_all(STDERR_FILENO, words);
 }
 
@@ -121,6 +124,10 @@ fn main() {
     let count = os::arg_count();
     if count < 2 {
         plan(STDIN_FILENO, b"standard input");
+        return;
+    }
+    if along::is_word(1, b"--path") {
+        along::plan(count);
         return;
     }
     if count > 3 {

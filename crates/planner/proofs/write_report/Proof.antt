@@ -22,17 +22,11 @@ enum-known-n c = search needs
 array-share-prefix-text : tie.Need-array-share-prefix-text
 array-share-prefix-text c = omega (arith, written-within _ _ _ (sym (c .before .n .given .1) ∙ c .before .before .before .before .report .ensures .0), c .before .before .before .before .report .kept .1 .0)
 
-slice-aggregate-write-all : tie.Need-slice-aggregate-write-all
-slice-aggregate-write-all c = sym (length-take-le _ _ (omega (arith, written-within _ _ _ (sym (c .before .before .n .given .1) ∙ c .before .before .before .before .before .report .ensures .0), c .before .before .before .before .before .report .kept .1 .0)))
+slice-aggregate-write : tie.Need-slice-aggregate-write
+slice-aggregate-write c = sym (length-take-le _ _ (omega (arith, written-within _ _ _ (sym (c .before .before .n .given .1) ∙ c .before .before .before .before .before .report .ensures .0), c .before .before .before .before .before .report .kept .1 .0)))
 
-write-all-requires : tie.Need-write-all-requires
-write-all-requires c κs = search needs
-
-slice-aggregate-fail : tie.Need-slice-aggregate-fail
-slice-aggregate-fail c = search needs
-
-fail-requires : tie.Need-fail-requires
-fail-requires c κs = search needs
+write-requires : tie.Need-write-requires
+write-requires c κs = search needs
 
 enum-told : tie.Need-enum-told
 enum-told c = search needs
@@ -43,9 +37,6 @@ returns c = search needs
 returns-2 : tie.Need-returns-2
 returns-2 c = search needs
 
-returns-3 : tie.Need-returns-3
-returns-3 c = search needs
-
 pub write-report-spec : {M : Type 1} → statement M
 write-report-spec =
-    tie.close (tie.spec text-buffer-requires slice-aggregate-report report-requires enum-known-n array-share-prefix-text slice-aggregate-write-all write-all-requires slice-aggregate-fail fail-requires enum-told returns returns-2 returns-3)
+    tie.close (tie.spec text-buffer-requires slice-aggregate-report report-requires enum-known-n array-share-prefix-text slice-aggregate-write write-requires enum-told returns returns-2)

@@ -83,11 +83,11 @@ loop-less c = omega arith
 loop-again : tie.Need-loop-again Inv-loop μ-loop
 loop-again c = (omega arith, long (c .before .before .before .before .before .before .before .before .before .before .before .before))
 
-slice-aggregate-write-all : tie.Need-slice-aggregate-write-all Inv-loop μ-loop
-slice-aggregate-write-all c = search needs
+slice-aggregate-complain : tie.Need-slice-aggregate-complain Inv-loop μ-loop
+slice-aggregate-complain c = search needs
 
-write-all-requires : tie.Need-write-all-requires Inv-loop μ-loop
-write-all-requires c κs = search needs
+complain-requires : tie.Need-complain-requires Inv-loop μ-loop
+complain-requires c κs = search needs
 
 returns-4 : tie.Need-returns-4 Inv-loop μ-loop
 returns-4 c = search needs
@@ -116,6 +116,6 @@ hear-spec =
     add-before
     loop-less
     loop-again
-    slice-aggregate-write-all
-    write-all-requires
+    slice-aggregate-complain
+    complain-requires
     returns-4)

@@ -1,0 +1,103 @@
+"""Paths over several segments, for comparing programs: segments, forwarding times and a deadline.
+
+The lines of the vectors come first. Then paths are made good, with a deadline around their cost, and some are damaged.
+"""
+
+import random
+
+import second_opinion
+import sheets
+import vectors
+from second_opinion import BILLION, FORWARDING_LIMIT, Crossed
+
+# arguments are decimal numbers of any size; these are the greatest of 32 bits, and the next
+WIDE = (2**32 - 1, 2**32)
+
+
+def small_segment(rng):
+    """A sheet that is accepted, and one of its senders."""
+    masters = rng.randint(1, 6)
+    streams = [
+        (rng.randint(1, masters), rng.randint(1, 300), 900_000, rng.randint(500_000, 900_000))
+        for _ in range(rng.randint(1, 12))
+    ]
+    return sheets.pnet_sheet(masters, streams), rng.choice(streams)[0]
+
+
+def time(rng):
+    return rng.choice([0, 1, rng.randint(0, 500), rng.randint(0, FORWARDING_LIMIT), FORWARDING_LIMIT])
+
+
+def good(rng):
+    gateways = rng.choice([1, 1, 2, 3, rng.randint(1, 10), 10])
+    segments = [small_segment(rng) for _ in range(gateways + 1)]
+    times = [time(rng) for _ in range(gateways)]
+    crossed = second_opinion.cross_path(segments, times, BILLION)
+    assert isinstance(crossed, Crossed)
+    return segments, times, crossed.total + rng.choice([0, 0, 1, rng.randint(0, 9_999)])
+
+
+def missed(rng):
+    segments, times, _ = good(rng)
+    total = second_opinion.cross_path(segments, times, BILLION).total
+    return segments, times, rng.choice([total - 1, 1, rng.randint(1, total - 1)])
+
+
+# ---------------------------------------------------------------- damage
+
+
+def slow_gateway(rng, segments, times, deadline):
+    times[rng.randrange(len(times))] = rng.choice([FORWARDING_LIMIT + 1, BILLION, *WIDE])
+    return segments, times, deadline
+
+
+def strange_deadline(rng, segments, times, deadline):
+    return segments, times, rng.choice([0, BILLION + 1, *WIDE])
+
+
+def strange_sender(rng, segments, times, deadline):
+    at = rng.randrange(len(segments))
+    segments[at] = (segments[at][0], rng.choice([0, 7, 32, 33, 200, 255, 256, 300, *WIDE]))
+    return segments, times, deadline
+
+
+def other_sheet(rng, segments, times, deadline):
+    at = rng.randrange(len(segments))
+    segments[at] = (rng.choice(sheets.FAMILIES)(rng), segments[at][1])
+    return segments, times, deadline
+
+
+def too_many(rng, segments, times, deadline):
+    more = 11 - len(times) + rng.randint(0, 3)
+    return segments + [small_segment(rng) for _ in range(more)], times + [time(rng) for _ in range(more)], deadline
+
+
+def too_few(rng, segments, times, deadline):
+    return segments[:1], [], deadline
+
+
+DAMAGES = [slow_gateway, strange_deadline, strange_sender, strange_sender, other_sheet, other_sheet, too_many, too_few]
+
+
+def damaged(rng):
+    path = good(rng)
+    for _ in range(rng.choice([1, 1, 2, 3])):
+        if path[1]:
+            path = rng.choice(DAMAGES)(rng, *path)
+    return path
+
+
+FAMILIES = [good, good, missed, damaged, damaged, damaged, damaged]
+
+
+def paths(seed, count):
+    """So many paths, each with a name."""
+    made = 0
+    for line in vectors.PATHS.strip().splitlines()[:count]:
+        yield (line,) + vectors.path_of(line)[:3]
+        made += 1
+    rng = random.Random("path %d" % seed)
+    while made < count:
+        family = rng.choice(FAMILIES)
+        yield ("%s %d" % (family.__name__, made),) + tuple(family(rng))
+        made += 1
