@@ -29,7 +29,7 @@ use Rattle.path.specs.Refusals.{Present, Sender, Accepted as AcceptedPath}
 use Rattle.path.proofs.Refusals.{accepted-exactly}
 use Rattle.path.specs.Ways.{answerOf, wayOver}
 use Rattle.path.proofs.Whole.{path-handed-over}
-use Rattle.demands.specs.Relayed.{Sent, Forwarded, sent, arrived, through, segmentFrom, segmentAt, senderAt, Exchange}
+use Rattle.demands.specs.Relayed.{Sent, Forwarded, sent, arrived, through, Asked, Awaited, asked, no-further, sent-on, segmentFrom, segmentAt, senderAt, Exchange, OnItsWay}
 use Rattle.demands.proofs.Demand3.{accepted-on-bus}
 
 -- ---- Any segments S with their senders k, gateways with their forwarding times F, and a figure R for each segment
@@ -48,6 +48,20 @@ module _ (S : ℕ → Segment) (k F R : ℕ → ℕ) where
       pub forwarded-within : (left i : ℕ) → 1 ≤ i → 2 * i + left ≤ 2 * n → {a b : ℕ} → Forwarded S k F left i a b → b ≤ a + gatewayStep R F left i
       forwarded-within zero i from to arrived = omega arith
       forwarded-within (suc left) i from to (through soon rest back) = omega (arith, sent-within left (i + 1) (omega arith) (omega arith) rest)
+
+    -- a request that is under way in runs that last gets its reply
+    mutual
+      pub asked-answered : (left i : ℕ) → 1 ≤ i → 2 * i + left ≤ 2 * n + 1 → {a : ℕ} → Asked S k F R left i a → (b : ℕ) × Sent S k F left i a b
+      asked-answered (suc left) i from to (asked {r = r} began run spaced own came lasts behind) =
+          let x = safe i from (omega arith) .ever run spaced .none-left r came own lasts in
+          let y = awaited-answered left i from (omega arith) (behind (x .0) (x .1)) in
+          (y .0, sent began run spaced own (x .1) (y .1))
+
+      pub awaited-answered : (left i : ℕ) → 1 ≤ i → 2 * i + left ≤ 2 * n → {a : ℕ} → Awaited S k F R left i a → (b : ℕ) × Forwarded S k F left i a b
+      awaited-answered zero i from to {a} no-further = (a, arrived)
+      awaited-answered (suc left) i from to (sent-on soon rest) =
+          let x = asked-answered left (i + 1) (omega arith) (omega arith) rest in
+          (x .0, through {b = x .0} soon (x .1) (omega arith))
 
   -- a run that takes R, begun so that its slow request comes at the instant a: the request is answered at c
   sent-exactly : {left b : ℕ} (i a c : ℕ) (x : Reached (R i) (S i) (k i)) → x .slow .since ≤ a → c ≡ a + R i → Forwarded S k F left i c b
@@ -82,6 +96,11 @@ module _ (S : ℕ → Segment) (k F R : ℕ → ℕ) where
       → b ≤ a + costOver R F g
   unfolding costOver
   each-is-within-the-cost g safe x = sent-within (g + 1) safe (2 * g + 1) 1 (omega arith) (omega arith) x
+
+  -- one that is asked for in runs that last comes to its end,
+  pub each-is-answered : (g : ℕ) → ((i : ℕ) → 1 ≤ i → i ≤ g + 1 → Safe (R i) (S i) (k i)) → {a : ℕ} → Asked S k F R (2 * g + 1) 1 a
+      → (b : ℕ) × Sent S k F (2 * g + 1) 1 a b
+  each-is-answered g safe x = asked-answered (g + 1) safe (2 * g + 1) 1 (omega arith) (omega arith) x
 
   -- and from some instant m on, one that begins at any instant a takes all of it.
   pub some-take-the-cost : (g : ℕ) → ((i : ℕ) → 1 ≤ i → i ≤ g + 1 → Reached (R i) (S i) (k i))
@@ -148,6 +167,12 @@ module _ (P : Path) (c : ℕ) (accepts : crossed P ≡ crossing.Within (bp c)) w
   -- so it is there within D
   pub the-reply-is-there-within-the-deadline : {a b : ℕ} → Exchange P a b → b ≤ a + P .deadline
   the-reply-is-there-within-the-deadline x = omega (arith, the-reply-is-there-within-the-cost x, the-cost-is-within-the-deadline)
+
+  -- and where the runs last, it comes: 'each request is answered within its bound' of demand 3, over the whole path
+  pub the-reply-comes-within-the-cost : {a : ℕ} → OnItsWay P a → (b : ℕ) × (Exchange P a b × (b ≤ a + c))
+  the-reply-comes-within-the-cost x =
+      let r = each-is-answered (segmentAt P) (senderAt P) (forwardingAt P) (boundAt P) (gateways P) safe x in
+      (r .0, (r .1, the-reply-is-there-within-the-cost (r .1)))
 
   -- On each segment every master's own streams are equally long, and every master but the sender is silent or has at least as many streams.
   module _ (even : (i : ℕ) → 1 ≤ i → i ≤ P .segments → Even (segmentAt P i) (senderAt P i)) where

@@ -14,8 +14,8 @@ use Rattle.sheet.specs.Whole.{Outcome}
 use Rattle.sheet.specs.Whole.Outcome.{Read, Not}
 use Rattle.segment.specs.Segment.{Segment, streamOf, segmentOf}
 use Rattle.pnet_run.specs.Run.{Belongs, Request, Answer, answer, Queues, Token, Run}
-use Rattle.pnet_run.specs.Promise.{Spaced}
-use Rattle.path.specs.Path.{Path, gateways, sheetAt, forwardingAt}
+use Rattle.pnet_run.specs.Promise.{Spaced, Lasts}
+use Rattle.path.specs.Path.{Path, gateways, sheetAt, boundAt, forwardingAt}
 
 -- segments S, their senders k, and the forwarding times F of the gateways behind them; a hop is a segment or a gateway
 mutual
@@ -30,6 +30,20 @@ mutual
     -- no hop is left: that answer is the reply
     arrived : {i a : ℕ} → Forwarded S k F zero i a a
     through : {left i a b c d : ℕ} → c ≤ a + F i → Sent S k F left (i + 1) c d → b ≤ d + F i → Forwarded S k F (suc left) i a b
+
+-- The same while no answer is known yet, in runs that last: R is what is promised on each segment.
+mutual
+  -- with so many hops left, at segment i: the request entered its sender's queue at the instant a, and the run there lasts for R from then on;
+  -- whenever it is answered, it is waited for behind the segment
+  pub data Asked (S : ℕ → Segment) (k F R : ℕ → ℕ) : ℕ → ℕ → ℕ → Type 0 where
+    asked : {left i t : ℕ} {y : Token} {q : Queues} {came : List Request} {went : List Answer} {r : Request} (began : ℕ)
+        → Run (S i) t y q came went → Spaced (S i) (k i) came → Belongs (S i) (k i) (r .of) → List·Memᴰ r came → Lasts t y (r .since + R i)
+        → ((u : ℕ) → List·Memᴰ (answer r u) went → Awaited S k F R left i (began + u)) → Asked S k F R (suc left) i (began + r .since)
+
+  -- with so many hops left, behind segment i: the request was answered there at the instant a, and the gateway sends it on in time
+  pub data Awaited (S : ℕ → Segment) (k F R : ℕ → ℕ) : ℕ → ℕ → ℕ → Type 0 where
+    no-further : {i a : ℕ} → Awaited S k F R zero i a
+    sent-on : {left i a c : ℕ} → c ≤ a + F i → Asked S k F R left (i + 1) c → Awaited S k F R (suc left) i a
 
 -- ---- The segments of a path, and who sends there
 
@@ -48,3 +62,7 @@ senderAt P i = P .hop i .sender
 -- over the whole of P: the request entered the queue of segment 1's sender at the instant a, and the reply was with that sender at b
 abbrev pub Exchange : Path → ℕ → ℕ → Type 0
 Exchange P a b = Sent (segmentAt P) (senderAt P) (forwardingAt P) (2 * gateways P + 1) 1 a b
+
+-- the request is on its way over the whole of P, and R is each segment's bound for its sender
+abbrev pub OnItsWay : Path → ℕ → Type 0
+OnItsWay P a = Asked (segmentAt P) (senderAt P) (forwardingAt P) (boundAt P) (2 * gateways P + 1) 1 a
