@@ -9,9 +9,10 @@ use borrow.Author.Tests.{ltb-true, ltb-false, le-leb, lt-leb, ne-eqb}
 use lib.Dec.{leb, ltb}
 use lib.ListN.{length, getD, drop}
 use lib.Seq.{drop-cons, drop-length}
+use Rattle.text.specs.Text.{readBehind}
 use Rattle.entry.specs.declared.Entered.{Entered}
 use Rattle.entry.specs.declared.Entered.the-variants as answer
-use Rattle.entry.specs.Entered.{isDigit, allDigits, valueBehind, enteredOf}
+use Rattle.entry.specs.Entered.{isDigit, allDigits, enteredOf}
 
 -- ---- One digit
 
@@ -24,7 +25,7 @@ in-range d h = by (ltb d 48) (ltb 57 d) refl refl h
     by false true p q h = absurd (true≢false h)
     by true b p q h = absurd (true≢false h)
 
-is-digit : (d : ℕ) → 48 ≤ d → d ≤ 57 → isDigit d ≡ true
+pub is-digit : (d : ℕ) → 48 ≤ d → d ≤ 57 → isDigit d ≡ true
 unfolding isDigit
 is-digit d lo hi = simp (le-leb 48 d lo, le-leb d 57 hi)
 
@@ -40,18 +41,18 @@ is-none d h = by (ltb d 48) (ltb 57 d) refl refl h
 -- ---- What digits say behind n
 
 -- two numbers that count as one still do with more digits
-alike : (m n : ℕ) (t : List ℕ) → min m 4294967295 ≡ min n 4294967295 → min (valueBehind m t) 4294967295 ≡ min (valueBehind n t) 4294967295
-unfolding valueBehind
+alike : (m n : ℕ) (t : List ℕ) → min m 4294967295 ≡ min n 4294967295 → min (readBehind m t) 4294967295 ≡ min (readBehind n t) 4294967295
+unfolding readBehind
 alike m n [] e = e
 alike m n (b ∷ t) e = alike (m * 10 + (b - 48)) (n * 10 + (b - 48)) t (omega arith)
 
 -- the answer, with n for the digits so far and t for what is left
 unfoldable pub enteredBehind : ℕ → List ℕ → Entered
-enteredBehind n t = cond (allDigits t) (answer.Number (min (valueBehind n t) 4294967295)) answer.Nothing
+enteredBehind n t = cond (allDigits t) (answer.Number (min (readBehind n t) 4294967295)) answer.Nothing
 
 module _ (n d : ℕ) (t : List ℕ) where
   pub behind-digit : 48 ≤ d → d ≤ 57 → enteredBehind n (d ∷ t) ≡ enteredBehind (min (n * 10 + (d - 48)) 4294967295) t
-  unfolding enteredBehind allDigits valueBehind
+  unfolding enteredBehind allDigits readBehind
   behind-digit lo hi =
       rw (is-digit d lo hi)
       (ap (λ (v : ℕ). cond (allDigits t) (answer.Number v) answer.Nothing) (alike (n * 10 + (d - 48)) (min (n * 10 + (d - 48)) 4294967295) t (omega arith)))
@@ -61,7 +62,7 @@ module _ (n d : ℕ) (t : List ℕ) where
   behind-other h = rw (is-none d h) refl
 
 pub behind-none : (n : ℕ) → n ≤ 4294967295 → enteredBehind n [] ≡ answer.Number n
-unfolding enteredBehind allDigits valueBehind
+unfolding enteredBehind allDigits readBehind
 behind-none n s = ap answer.Number (omega arith)
 
 -- ---- The walk

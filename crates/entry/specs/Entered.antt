@@ -1,9 +1,10 @@
 -- Page 02, 'Ask 4': a number as a user enters it, beside its unit. Assumes nothing.
-use Prim.Native.Nat.{ℕ, _+_, _-_, _*_, min}
+use Prim.Native.Nat.{ℕ, min}
 use mathlib.Core.List.{List, [], _∷_}
 use mathlib.Core.Bool.{Bool, true, cond, not, _&&_}
 use lib.ListN.{length}
 use lib.Dec.{eqb, leb}
+use Rattle.text.specs.Text.{readBehind}
 use Rattle.entry.specs.declared.Entered.{Entered}
 use Rattle.entry.specs.declared.Entered.the-variants as answer
 
@@ -16,12 +17,7 @@ unfolding isDigit
 allDigits [] = true
 allDigits (b ∷ t) = isDigit b && allDigits t
 
--- the number that digits say behind those of n
-unfoldable pub valueBehind : ℕ → List ℕ → ℕ
-valueBehind n [] = n
-valueBehind n (b ∷ t) = valueBehind (n * 10 + (b - 48)) t
-
 -- one decimal digit or more, and nothing else. A number that 32 bits do not hold counts as the greatest that they hold: both are out of every range
 unfoldable pub enteredOf : List ℕ → Entered
-unfolding allDigits valueBehind
-enteredOf t = cond (not (eqb (length t) 0) && allDigits t) (answer.Number (min (valueBehind 0 t) 4294967295)) answer.Nothing
+unfolding allDigits readBehind
+enteredOf t = cond (not (eqb (length t) 0) && allDigits t) (answer.Number (min (readBehind 0 t) 4294967295)) answer.Nothing

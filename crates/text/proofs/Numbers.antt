@@ -12,7 +12,7 @@ use lib.Seq.{sets}
 use borrow.Author.Tests.{lt-ltb, le-ltb, ltb-true, ltb-false}
 use Rattle.common.specs.Sums.{firstOf}
 use Rattle.common.proofs.Firsts.{first-is, first-hit}
-use Rattle.text.specs.Text.{digit, places, holds, widthOf, decimal}
+use Rattle.text.specs.Text.{digit, places, holds, widthOf, decimal, readBehind}
 use Rattle.text.proofs.Writing.{sets-more, sets-after}
 
 -- ---- k digits
@@ -64,11 +64,6 @@ unfolding decimal
 length-decimal n = length-places (widthOf n) n
 
 -- ---- What the digits say
-
--- a text of digits read from the left, behind the value v
-unfoldable pub readBehind : ℕ → List ℕ → ℕ
-readBehind v [] = v
-readBehind v (d ∷ ds) = readBehind (v * 10 + (d - 48)) ds
 
 read-append : (v : ℕ) (p q : List ℕ) → readBehind v (p ++ q) ≡ readBehind (readBehind v p) q
 unfolding readBehind

@@ -1,7 +1,7 @@
 -- Page 01, 'Sheets worked by hand': what the report's lines are made of. Words are fixed byte strings, numbers are decimal, and the unit
 -- words are always " bp" and " us". Assumes nothing.
 use mathlib.Core.Path.{_≡_}
-use Prim.Native.Nat.{ℕ, zero, suc, _+_, _-_, _/_, _%_, _^_, min}
+use Prim.Native.Nat.{ℕ, zero, suc, _+_, _-_, _*_, _/_, _%_, _^_, min}
 use Prim.Native.Char.{code}
 use Prim.Native.String.{String, [] as none, _∷_ as _then_}
 use mathlib.Core.List.{List, [], _∷_, _++_}
@@ -38,6 +38,11 @@ widthOf n = firstOf (holds n) 20 1
 -- a number: no leading zeros, `0` for 0
 unfoldable pub decimal : ℕ → List ℕ
 decimal n = places (widthOf n) n
+
+-- the number that digits say, read from the left, behind the value v
+unfoldable pub readBehind : ℕ → List ℕ → ℕ
+readBehind v [] = v
+readBehind v (d ∷ ds) = readBehind (v * 10 + (d - 48)) ds
 
 -- ---- Texts
 
