@@ -2,13 +2,14 @@
 use Prim.Native.Nat.{ℕ, _+_, _-_, _*_, _≤_, _<_, min}
 use mathlib.Core.Path.{_≡_, refl, sym, ap, _∙_}
 use mathlib.Core.List.{List, [], _∷_}
-use mathlib.Core.Bool.{Bool, true, false, cond, _&&_, _||_, true≢false, false≢true}
+use mathlib.Core.Bool.{true, false, cond, _&&_, _||_}
 use native.Mathlib.Numerals.{add-one}
 use native.Mathlib.Omega.{arith}
-use borrow.Author.Tests.{ltb-true, ltb-false, le-leb, lt-leb, ne-eqb}
+use borrow.Author.Tests.{le-leb, ne-eqb, not-true}
 use lib.Dec.{leb, ltb}
 use lib.ListN.{length, getD, drop}
 use lib.Seq.{drop-cons, drop-length}
+use Rattle.common.proofs.Outside.{outside-is}
 use Rattle.text.specs.Text.{readBehind}
 use Rattle.entry.specs.declared.Entered.{Entered}
 use Rattle.entry.specs.declared.Entered.the-variants as answer
@@ -16,27 +17,13 @@ use Rattle.entry.specs.Entered.{isDigit, allDigits, enteredOf}
 
 -- ---- One digit
 
--- the code's test
-pub in-range : (d : ℕ) → (ltb d 48 || ltb 57 d) ≡ false → (48 ≤ d) × (d ≤ 57)
-in-range d h = by (ltb d 48) (ltb 57 d) refl refl h
-  where
-    by : (a b : Bool) → ltb d 48 ≡ a → ltb 57 d ≡ b → (a || b) ≡ false → (48 ≤ d) × (d ≤ 57)
-    by false false p q h = (ltb-false d 48 p, ltb-false 57 d q)
-    by false true p q h = absurd (true≢false h)
-    by true b p q h = absurd (true≢false h)
-
 pub is-digit : (d : ℕ) → 48 ≤ d → d ≤ 57 → isDigit d ≡ true
 unfolding isDigit
 is-digit d lo hi = simp (le-leb 48 d lo, le-leb d 57 hi)
 
 is-none : (d : ℕ) → (ltb d 48 || ltb 57 d) ≡ true → isDigit d ≡ false
 unfolding isDigit
-is-none d h = by (ltb d 48) (ltb 57 d) refl refl h
-  where
-    by : (a b : Bool) → ltb d 48 ≡ a → ltb 57 d ≡ b → (a || b) ≡ true → (leb 48 d && leb d 57) ≡ false
-    by true b p q h = simp (lt-leb 48 d (ltb-true d 48 p))
-    by false true p q h = simp (le-leb 48 d (ltb-false d 48 p), lt-leb d 57 (ltb-true 57 d q))
-    by false false p q h = absurd (false≢true h)
+is-none d h = not-true (leb 48 d && leb d 57) (outside-is 48 d 57 ∙ h)
 
 -- ---- What digits say behind n
 

@@ -1,45 +1,26 @@
 -- Page 02, 'Ask 4': which refusal of a path is given, line by line of the list, where no sheet is refused. Assumes nothing.
-use mathlib.Core.Path.{_≡_, refl, sym, ap, _∙_}
-use mathlib.Core.Bool.{Bool, true, false, not, _||_, _&&_}
+use mathlib.Core.Path.{_≡_, sym, ap, _∙_}
+use mathlib.Core.Bool.{Bool, true, false, not, _||_}
 use Prim.Native.Nat.{ℕ, _+_, _*_, _≤_, _<_}
-use native.Mathlib.Decide.{decLe}
-use native.Mathlib.Omega.{arith}
-use borrow.Author.Tests.{lt-ltb, le-ltb, le-leb, lt-leb, not-false}
+use borrow.Author.Tests.{lt-ltb, le-ltb, le-leb, lt-leb}
 use lib.Dec.{leb, ltb}
 use Rattle.common.specs.Checks.{Verdict}
 use Rattle.common.specs.Sums.{firstOf}
 use Rattle.common.proofs.Checks.{Applies, refused-if, passed-if}
 use Rattle.common.proofs.Checks.Applies.{here, later}
 use Rattle.common.proofs.Checks.Clear.{none, and}
+use Rattle.common.proofs.Outside.{outside-is}
 use Rattle.format.specs.Kinds.{within}
-use Rattle.format.proofs.Ranges.{within-range, range-within}
+use Rattle.format.proofs.Ranges.{range-within}
 use Rattle.units.specs.Units.{bp}
 use Rattle.path.specs.Path.{segmentStep, tooLong, costOver, pathChecks, costOr, crossingBy}
 use Rattle.path.specs.declared.Crossing.the-variants as answer
 
 -- ---- Out of range, as the code tests it
 
-below-is : (x y : ℕ) → ltb x y ≡ not (leb y x)
-below-is x y = split (decLe y x)
-  where
-    split : Dec (y ≤ x) → ltb x y ≡ not (leb y x)
-    split (yes l) = simp (le-ltb x y l, le-leb y x l)
-    split (no n) =
-        let l : x < y = omega (arith, n) in
-        simp (lt-ltb x y l, lt-leb y x l)
-
-outside-is : (lo x hi : ℕ) → not (within lo x hi) ≡ (ltb x lo || ltb hi x)
+outside : (lo x hi : ℕ) → not (within lo x hi) ≡ (ltb x lo || ltb hi x)
 unfolding within
-outside-is lo x hi = rw (below-is x lo, below-is hi x) (either (leb lo x) (leb x hi))
-  where
-    either : (a b : Bool) → not (a && b) ≡ (not a || not b)
-    either true b = refl
-    either false b = refl
-
-pub inside : (lo x hi : ℕ) → (ltb x lo || ltb hi x) ≡ false → (lo ≤ x) × (x ≤ hi)
-inside lo x hi e =
-    let w = within-range lo x hi (not-false (within lo x hi) (outside-is lo x hi ∙ e)) in
-    (w .least, w .most)
+outside lo x hi = outside-is lo x hi
 
 -- ---- The refusals
 
@@ -50,7 +31,7 @@ module _ (R F : ℕ → ℕ) (absent : ℕ → Bool) (g D : ℕ) where
 
   pub too-many : (ltb g 1 || ltb 10 g) ≡ true → answer.Refused 17 g ≡ crossingBy R F absent g D
   unfolding pathChecks
-  too-many e = refused (here (outside-is 1 g 10 ∙ e))
+  too-many e = refused (here (outside 1 g 10 ∙ e))
 
   module _ (few : (1 ≤ g) × (g ≤ 10)) (long : ℕ) (long-is : long ≡ firstOf (tooLong F) g 1) where
     number : not (within 1 g 10) ≡ false
@@ -66,11 +47,11 @@ module _ (R F : ℕ → ℕ) (absent : ℕ → Bool) (g D : ℕ) where
 
       pub deadline-out-of-range : (ltb D 1 || ltb 1000000000 D) ≡ true → answer.Refused 4 0 ≡ crossingBy R F absent g D
       unfolding pathChecks
-      deadline-out-of-range e = refused (later number (later times (here (outside-is 1 D 1000000000 ∙ e))))
+      deadline-out-of-range e = refused (later number (later times (here (outside 1 D 1000000000 ∙ e))))
 
       module _ (in-range : (ltb D 1 || ltb 1000000000 D) ≡ false) (without : ℕ) (without-is : without ≡ firstOf absent (g + 1) 1) where
         deadline : not (within 1 D 1000000000) ≡ false
-        deadline = outside-is 1 D 1000000000 ∙ in-range
+        deadline = outside 1 D 1000000000 ∙ in-range
 
         pub sender-absent : without ≤ g + 1 → answer.Refused 18 without ≡ crossingBy R F absent g D
         unfolding pathChecks

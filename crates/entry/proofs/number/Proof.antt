@@ -5,8 +5,9 @@ use native.Mathlib.Omega.{arith}
 use borrow.Author.Needs.{needs}
 use denote.Ref.{now}
 use lib.ListN.{length, getD, drop}
+use Rattle.common.proofs.Outside.{inside}
 use Rattle.entry.specs.Entered.{enteredOf}
-use Rattle.entry.proofs.Laws.{in-range, enteredBehind, behind-digit, behind-other, behind-none, entered-empty, entered-some, left-more, left-none}
+use Rattle.entry.proofs.Laws.{enteredBehind, behind-digit, behind-other, behind-none, entered-empty, entered-some, left-more, left-none}
 use Rattle.entry.proofs.number.Statement.{statement}
 use Rattle.entry.proofs.number.Tie as tie
 
@@ -32,7 +33,7 @@ returns-2 c =
     sym (l .inv .2 ∙ (ap (enteredBehind (l .n)) (left-more word (l .i) (omega arith)) ∙ behind-other (l .n) (getD word (l .i) 0) (drop (l .i + 1) word) (c .if2 .taken)))
 
 with-digit-requires : tie.Need-with-digit-requires Inv-loop μ-loop
-with-digit-requires c κs = in-range _ (c .if2 .left)
+with-digit-requires c κs = inside 48 _ 57 (c .if2 .left)
 
 add-i : tie.Need-add-i Inv-loop μ-loop
 add-i c = search needs
@@ -45,7 +46,7 @@ loop-again c =
     let l = c .before .before .before .before .loop in
     let word = now (c .before .before .before .before .before .before .before .args .word) in
     let rest = drop (l .i + 1) word in
-    let r = in-range (getD word (l .i) 0) (c .before .if2 .left) in (
+    let r = inside 48 (getD word (l .i) 0) 57 (c .before .if2 .left) in (
       search needs,
       omega (arith, c .with-digit .ensures),
       l .inv .2

@@ -1,7 +1,8 @@
 -- `path::answer` meets its contract: a refused sheet's own, then 17, then what `cross` says. Assumes nothing.
 use borrow.Author.Needs.{needs}
 use Rattle.path.proofs.Laws.{answer-of-refused, answer-of-others}
-use Rattle.path.proofs.Checked.{inside, too-many}
+use Rattle.common.proofs.Outside.{inside}
+use Rattle.path.proofs.Checked.{too-many}
 use Rattle.path.proofs.answer.Statement.{statement}
 use Rattle.path.proofs.answer.Tie as tie
 
