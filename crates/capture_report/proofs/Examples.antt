@@ -1,25 +1,26 @@
 -- Page 02, 'Ask 1': the report of a capture as docs/DECISIONS.md prints it. Assumes nothing.
 use mathlib.Core.Path.{_≡_, refl}
 use mathlib.Core.List.{[], _∷_}
-use Rattle.common.specs.Sums.{sum, firstOf}
+use Rattle.common.specs.Sums.{sum, up, firstOf}
+use Rattle.units.specs.Units.{nanosUp}
 use Rattle.text.specs.Text.{word, _·_, places, holds, widthOf, decimal, item, texts}
-use Rattle.phrases.specs.Phrases.{inBp, nameOf}
-use Rattle.capture_report.specs.Shown.{whoseText, periodsText, countsText, streamLine, streamAt, exceeds, exceeding, first, lastLine, captureText, captureRefusal}
+use Rattle.phrases.specs.Phrases.{inBp, inNs, inBoth, twoCounts, nameOf}
+use Rattle.capture_report.specs.Shown.{whoseText, countsText, streamLine, streamAt, exceeds, exceeding, first, lastLine, captureText, captureRefusal}
 
 -- stream 1 has an answer above its bound, and stream 2 a request left open
 above : captureText (item (1 ∷ 1 ∷ [])) (item (250 ∷ 250 ∷ [])) (item (251 ∷ 0 ∷ [])) (item (2 ∷ 0 ∷ [])) (item (1 ∷ 0 ∷ [])) (item (0 ∷ 1 ∷ [])) 2
     ≡ word "P-NET capture\n"
-    · word "stream 1 M01 bound 250 bp largest 251 bp 2 answers 1 above 0 open\n"
-    · word "stream 2 M01 bound 250 bp largest 0 bp 0 answers 0 above 1 open\n"
+    · word "stream 1 M01 bound 250 bp 3255209 ns largest 251 bp 3268230 ns 2 answers 1 above 0 open\n"
+    · word "stream 2 M01 bound 250 bp 3255209 ns largest 0 bp 0 ns 0 answers 0 above 1 open\n"
     · word "answers above the bound in 1 streams, first stream 1\n"
-unfolding captureText streamAt streamLine whoseText periodsText countsText lastLine exceeding exceeds first sum inBp nameOf texts decimal places widthOf holds firstOf
+unfolding captureText streamAt streamLine whoseText countsText lastLine exceeding exceeds first sum twoCounts inBoth inBp inNs nanosUp up nameOf texts decimal places widthOf holds firstOf
 above = refl
 
 -- an answer at its bound is within it, and a capture of no streams
 within : (captureText (item (3 ∷ [])) (item (250 ∷ [])) (item (250 ∷ [])) (item (7 ∷ [])) (item (0 ∷ [])) (item (0 ∷ [])) 1
-    ≡ word "P-NET capture\n" · word "stream 1 M03 bound 250 bp largest 250 bp 7 answers 0 above 0 open\n" · word "every answer within its bound\n")
+    ≡ word "P-NET capture\n" · word "stream 1 M03 bound 250 bp 3255209 ns largest 250 bp 3255209 ns 7 answers 0 above 0 open\n" · word "every answer within its bound\n")
     × (captureText (item []) (item []) (item []) (item []) (item []) (item []) 0 ≡ word "P-NET capture\n" · word "every answer within its bound\n")
-unfolding captureText streamAt streamLine whoseText periodsText countsText lastLine exceeding exceeds first sum inBp nameOf texts decimal places widthOf holds firstOf
+unfolding captureText streamAt streamLine whoseText countsText lastLine exceeding exceeds first sum twoCounts inBoth inBp inNs nanosUp up nameOf texts decimal places widthOf holds firstOf
 within = (refl, refl)
 
 -- the second stream is the first above

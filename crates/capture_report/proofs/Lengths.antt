@@ -6,12 +6,12 @@ use native.Mathlib.Omega.{arith}
 use lib.Dec.{eqb}
 use lib.ListN.{length, length-append}
 use Rattle.units.specs.Units.{bp}
-use Rattle.units.specs.declared.BitPeriods.{BitPeriods}
 use Rattle.text.specs.Text.{word, decimal, texts}
 use Rattle.text.proofs.Numbers.{length-places}
 use Rattle.text.proofs.Lengths.{decimal-most, texts-most}
-use Rattle.phrases.specs.Phrases.{inBp, nameOf}
-use Rattle.capture_report.specs.Shown.{mostCapture, whoseText, periodsText, countsText, streamLine, streamAt, exceeding, first, lastLine, captureText}
+use Rattle.phrases.specs.Phrases.{nameOf, twoCounts}
+use Rattle.phrases.proofs.Lengths.{both-most, two-most}
+use Rattle.capture_report.specs.Shown.{mostCapture, whoseText, countsText, streamLine, streamAt, exceeding, first, lastLine, captureText}
 use Rattle.capture_report.proofs.Counts.{exceeding-few, first-few}
 
 -- every figure of a run has so many bits
@@ -24,12 +24,6 @@ whose-most : (number master : ℕ) → number ≤ 800 → length (whoseText numb
 unfolding whoseText nameOf
 whose-most number master few =
     simp length-append (omega (arith, decimal-most 3 number (omega arith) (omega arith) (omega arith), length-places 2 master))
-
-periods-most : (bound largest : BitPeriods) → bound .0 < 2 ^ 32 → largest .0 < 2 ^ 32 → length (periodsText bound largest) ≤ 42
-unfolding periodsText inBp
-periods-most bound largest b l =
-    simp length-append
-    (omega (arith, decimal-most 10 (bound .0) (omega arith) (omega arith) (omega arith), decimal-most 10 (largest .0) (omega arith) (omega arith) (omega arith)))
 
 counts-most : (answers above left : ℕ) → answers < 2 ^ 64 → above < 2 ^ 64 → left < 2 ^ 8 → length (countsText answers above left) ≤ 66
 unfolding countsText
@@ -62,18 +56,18 @@ last-most above n few = split (eqb (exceeding above n) 0)
 -- ---- The report
 
 module _ (masters bound largest answers above left : ℕ → ℕ) (b : Bits 32 bound) (l : Bits 32 largest) (r : Bits 64 answers) (a : Bits 64 above) (o : Bits 8 left) where
-  stream-most : (i : ℕ) → i < 800 → length (streamAt masters bound largest answers above left i) ≤ 122
+  stream-most : (i : ℕ) → i < 800 → length (streamAt masters bound largest answers above left i) ≤ 158
   unfolding streamAt streamLine
   stream-most i few =
       let whose = whoseText (i + 1) (masters i) in
-      let periods = periodsText (bp (bound i)) (bp (largest i)) in
+      let periods = twoCounts (word " bound ") (bp (bound i)) (word " largest ") (bp (largest i)) in
       let counts = countsText (answers i) (above i) (left i) in
       omega (
         arith,
         length-append whose (periods ++ counts),
         length-append periods counts,
         whose-most (i + 1) (masters i) (omega arith),
-        periods-most (bp (bound i)) (bp (largest i)) (b i) (l i),
+        two-most 31 (word " bound ") (bp (bound i)) (word " largest ") (bp (largest i)) (both-most (bp (bound i)) (b i)) (both-most (bp (largest i)) (l i)),
         counts-most (answers i) (above i) (left i) (r i) (a i) (o i),
       )
 
@@ -84,6 +78,6 @@ module _ (masters bound largest answers above left : ℕ → ℕ) (b : Bits 32 b
       omega (
         arith,
         length-append lines (lastLine above n),
-        texts-most (streamAt masters bound largest answers above left) 122 n (λ i h. stream-most i (omega arith)),
+        texts-most (streamAt masters bound largest answers above left) 158 n (λ i h. stream-most i (omega arith)),
         last-most above n few,
       )

@@ -1,5 +1,5 @@
--- Page 02, 'Ask 1': the report of a capture, each line ended by one newline. The page leaves its words open; docs/DECISIONS.md fixes them.
--- Assumes nothing.
+-- Page 02, 'Ask 1', with its times in ns too by 'Ask 5': the report of a capture, each line ended by one newline. The page leaves its words
+-- open; docs/DECISIONS.md fixes them. Assumes nothing.
 use Prim.Native.Nat.{ℕ, _+_}
 use mathlib.Core.List.{List}
 use mathlib.Core.Bool.{Bool, cond, not}
@@ -8,11 +8,11 @@ use Rattle.common.specs.Sums.{when, sum, firstOf}
 use Rattle.units.specs.Units.{bp}
 use Rattle.units.specs.declared.BitPeriods.{BitPeriods}
 use Rattle.text.specs.Text.{word, decimal, _·_, texts}
-use Rattle.phrases.specs.Phrases.{nameOf, inBp}
+use Rattle.phrases.specs.Phrases.{nameOf, twoCounts}
 
 -- no capture's report of at most 800 streams is longer
 abbrev pub mostCapture : ℕ
-mostCapture = 97671
+mostCapture = 126471
 
 -- ---- One stream
 
@@ -20,17 +20,14 @@ mostCapture = 97671
 unfoldable pub whoseText : ℕ → ℕ → List ℕ
 whoseText number master = word "stream " · decimal number · word " " · nameOf master
 
--- its bound, and the largest response that the capture shows
-unfoldable pub periodsText : BitPeriods → BitPeriods → List ℕ
-periodsText bound largest = word " bound " · inBp bound · word " largest " · inBp largest
-
 -- its answers, those of them above the bound, and the requests left open
 unfoldable pub countsText : ℕ → ℕ → ℕ → List ℕ
 countsText answers above left = word " " · decimal answers · word " answers " · decimal above · word " above " · decimal left · word " open\n"
 
+-- between them its bound, and the largest response that the capture shows
 unfoldable pub streamLine : ℕ → ℕ → BitPeriods → BitPeriods → ℕ → ℕ → ℕ → List ℕ
 streamLine number master bound largest answers above left =
-    whoseText number master · periodsText bound largest · countsText answers above left
+    whoseText number master · twoCounts (word " bound ") bound (word " largest ") largest · countsText answers above left
 
 -- the stream at index i of the six runs
 unfoldable pub streamAt : (ℕ → ℕ) → (ℕ → ℕ) → (ℕ → ℕ) → (ℕ → ℕ) → (ℕ → ℕ) → (ℕ → ℕ) → ℕ → List ℕ

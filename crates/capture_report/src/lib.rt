@@ -1,7 +1,7 @@
 // The report of a tester's capture beside the bounds of a P-NET sheet, page 02 'Ask 1'. What does not fit into the lent run is left
 // out; each function answers the place just after what it wrote.
-use phrases::put_bp;
 use phrases::put_name;
+use phrases::put_two;
 use sheet::MOST;
 use text::put_counted;
 use text::put_word;
@@ -10,23 +10,16 @@ ghost use mathlib.Core.Path.{_≡_};
 ghost use Prim.Native.Nat.{_≤_, min};
 ghost use Rattle.text.specs.Text.{Zeros, Wrote, item, texts};
 ghost use Rattle.capture_report.specs.Shown;
-ghost use Rattle.capture_report.specs.Shown.{mostCapture, whoseText, periodsText, countsText, streamLine, streamAt, lastLine, captureText, captureRefusal};
+ghost use Rattle.capture_report.specs.Shown.{mostCapture, whoseText, countsText, streamLine, streamAt, lastLine, captureText, captureRefusal};
 
 // No report of a capture is longer.
-pub const MOST_TEXT: usize = 97_671;
+pub const MOST_TEXT: usize = 126_471;
 
 // Room for every report of a capture.
 pub fn text_buffer() -> [u8; MOST_TEXT]
     ensures { λ r. ⌜ Zeros mostCapture r ⌝ }
 {
     [0; MOST_TEXT]
-}
-
-fn put_periods(out: &mut [u8], at: usize, bound: BitPeriods, largest: BitPeriods) -> usize
-    ensures { λ r. ⌜ Wrote (now (out .entry)) at (periodsText bound largest) (now (out .exit)) r ⌝ }
-{
-    let next = put_bp(out, at, b" bound ", bound);
-    put_bp(out, next, b" largest ", largest)
 }
 
 fn put_counts(out: &mut [u8], at: usize, answers: u64, above: u64, left: u8) -> usize
@@ -59,7 +52,7 @@ fn put_stream(
     ensures { λ r. ⌜ Wrote (now (out .entry)) at (streamLine number master bound largest answers above left) (now (out .exit)) r ⌝ }
 {
     let periods = put_whose(out, at, number, master);
-    let counts = put_periods(out, periods, bound, largest);
+    let counts = put_two(out, periods, b" bound ", bound, b" largest ", largest);
     put_counts(out, counts, answers, above, left)
 }
 

@@ -8,17 +8,14 @@ use Rattle.units.specs.Units.{bp}
 use Rattle.units.specs.declared.BitPeriods.{BitPeriods}
 use Rattle.units.specs.declared.Micros.{Micros}
 use Rattle.text.specs.Text.{word, decimal, _·_, texts}
-use Rattle.phrases.specs.Phrases.{inUs, inBoth, nameOf}
+use Rattle.phrases.specs.Phrases.{inUs, twoCounts, nameOf}
 
 -- ---- P-NET
 
--- R and W
-unfoldable pub figuresOf : BitPeriods → BitPeriods → List ℕ
-figuresOf bound refined = word " bound " · inBoth bound · word " refined " · inBoth refined
-
--- the line of master k
+-- the line of master k: R and W, and the rounds of the search for W
 unfoldable pub masterLine : ℕ → BitPeriods → BitPeriods → ℕ → List ℕ
-masterLine k bound refined rounds = nameOf k · figuresOf bound refined · word " " · decimal rounds · word " rounds\n"
+masterLine k bound refined rounds =
+    nameOf k · twoCounts (word " bound ") bound (word " refined ") refined · word " " · decimal rounds · word " rounds\n"
 
 -- a master without streams, whose bound is 0, has no line
 unfoldable pub masterText : ℕ → ℕ → ℕ → ℕ → List ℕ

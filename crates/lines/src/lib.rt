@@ -1,7 +1,7 @@
 // The report's lines, page 01 'Sheets worked by hand', built from fixed byte strings and numbers. Each function writes into a lent
 // run from a place on and answers the place just after; what does not fit is left out.
-use phrases::put_both;
 use phrases::put_name;
+use phrases::put_two;
 use phrases::put_us;
 use profibus::RingPeriods;
 use text::put_counted;
@@ -9,14 +9,7 @@ use text::put_word;
 use units::BitPeriods;
 use units::Micros;
 ghost use Rattle.text.specs.Text.{Wrote, item, texts};
-ghost use Rattle.lines.specs.Lines.{figuresOf, masterLine, masterText, ringText, nameText, nameAt, rowLine, tableHead};
-
-fn put_figures(out: &mut [u8], at: usize, bound: BitPeriods, refined: BitPeriods) -> usize
-    ensures { λ r. ⌜ Wrote (now (out .entry)) at (figuresOf bound refined) (now (out .exit)) r ⌝ }
-{
-    let next = put_both(out, at, b" bound ", bound);
-    put_both(out, next, b" refined ", refined)
-}
+ghost use Rattle.lines.specs.Lines.{masterLine, masterText, ringText, nameText, nameAt, rowLine, tableHead};
 
 fn put_line(
     out: &mut [u8],
@@ -29,7 +22,7 @@ fn put_line(
     ensures { λ r. ⌜ Wrote (now (out .entry)) at (masterLine k bound refined rounds) (now (out .exit)) r ⌝ }
 {
     let figures = put_name(out, at, k);
-    let count = put_figures(out, figures, bound, refined);
+    let count = put_two(out, figures, b" bound ", bound, b" refined ", refined);
     put_counted(out, count, b" ", rounds as u64, b" rounds\n")
 }
 

@@ -3,11 +3,11 @@ use mathlib.Core.Path.{_≡_, refl}
 use mathlib.Core.List.{[], _∷_}
 use Prim.Native.Nat.{_+_}
 use lib.ListN.{length}
-use Rattle.common.specs.Sums.{firstOf}
-use Rattle.units.specs.Units.{bp}
+use Rattle.common.specs.Sums.{up, firstOf}
+use Rattle.units.specs.Units.{bp, nanosUp}
 use Rattle.text.specs.Text.{word, _·_, places, holds, widthOf, decimal, item, texts}
-use Rattle.phrases.specs.Phrases.{inBp, nameOf, placeText, refusedText}
-use Rattle.path_report.specs.Told.{mostPath, segmentLine, pairLine, gatewayLine, hopLines, totalLine, pathText, sheetRefusal, pathPlace, pathRefusal}
+use Rattle.phrases.specs.Phrases.{inBp, inNs, inBoth, nameOf, placeText, refusedText}
+use Rattle.path_report.specs.Told.{mostPath, segmentLine, gatewayLine, hopLines, totalLine, pathText, sheetRefusal, pathPlace, pathRefusal}
 
 -- two segments and the gateway between them: the total is at the deadline
 two-segments : pathText (item (0 ∷ 1 ∷ 2 ∷ [])) (item (0 ∷ 500 ∷ 500 ∷ [])) (item (0 ∷ 30 ∷ [])) 1 (bp 1060) (bp 1060)
@@ -15,13 +15,13 @@ two-segments : pathText (item (0 ∷ 1 ∷ 2 ∷ [])) (item (0 ∷ 500 ∷ 500 �
     · word "segment 1 M01 bound 500 bp\n"
     · word "gateway 1 request 30 bp reply 30 bp\n"
     · word "segment 2 M02 bound 500 bp\n"
-    · word "total 1060 bp deadline 1060 bp\n"
-unfolding pathText hopLines segmentLine pairLine gatewayLine totalLine inBp nameOf texts decimal places widthOf holds firstOf
+    · word "total 1060 bp 13802084 ns deadline 1060 bp\n"
+unfolding pathText hopLines segmentLine gatewayLine totalLine inBoth inBp inNs nanosUp up nameOf texts decimal places widthOf holds firstOf
 two-segments = refl
 
 -- eleven segments with every figure as wide as 32 bits allow. `mostPath` counts two digits for each hop's number, and 18 of them have one
 widest : length (pathText (λ i. 31) (λ i. 4294967295) (λ i. 4294967295) 10 (bp 4294967295) (bp 4294967295)) + 18 ≡ mostPath
-unfolding pathText hopLines segmentLine pairLine gatewayLine totalLine inBp nameOf texts decimal places widthOf holds firstOf
+unfolding pathText hopLines segmentLine gatewayLine totalLine inBoth inBp inNs nanosUp up nameOf texts decimal places widthOf holds firstOf
 widest = refl
 
 -- a sheet's own

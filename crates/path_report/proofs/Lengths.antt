@@ -11,15 +11,11 @@ use Rattle.units.specs.declared.BitPeriods.{BitPeriods}
 use Rattle.text.specs.Text.{word, decimal, texts}
 use Rattle.text.proofs.Numbers.{length-places}
 use Rattle.text.proofs.Lengths.{decimal-most, decimal-any, texts-most}
-use Rattle.phrases.specs.Phrases.{nameOf, inBp}
-use Rattle.phrases.proofs.Lengths.{refused-most}
-use Rattle.path_report.specs.Told.{mostPath, segmentLine, pairLine, gatewayLine, hopLines, totalLine, pathText, sheetRefusal, pathPlace, pathRefusal}
+use Rattle.phrases.specs.Phrases.{nameOf}
+use Rattle.phrases.proofs.Lengths.{bp-most, both-most, refused-most}
+use Rattle.path_report.specs.Told.{mostPath, segmentLine, gatewayLine, hopLines, totalLine, pathText, sheetRefusal, pathPlace, pathRefusal}
 
 -- ---- The lines
-
-bp-most : (b : BitPeriods) → b .0 < 2 ^ 32 → length (inBp b) ≤ 13
-unfolding inBp
-bp-most b s = simp length-append (omega (arith, decimal-most 10 (b .0) (omega arith) (omega arith) (omega arith)))
 
 -- a master's name has two digits whatever its number
 segment-most : (number master : ℕ) (bound : BitPeriods) → number < 100 → bound .0 < 2 ^ 32 → length (segmentLine number master bound) ≤ 35
@@ -28,13 +24,13 @@ segment-most number master bound few b =
     simp length-append (omega (arith, decimal-most 2 number (omega arith) (omega arith) (omega arith), length-places 2 master, bp-most bound b))
 
 gateway-most : (number : ℕ) (time : BitPeriods) → number < 100 → time .0 < 2 ^ 32 → length (gatewayLine number time) ≤ 53
-unfolding gatewayLine pairLine
+unfolding gatewayLine
 gateway-most number time few t =
     simp length-append (omega (arith, decimal-most 2 number (omega arith) (omega arith) (omega arith), bp-most time t))
 
-total-most : (total deadline : BitPeriods) → total .0 < 2 ^ 32 → deadline .0 < 2 ^ 32 → length (totalLine total deadline) ≤ 43
-unfolding totalLine pairLine
-total-most total deadline t d = simp length-append (omega (arith, bp-most total t, bp-most deadline d))
+total-most : (total deadline : BitPeriods) → total .0 < 2 ^ 32 → deadline .0 < 2 ^ 32 → length (totalLine total deadline) ≤ 61
+unfolding totalLine
+total-most total deadline t d = simp length-append (omega (arith, both-most total t, bp-most deadline d))
 
 -- ---- The report
 

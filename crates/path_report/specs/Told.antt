@@ -1,5 +1,5 @@
--- Page 02, 'Ask 4': the report of a path, each line ended by one newline. The page leaves its words open; docs/DECISIONS.md fixes them.
--- Assumes nothing.
+-- Page 02, 'Ask 4', with its total in ns too by 'Ask 5': the report of a path, each line ended by one newline. The page leaves its words
+-- open; docs/DECISIONS.md fixes them. Assumes nothing.
 use Prim.Native.Nat.{ℕ, _+_}
 use mathlib.Core.List.{List}
 use mathlib.Core.Bool.{cond}
@@ -7,11 +7,11 @@ use lib.Dec.{eqb}
 use Rattle.units.specs.Units.{bp}
 use Rattle.units.specs.declared.BitPeriods.{BitPeriods}
 use Rattle.text.specs.Text.{word, decimal, _·_, texts}
-use Rattle.phrases.specs.Phrases.{nameOf, inBp, refusedText}
+use Rattle.phrases.specs.Phrases.{nameOf, inBp, inBoth, refusedText}
 
 -- no path's report is longer
 abbrev pub mostPath : ℕ
-mostPath = 969
+mostPath = 987
 
 -- ---- The hops
 
@@ -19,13 +19,9 @@ mostPath = 969
 unfoldable pub segmentLine : ℕ → ℕ → BitPeriods → List ℕ
 segmentLine number master bound = word "segment " · decimal number · word " " · nameOf master · word " bound " · inBp bound · word "\n"
 
--- two counts, each behind its words
-unfoldable pub pairLine : List ℕ → BitPeriods → List ℕ → BitPeriods → List ℕ
-pairLine first a second b = first · inBp a · second · inBp b · word "\n"
-
 -- a gateway forwards the request, and once more the reply
 unfoldable pub gatewayLine : ℕ → BitPeriods → List ℕ
-gatewayLine number time = word "gateway " · decimal number · pairLine (word " request ") time (word " reply ") time
+gatewayLine number time = word "gateway " · decimal number · word " request " · inBp time · word " reply " · inBp time · word "\n"
 
 -- gateway i + 1, and the segment behind it: place i of a run is for segment i, or for gateway i
 unfoldable pub hopLines : (ℕ → ℕ) → (ℕ → ℕ) → (ℕ → ℕ) → ℕ → List ℕ
@@ -33,8 +29,9 @@ hopLines masters bounds times i = gatewayLine (i + 1) (bp (times (i + 1))) · se
 
 -- ---- The report
 
+-- the legs above are in bp and add up to the total, which is turned into ns once
 unfoldable pub totalLine : BitPeriods → BitPeriods → List ℕ
-totalLine total deadline = pairLine (word "total ") total (word " deadline ") deadline
+totalLine total deadline = word "total " · inBoth total · word " deadline " · inBp deadline · word "\n"
 
 -- of a path with g gateways
 unfoldable pub pathText : (ℕ → ℕ) → (ℕ → ℕ) → (ℕ → ℕ) → ℕ → BitPeriods → BitPeriods → List ℕ

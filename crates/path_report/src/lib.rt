@@ -1,18 +1,21 @@
 // The report of a path over several P-NET segments, page 02 'Ask 4'. What does not fit into the lent run is left out; each function
 // answers the place just after what it wrote.
 use path::Way;
+use phrases::put_both;
 use phrases::put_bp;
 use phrases::put_name;
 use text::put_counted;
 use text::put_word;
 use units::BitPeriods;
 ghost use mathlib.Core.Path.{_≡_};
+ghost use mathlib.Core.List.{_++_};
 ghost use Prim.Native.Nat.{_-_, _≤_, min};
-ghost use Rattle.text.specs.Text.{Zeros, Wrote, item, texts};
-ghost use Rattle.path_report.specs.Told.{mostPath, segmentLine, pairLine, gatewayLine, hopLines, pathText, sheetRefusal, pathPlace, pathRefusal};
+ghost use Rattle.text.specs.Text.{Zeros, Wrote, word, item, texts};
+ghost use Rattle.phrases.specs.Phrases.{inBp};
+ghost use Rattle.path_report.specs.Told.{mostPath, segmentLine, gatewayLine, hopLines, totalLine, pathText, sheetRefusal, pathPlace, pathRefusal};
 
 // No report of a path is longer.
-pub const MOST_TEXT: usize = 969;
+pub const MOST_TEXT: usize = 987;
 
 // Room for every report of a path.
 pub fn text_buffer() -> [u8; MOST_TEXT]
@@ -21,36 +24,28 @@ pub fn text_buffer() -> [u8; MOST_TEXT]
     [0; MOST_TEXT]
 }
 
+// A count at the end of its line.
+fn put_end(out: &mut [u8], at: usize, before: &[u8], b: BitPeriods) -> usize
+    ensures { λ r. ⌜ Wrote (now (out .entry)) at ((now (before .entry) ++ inBp b) ++ word "\n") (now (out .exit)) r ⌝ }
+{
+    let end = put_bp(out, at, before, b);
+    put_word(out, end, b"\n")
+}
+
 fn put_segment(out: &mut [u8], at: usize, number: u64, master: u8, bound: BitPeriods) -> usize
     ensures { λ r. ⌜ Wrote (now (out .entry)) at (segmentLine number master bound) (now (out .exit)) r ⌝ }
 {
     let name = put_counted(out, at, b"segment ", number, b" ");
     let figure = put_name(out, name, master as u64);
-    let end = put_bp(out, figure, b" bound ", bound);
-    put_word(out, end, b"\n")
-}
-
-// Two counts, each behind its words, and the line's end.
-fn put_pair(
-    out: &mut [u8],
-    at: usize,
-    first: &[u8],
-    a: BitPeriods,
-    second: &[u8],
-    b: BitPeriods,
-) -> usize
-    ensures { λ r. ⌜ Wrote (now (out .entry)) at (pairLine (now (first .entry)) a (now (second .entry)) b) (now (out .exit)) r ⌝ }
-{
-    let next = put_bp(out, at, first, a);
-    let end = put_bp(out, next, second, b);
-    put_word(out, end, b"\n")
+    put_end(out, figure, b" bound ", bound)
 }
 
 fn put_gateway(out: &mut [u8], at: usize, number: u64, time: BitPeriods) -> usize
     ensures { λ r. ⌜ Wrote (now (out .entry)) at (gatewayLine number time) (now (out .exit)) r ⌝ }
 {
-    let next = put_counted(out, at, b"gateway ", number, b"");
-    put_pair(out, next, b" request ", time, b" reply ", time)
+    let request = put_counted(out, at, b"gateway ", number, b" request ");
+    let reply = put_bp(out, request, b"", time);
+    put_end(out, reply, b" reply ", time)
 }
 
 // The lines of n gateways, each with the segment behind it.
@@ -81,6 +76,13 @@ fn put_hops(
     next
 }
 
+fn put_total(out: &mut [u8], at: usize, total: BitPeriods, deadline: BitPeriods) -> usize
+    ensures { λ r. ⌜ Wrote (now (out .entry)) at (totalLine total deadline) (now (out .exit)) r ⌝ }
+{
+    let next = put_both(out, at, b"total ", total);
+    put_end(out, next, b" deadline ", deadline)
+}
+
 // The gateways of so many segments, of which eleven are shown.
 fn shown(segments: usize) -> usize
     ensures { λ r. ⌜ r ≡ min (segments - 1) 10 ⌝ }
@@ -106,7 +108,7 @@ pub fn put_path(out: &mut [u8], way: Way, total: BitPeriods, deadline: BitPeriod
     let bound = bounds[1];
     let hops = put_segment(out, first, 1, masters[1], BitPeriods(bound));
     let last = put_hops(out, hops, n, &masters, &bounds, &times);
-    put_pair(out, last, b"total ", total, b" deadline ", deadline)
+    put_total(out, last, total, deadline)
 }
 
 // Writes the report of a path with a sheet that is refused, that of this segment.

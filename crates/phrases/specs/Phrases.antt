@@ -1,12 +1,13 @@
--- Page 01, 'Sheets worked by hand': what every report says in the same words, a count with its unit, a master's name, a refusal.
--- Assumes nothing.
+-- Page 01, 'Sheets worked by hand', with page 02, 'Ask 5': what every report says in the same words, a count with its unit, a master's
+-- name, a refusal. Assumes nothing.
 use Prim.Native.Nat.{ℕ}
 use mathlib.Core.List.{List, []}
 use mathlib.Core.Bool.{cond}
 use lib.Dec.{leb, eqb}
-use Rattle.units.specs.Units.{microsUp}
+use Rattle.units.specs.Units.{nanosUp}
 use Rattle.units.specs.declared.BitPeriods.{BitPeriods}
 use Rattle.units.specs.declared.Micros.{Micros}
+use Rattle.units.specs.declared.Nanos.{Nanos}
 use Rattle.text.specs.Text.{word, places, decimal, _·_}
 
 -- ---- Counts with their unit
@@ -17,9 +18,16 @@ inBp b = decimal (b .0) · word " bp"
 unfoldable pub inUs : Micros → List ℕ
 inUs u = decimal (u .0) · word " us"
 
--- a bound in both units, the us rounded up
+unfoldable pub inNs : Nanos → List ℕ
+inNs n = decimal (n .0) · word " ns"
+
+-- a P-NET count in both units, the ns rounded up (page 02, Ask 5)
 unfoldable pub inBoth : BitPeriods → List ℕ
-inBoth b = inBp b · word " " · inUs (microsUp b)
+inBoth b = inBp b · word " " · inNs (nanosUp b)
+
+-- two P-NET counts, each behind its words
+unfoldable pub twoCounts : List ℕ → BitPeriods → List ℕ → BitPeriods → List ℕ
+twoCounts first a second b = first · inBoth a · second · inBoth b
 
 -- ---- Masters
 

@@ -5,9 +5,10 @@ use text::put_places;
 use text::put_word;
 use units::BitPeriods;
 use units::Micros;
+use units::Nanos;
 ghost use mathlib.Core.List.{_++_};
 ghost use Rattle.text.specs.Text.{Wrote};
-ghost use Rattle.phrases.specs.Phrases.{inBp, inUs, inBoth, nameOf, placeText, refusedText, refusalText};
+ghost use Rattle.phrases.specs.Phrases.{inBp, inUs, inNs, inBoth, twoCounts, nameOf, placeText, refusedText, refusalText};
 
 pub fn put_bp(out: &mut [u8], at: usize, before: &[u8], b: BitPeriods) -> usize
     ensures { λ r. ⌜ Wrote (now (out .entry)) at (now (before .entry) ++ inBp b) (now (out .exit)) r ⌝ }
@@ -21,12 +22,33 @@ pub fn put_us(out: &mut [u8], at: usize, before: &[u8], u: Micros) -> usize
     put_counted(out, at, before, u.0, b" us")
 }
 
-// A bound in both units.
+pub fn put_ns(out: &mut [u8], at: usize, before: &[u8], n: Nanos) -> usize
+    ensures { λ r. ⌜ Wrote (now (out .entry)) at (now (before .entry) ++ inNs n) (now (out .exit)) r ⌝ }
+{
+    put_counted(out, at, before, n.0, b" ns")
+}
+
+// A P-NET count in bp and in ns.
 pub fn put_both(out: &mut [u8], at: usize, before: &[u8], b: BitPeriods) -> usize
     ensures { λ r. ⌜ Wrote (now (out .entry)) at (now (before .entry) ++ inBoth b) (now (out .exit)) r ⌝ }
 {
     let next = put_bp(out, at, before, b);
-    put_us(out, next, b" ", units::micros_up(b))
+    put_ns(out, next, b" ", units::nanos_up(b))
+}
+
+// Two P-NET counts, each behind its words.
+pub fn put_two(
+    out: &mut [u8],
+    at: usize,
+    first: &[u8],
+    a: BitPeriods,
+    second: &[u8],
+    b: BitPeriods,
+) -> usize
+    ensures { λ r. ⌜ Wrote (now (out .entry)) at (twoCounts (now (first .entry)) a (now (second .entry)) b) (now (out .exit)) r ⌝ }
+{
+    let next = put_both(out, at, first, a);
+    put_both(out, next, second, b)
 }
 
 pub fn put_name(out: &mut [u8], at: usize, k: u64) -> usize

@@ -44,7 +44,7 @@ fn rules() {
         b"The first record is 1, 3 or 5; all later ones are 2, 4 or 6 to match. P-NET and PROFIBUS: at most 800 streams, at most 80 for one master.",
     );
     line(
-        b"WorldFIP: at most 64 variables, no identifier twice. us are microseconds. bp are bit periods: of P-NET, 48 in 625 us; of that ring for PROFIBUS.",
+        b"WorldFIP: at most 64 variables, no identifier twice. us are microseconds, ns nanoseconds. bp are bit periods: of P-NET, 48 in 625 us and 6 in 78125 ns; of that ring for PROFIBUS.",
     );
 }
 
@@ -53,7 +53,7 @@ fn figures() {
         b"A P-NET report has a line for each master with streams. bound: each of its requests is answered within it, if that master keeps its spacing,",
     );
     line(
-        b"however often the others ask. refined: the same, if every master keeps its spacing. Both are in bp and in us, rounded up. rounds: of the search for refined.",
+        b"however often the others ask. refined: the same, if every master keeps its spacing. Both are in bp and in ns, rounded up. rounds: of the search for refined.",
     );
 }
 
@@ -65,7 +65,7 @@ fn captures() {
         b"then the stream's number (2) and the stamp (4), a counter of bp that runs over to zero. A response is true below 4294967296 bp.",
     );
     line(
-        b"Its report has a line for each stream: bound, largest response, answers, answers above the bound, and 1 or 0 requests left open.",
+        b"Its report has a line for each stream: bound and largest response in bp and in ns, rounded up; answers, answers above the bound, and 1 or 0 requests left open.",
     );
 }
 
@@ -77,11 +77,12 @@ fn paths() {
         b"sheet, under the master that carries it. TIME: the gateway's forwarding time, 0..1000000 bp. DEADLINE: of the whole path, 1..1000000000 bp.",
     );
     line(
-        b"Its report has a line for each hop. total: each segment's bound for its MASTER, and each TIME twice, for the request and for its reply. The reply is",
+        b"Its report has a line for each hop, in bp. total: each segment's bound for its MASTER, and each TIME twice, for the request and for its reply; in bp,",
     );
     line(
-        b"there within it, if each MASTER keeps its spacing and each gateway its time, and if no reply waits for a token on its way back.",
+        b"and in ns, rounded up once. The reply is there within it, if each MASTER keeps its spacing and each gateway its time, and if no reply waits for a token",
     );
+    line(b"on its way back.");
 }
 
 fn refusals() {

@@ -8,37 +8,30 @@ use lib.ListN.{length, length-append}
 use Rattle.profibus.specs.declared.answer.RingPeriods.{RingPeriods}
 use Rattle.segment.specs.Segment.{Segment, count, bound}
 use Rattle.segment.specs.Refined.{refined, rounds}
-use Rattle.units.specs.Units.{bp, microsUp}
+use Rattle.units.specs.Units.{bp}
 use Rattle.units.specs.declared.BitPeriods.{BitPeriods}
 use Rattle.units.specs.declared.Micros.{Micros}
 use Rattle.text.specs.Text.{word, places, decimal, texts}
-use Rattle.phrases.specs.Phrases.{inBp, inUs, inBoth, nameOf, refusedText, refusalText}
-use Rattle.lines.specs.Lines.{figuresOf, masterLine, ringText, nameText, nameAt, rowLine, tableHead}
+use Rattle.phrases.specs.Phrases.{inUs, twoCounts, nameOf, refusedText, refusalText}
+use Rattle.lines.specs.Lines.{masterLine, ringText, nameText, nameAt, rowLine, tableHead}
 use Rattle.report.specs.Whole.{mostText, masterOf, mastersOf, rowAt, tableText}
 use Rattle.text.proofs.Lengths.{decimal-most, decimal-any, texts-most}
 use Rattle.text.proofs.Numbers.{length-places}
-use Rattle.phrases.proofs.Lengths.{refused-most}
+use Rattle.phrases.proofs.Lengths.{both-any, two-most, refused-most}
 
 -- ---- P-NET
-
-both-most : (b : BitPeriods) → length (inBoth b) ≤ 49
-unfolding inBoth inBp inUs
-both-most b = simp length-append (omega (arith, decimal-any (b .0), decimal-any (microsUp b .0)))
-
-figures-most : (R W : BitPeriods) → length (figuresOf R W) ≤ 114
-unfolding figuresOf
-figures-most R W = omega (arith, length-append (inBoth R) (word " refined " ++ inBoth W), both-most R, both-most W)
 
 line-most : (k : ℕ) (R W : BitPeriods) (m : ℕ) → length (masterLine k R W m) ≤ 147
 unfolding masterLine nameOf
 line-most k R W m =
+    let figures = twoCounts (word " bound ") R (word " refined ") W in
     let t = word " " ++ (decimal m ++ word " rounds\n") in
     omega (
       arith,
-      length-append (places 2 k) (figuresOf R W ++ t),
+      length-append (places 2 k) (figures ++ t),
       length-places 2 k,
-      length-append (figuresOf R W) t,
-      figures-most R W,
+      length-append figures t,
+      two-most 49 (word " bound ") R (word " refined ") W (both-any R) (both-any W),
       length-append (decimal m) (word " rounds\n"),
       decimal-any m,
     )

@@ -2,19 +2,19 @@
 use mathlib.Core.Path.{_≡_, refl}
 use mathlib.Core.List.{[], _∷_}
 use Rattle.common.specs.Sums.{firstOf, up}
-use Rattle.units.specs.Units.{us, microsUp}
+use Rattle.units.specs.Units.{us, nanosUp}
 use Rattle.text.specs.Text.{word, _·_, places, holds, widthOf, decimal, item, texts}
-use Rattle.phrases.specs.Phrases.{inBp, inUs, inBoth, nameOf}
-use Rattle.lines.specs.Lines.{figuresOf, masterLine, masterText, nameText, nameAt, rowLine, tableHead}
+use Rattle.phrases.specs.Phrases.{inBp, inUs, inNs, inBoth, twoCounts, nameOf}
+use Rattle.lines.specs.Lines.{masterLine, masterText, nameText, nameAt, rowLine, tableHead}
 use Rattle.report.specs.Arrays.{masterAt, segmentText}
 use Rattle.report.specs.Whole.{rowAt, tableText}
 
 -- the third case's whole report, its rounds by the count of page 02, Ask 2; a silent master 3 has no line
 segment : segmentText (item (1000 ∷ 500 ∷ 0 ∷ [])) (item (760 ∷ 500 ∷ 0 ∷ [])) (item (1 ∷ 1 ∷ 0 ∷ [])) 3
     ≡ word "P-NET segment\n"
-    · word "M01 bound 1000 bp 13021 us refined 760 bp 9896 us 1 rounds\n"
-    · word "M02 bound 500 bp 6511 us refined 500 bp 6511 us 1 rounds\n"
-unfolding segmentText masterAt masterText masterLine nameOf figuresOf inBoth inBp inUs microsUp up texts decimal places widthOf holds firstOf
+    · word "M01 bound 1000 bp 13020834 ns refined 760 bp 9895834 ns 1 rounds\n"
+    · word "M02 bound 500 bp 6510417 ns refined 500 bp 6510417 ns 1 rounds\n"
+unfolding segmentText masterAt masterText masterLine nameOf twoCounts inBoth inBp inNs nanosUp up texts decimal places widthOf holds firstOf
 segment = refl
 
 -- rows 3 and 0 of two variables, identifiers 17 and 18

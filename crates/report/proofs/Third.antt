@@ -7,7 +7,7 @@ use Rattle.common.specs.Checks.{verdict}
 use Rattle.common.specs.Sums.{upto, greatest, up, firstOf}
 use Rattle.format.specs.Kinds.{kinds, fieldsOf, widths, sizeOf, known, fieldAt, decode, limit, within, ranged, inRange}
 use Rattle.format.specs.Numbers.{be}
-use Rattle.units.specs.Units.{microsUp}
+use Rattle.units.specs.Units.{nanosUp}
 use Rattle.reader.specs.Walk.{byteChecks, foundAt}
 use Rattle.sheet.specs.Sheets.{streamsOf, headOf, sheetOf, fits, countOf, mostInAll, hasMaster, overLimit, metBefore}
 use Rattle.sheet.specs.Whole.{placeOf, recordsOf, recordChecks, endChecks, judge, ended, readFrom, reading}
@@ -15,8 +15,8 @@ use Rattle.segment.specs.Segment.{segmentOf, streamAt, owns, count, longest, ho
 use Rattle.segment.specs.Refined.{saving, rightBy, valueOf, stands, roundsOf, mostRounds, askedBy, right, rounds, refined}
 use Rattle.pnet.specs.Planned.{firstLate, planChecks, planned}
 use Rattle.text.specs.Text.{word, _·_, places, holds, widthOf, decimal, texts}
-use Rattle.phrases.specs.Phrases.{inBp, inUs, inBoth, nameOf}
-use Rattle.lines.specs.Lines.{figuresOf, masterLine}
+use Rattle.phrases.specs.Phrases.{inBp, inNs, inBoth, twoCounts, nameOf}
+use Rattle.lines.specs.Lines.{masterLine}
 use Rattle.report.specs.Whole.{masterOf, mastersOf, segmentReport, firstKind, reportOf}
 
 -- N = 2; master 1 has two streams, master 2 one; all C = 203, T = D = 100,000
@@ -30,7 +30,7 @@ third =
 
 pub third-case : reportOf third
     ≡ word "P-NET segment\n"
-    · word "M01 bound 1000 bp 13021 us refined 760 bp 9896 us 1 rounds\n"
-    · word "M02 bound 500 bp 6511 us refined 500 bp 6511 us 1 rounds\n"
-unfolding third reportOf firstKind foundAt byteChecks segmentReport mastersOf masterOf texts masterLine nameOf figuresOf inBoth inBp inUs microsUp up decimal places widthOf holds firstOf planned planChecks verdict firstLate late segmentOf streamAt owns count longest hold turnBy boundBy turn bound saving rightBy valueOf stands roundsOf mostRounds askedBy right rounds refined upto greatest reading readFrom ended judge recordChecks endChecks recordsOf placeOf streamsOf headOf sheetOf fits countOf mostInAll hasMaster overLimit metBefore kinds fieldsOf widths sizeOf known fieldAt decode limit within ranged inRange be
+    · word "M01 bound 1000 bp 13020834 ns refined 760 bp 9895834 ns 1 rounds\n"
+    · word "M02 bound 500 bp 6510417 ns refined 500 bp 6510417 ns 1 rounds\n"
+unfolding third reportOf firstKind foundAt byteChecks segmentReport mastersOf masterOf texts masterLine nameOf twoCounts inBoth inBp inNs nanosUp up decimal places widthOf holds firstOf planned planChecks verdict firstLate late segmentOf streamAt owns count longest hold turnBy boundBy turn bound saving rightBy valueOf stands roundsOf mostRounds askedBy right rounds refined upto greatest reading readFrom ended judge recordChecks endChecks recordsOf placeOf streamsOf headOf sheetOf fits countOf mostInAll hasMaster overLimit metBefore kinds fieldsOf widths sizeOf known fieldAt decode limit within ranged inRange be
 third-case = refl

@@ -1,4 +1,4 @@
-// The lines of page 01 'Units', and the bound that rounding to the nearest us would get wrong.
+// The lines of page 01 'Units', the bound that rounding to the nearest us would get wrong, and bounds in ns, page 02 'Ask 5'.
 use libc::STDOUT_FILENO;
 use units::BitPeriods;
 use units::Micros;
@@ -12,6 +12,13 @@ fn up(n: u32) {
     say(b" bp, up: ");
     io::print_decimal(STDOUT_FILENO, units::micros_up(BitPeriods(n)).0);
     say(b" us\n");
+}
+
+fn up_ns(n: u32) {
+    io::print_decimal(STDOUT_FILENO, n as u64);
+    say(b" bp, up: ");
+    io::print_decimal(STDOUT_FILENO, units::nanos_up(BitPeriods(n)).0);
+    say(b" ns\n");
 }
 
 fn down(n: u64) {
@@ -33,4 +40,9 @@ fn main() {
     up(4294967295);
     down(4294967295);
     down(18446744073709551615);
+    up_ns(0);
+    up_ns(1);
+    up_ns(6);
+    up_ns(1000);
+    up_ns(4294967295);
 }

@@ -1,3 +1,4 @@
 pub mod Rounding
 pub mod Verdict
+pub mod Legs
 pub mod Page

@@ -1,11 +1,12 @@
--- Page 01, 'Units', the six lines of its table, and the line of 'Errors an honest builder makes' on rounding. Assumes nothing.
+-- Page 01, 'Units', the six lines of its table, and the line of 'Errors an honest builder makes' on rounding; page 02, 'Ask 5', the figures
+-- in ns. Assumes nothing.
 use mathlib.Core.Path.{_≡_, refl}
 use mathlib.Core.List.{List, [], _∷_}
 use mathlib.Core.Bool.{Bool, true, _&&_}
 use Prim.Native.Nat.{ℕ}
 use lib.Dec.{eqb}
 use Rattle.common.specs.Sums.{up}
-use Rattle.units.specs.Units.{bp, us, microsUp, periodsDown}
+use Rattle.units.specs.Units.{bp, us, ns, microsUp, nanosUp, periodsDown}
 
 -- a line of the table: a count of bp and its us, rounded up; or a count of us and its bp, rounded down
 pub data Line : Type 0 where
@@ -40,3 +41,8 @@ six-lines-right = refl
 pub not-to-the-nearest : microsUp (bp 48001) ≡ us 625014
 unfolding microsUp up
 not-to-the-nearest = refl
+
+-- page 02: 1,000 bp; and 48 bp are 625 us still, with nothing lost
+in-ns : (nanosUp (bp 1000) ≡ ns 13020834) × (nanosUp (bp 6) ≡ ns 78125) × (nanosUp (bp 48) ≡ ns 625000) × (nanosUp (bp 0) ≡ ns 0)
+unfolding nanosUp up
+in-ns = (refl, refl, refl, refl)

@@ -1,25 +1,60 @@
--- Page 01, 'Units': what the two rounding rules are, each of them fixed by its words alone. Assumes nothing.
+-- Page 01, 'Units', and page 02, 'Ask 5': what the rounding rules are, each of them fixed by its words alone. Assumes nothing.
 use mathlib.Core.Path.{_≡_, ap}
-use Prim.Native.Nat.{_*_, _/_, _^_, _≤_, _<_}
+use Prim.Native.Nat.{ℕ, _*_, _/_, _^_, _≤_, _<_}
+use native.Mathlib.Nat.{mul-comm}
 use native.Mathlib.Omega.{arith}
 use Rattle.common.specs.Sums.{up}
-use Rattle.units.specs.Units.{bp, us, Within, microsUp, periodsDown}
+use Rattle.common.proofs.Sums as sums
+use Rattle.units.specs.Units.{bp, us, ns, Within, WithinNanos, microsUp, nanosUp, periodsDown}
 use Rattle.units.specs.declared.BitPeriods.{BitPeriods}
 use Rattle.units.specs.declared.Micros.{Micros}
+use Rattle.units.specs.declared.Nanos.{Nanos}
+
+-- ---- Rounding up, whatever the unit
+
+-- n is the least number that is enough
+pub record Least (Enough : ℕ → Type 0) (n : ℕ) : Type 0 where
+  pub enough : Enough n
+  pub least : (m : ℕ) → Enough m → n ≤ m
+
+pub least-is-one : (Enough : ℕ → Type 0) (n m : ℕ) → Least Enough n → Least Enough m → n ≡ m
+least-is-one Enough n m a b = omega (arith, a .least m (b .enough), b .least n (a .enough))
+
+-- x/t rounded up is the least that t times cover x
+pub up-is-least : (x t : ℕ) → 0 < t → Least (λ n. x ≤ t * n) (up x t)
+up-is-least x t some =
+    record {
+      enough = omega (arith, sums.up-covers x t some, mul-comm (up x t) t);
+      least = λ m h. sums.up-at-most x t m some (omega (arith, mul-comm m t));
+    }
 
 -- ---- A bound, rounded up
 
--- u is the least count of us that covers b
-pub record Covers (b : BitPeriods) (u : Micros) : Type 0 where
-  pub enough : Within b u
-  pub least : (v : Micros) → Within b v → u .0 ≤ v .0
+-- u is the least count of us that covers b, n the least count of ns
+abbrev pub Covers : BitPeriods → Micros → Type 0
+Covers b u = Least (λ v. Within b (us v)) (u .0)
 
-pub up-covers : (b : BitPeriods) → Covers b (microsUp b)
-unfolding microsUp up
-up-covers b = record { enough = omega arith; least = λ v w. omega arith }
+abbrev pub CoversNanos : BitPeriods → Nanos → Type 0
+CoversNanos b n = Least (λ v. WithinNanos b (ns v)) (n .0)
 
-pub up-is-the-only : (b : BitPeriods) (u : Micros) → Covers b u → u ≡ microsUp b
-up-is-the-only b u h = ap us (omega (arith, h .least (microsUp b) (up-covers b .enough), up-covers b .least u (h .enough)))
+pub micros-cover : (b : BitPeriods) → Covers b (microsUp b)
+unfolding microsUp
+micros-cover b = up-is-least (625 * b .0) 48 (omega arith)
+
+pub nanos-cover : (b : BitPeriods) → CoversNanos b (nanosUp b)
+unfolding nanosUp
+nanos-cover b = up-is-least (78125 * b .0) 6 (omega arith)
+
+pub no-other-micros : (b : BitPeriods) (u : Micros) → Covers b u → u ≡ microsUp b
+no-other-micros b u h = ap us (least-is-one (λ v. Within b (us v)) (u .0) (microsUp b .0) h (micros-cover b))
+
+pub no-other-nanos : (b : BitPeriods) (n : Nanos) → CoversNanos b n → n ≡ nanosUp b
+no-other-nanos b n h = ap ns (least-is-one (λ v. WithinNanos b (ns v)) (n .0) (nanosUp b .0) h (nanos-cover b))
+
+-- 64 bits hold the us and the ns of every 32-bit count of bp
+pub up-of-32-bits : (b : BitPeriods) → b .0 < 2 ^ 32 → (microsUp b .0 < 2 ^ 64) × (nanosUp b .0 < 2 ^ 64)
+unfolding microsUp nanosUp up
+up-of-32-bits b s = (omega arith, omega arith)
 
 -- ---- A deadline, rounded down
 
@@ -41,8 +76,3 @@ down-is-the-only u b h =
 pub down-of-32-bits : (u : Micros) → u .0 < 2 ^ 32 → periodsDown u .0 ≡ 48 * u .0 / 625
 unfolding periodsDown
 down-of-32-bits u s = omega arith
-
--- 64 bits hold the us of every 32-bit count of bp
-pub up-of-32-bits : (b : BitPeriods) → b .0 < 2 ^ 32 → microsUp b .0 < 2 ^ 64
-unfolding microsUp up
-up-of-32-bits b s = omega arith

@@ -9,8 +9,14 @@ use Rattle.lines.proofs.put_line.Tie as tie
 put-name-requires : tie.Need-put-name-requires
 put-name-requires c κs = search needs
 
-put-figures-requires : tie.Need-put-figures-requires
-put-figures-requires c κs = search needs
+slice-aggregate-put-two : tie.Need-slice-aggregate-put-two
+slice-aggregate-put-two c = search needs
+
+slice-aggregate-put-two-2 : tie.Need-slice-aggregate-put-two-2
+slice-aggregate-put-two-2 c = search needs
+
+put-two-requires : tie.Need-put-two-requires
+put-two-requires c κs = search needs
 
 slice-aggregate-put-counted : tie.Need-slice-aggregate-put-counted
 slice-aggregate-put-counted c = search needs
@@ -26,8 +32,8 @@ same-length c = search needs
 
 returns : tie.Need-returns
 unfolding counted masterLine
-returns c = wrote-then (c .before .before .before .before .before .before .before .before .before .before .before .before .put-name .ensures) (wrote-then (c .before .before .before .before .before .before .before .before .put-figures .ensures) (c .before .before .put-counted .ensures))
+returns c = wrote-then (c .before .before .before .before .before .before .before .before .before .before .before .before .before .before .put-name .ensures) (wrote-then (c .before .before .before .before .before .before .before .before .put-two .ensures) (c .before .before .put-counted .ensures))
 
 pub put-line-spec : {M : Type 1} → statement M
 put-line-spec =
-    tie.close (tie.spec put-name-requires put-figures-requires slice-aggregate-put-counted slice-aggregate-put-counted-2 put-counted-requires same-length returns)
+    tie.close (tie.spec put-name-requires slice-aggregate-put-two slice-aggregate-put-two-2 put-two-requires slice-aggregate-put-counted slice-aggregate-put-counted-2 put-counted-requires same-length returns)

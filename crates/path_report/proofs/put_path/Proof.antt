@@ -1,6 +1,6 @@
 -- `path_report::put_path` stores the heading, the first segment, the gateways with the segments behind them, and the last line. Assumes nothing.
 use Rattle.text.proofs.Writing.{wrote-then}
-use Rattle.path_report.specs.Told.{totalLine, pathText}
+use Rattle.path_report.specs.Told.{pathText}
 use borrow.Author.Needs.{needs}
 use Rattle.path_report.proofs.put_path.Statement.{statement}
 use Rattle.path_report.proofs.put_path.Tie as tie
@@ -26,28 +26,22 @@ put-segment-requires c κs = search needs
 put-hops-requires : tie.Need-put-hops-requires
 put-hops-requires c κs = search needs
 
-slice-aggregate-put-pair : tie.Need-slice-aggregate-put-pair
-slice-aggregate-put-pair c = search needs
-
-slice-aggregate-put-pair-2 : tie.Need-slice-aggregate-put-pair-2
-slice-aggregate-put-pair-2 c = search needs
-
-put-pair-requires : tie.Need-put-pair-requires
-put-pair-requires c κs = search needs
+put-total-requires : tie.Need-put-total-requires
+put-total-requires c κs = search needs
 
 same-length : tie.Need-same-length
 same-length c = search needs
 
 returns : tie.Need-returns
-unfolding pathText totalLine
+unfolding pathText
 returns c =
-    rw (← c .before .before .before .before .before .before .before .before .before .before .before .before .before .before .before .before .before .before .before .before .before .before .before .before .before .shown .ensures)
-    (wrote-then (c .before .before .before .before .before .before .before .before .before .before .before .before .before .before .before .before .before .before .before .put-word .ensures)
-    (wrote-then (c .before .before .before .before .before .before .before .before .before .before .before .before .before .before .before .put-segment .ensures)
-    (wrote-then (c .before .before .before .before .before .before .before .before .put-hops .ensures) (c .before .before .put-pair .ensures))))
+    rw (← c .before .before .before .before .before .before .before .before .before .before .before .before .before .before .before .before .before .before .before .before .before .before .before .shown .ensures)
+    (wrote-then (c .before .before .before .before .before .before .before .before .before .before .before .before .before .before .before .before .before .put-word .ensures)
+    (wrote-then (c .before .before .before .before .before .before .before .before .before .before .before .before .before .put-segment .ensures)
+    (wrote-then (c .before .before .before .before .before .before .put-hops .ensures) (c .before .before .put-total .ensures))))
 
 pub put-path-spec : {M : Type 1} → statement M
 put-path-spec =
     tie.close
     (tie.spec shown-requires slice-aggregate-put-word put-word-requires array-read-bound array-read-put-segment put-segment-requires put-hops-requires
-    slice-aggregate-put-pair slice-aggregate-put-pair-2 put-pair-requires same-length returns)
+    put-total-requires same-length returns)

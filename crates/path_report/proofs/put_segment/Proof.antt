@@ -11,7 +11,7 @@ use borrow.Author.Needs.{needs}
 use Rattle.path_report.proofs.put_segment.Statement.{statement}
 use Rattle.path_report.proofs.put_segment.Tie as tie
 
--- the four pieces that the code stores
+-- the three pieces that the code stores
 pieces : (number master : ℕ) (bound : BitPeriods)
     → segmentLine number master bound ≡ counted (word "segment ") number (word " ") ++ (nameOf master ++ ((word " bound " ++ inBp bound) ++ word "\n"))
 unfolding segmentLine counted
@@ -29,17 +29,11 @@ put-counted-requires c κs = search needs
 put-name-requires : tie.Need-put-name-requires
 put-name-requires c κs = search needs
 
-slice-aggregate-put-bp : tie.Need-slice-aggregate-put-bp
-slice-aggregate-put-bp c = search needs
+slice-aggregate-put-end : tie.Need-slice-aggregate-put-end
+slice-aggregate-put-end c = search needs
 
-put-bp-requires : tie.Need-put-bp-requires
-put-bp-requires c κs = search needs
-
-slice-aggregate-put-word : tie.Need-slice-aggregate-put-word
-slice-aggregate-put-word c = search needs
-
-put-word-requires : tie.Need-put-word-requires
-put-word-requires c κs = search needs
+put-end-requires : tie.Need-put-end-requires
+put-end-requires c κs = search needs
 
 same-length : tie.Need-same-length
 same-length c = search needs
@@ -47,12 +41,11 @@ same-length c = search needs
 returns : tie.Need-returns
 returns c =
     rw pieces
-    (wrote-then (c .before .before .before .before .before .before .before .before .before .before .before .before .before .before .before .before .put-counted .ensures)
-    (wrote-then (c .before .before .before .before .before .before .before .before .before .before .before .before .put-name .ensures)
-    (wrote-then (c .before .before .before .before .before .before .before .put-bp .ensures) (c .before .before .put-word .ensures))))
+    (wrote-then (c .before .before .before .before .before .before .before .before .before .before .before .put-counted .ensures)
+    (wrote-then (c .before .before .before .before .before .before .before .put-name .ensures) (c .before .before .put-end .ensures)))
 
 pub put-segment-spec : {M : Type 1} → statement M
 put-segment-spec =
     tie.close
-    (tie.spec slice-aggregate-put-counted slice-aggregate-put-counted-2 put-counted-requires put-name-requires slice-aggregate-put-bp put-bp-requires
-    slice-aggregate-put-word put-word-requires same-length returns)
+    (tie.spec slice-aggregate-put-counted slice-aggregate-put-counted-2 put-counted-requires put-name-requires slice-aggregate-put-end put-end-requires
+    same-length returns)

@@ -1,4 +1,4 @@
--- `units::micros_up` answers b rounded up. Assumes nothing.
+-- `units::micros_up` answers b in us, rounded up. Assumes nothing.
 use mathlib.Core.Path.{ap}
 use native.Mathlib.Omega.{arith}
 use borrow.Author.Needs.{needs}
