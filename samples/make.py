@@ -56,8 +56,8 @@ SAMPLES = [
         ],
         0,
         "P-NET segment\n"
-        "M01 bound 1000 bp 13021 us refined 760 bp 9896 us 1 rounds\n"
-        "M02 bound 500 bp 6511 us refined 500 bp 6511 us 1 rounds\n",
+        "M01 bound 1000 bp 13020834 ns refined 760 bp 9895834 ns 1 rounds\n"
+        "M02 bound 500 bp 6510417 ns refined 500 bp 6510417 ns 1 rounds\n",
     ),
     (
         "pnet-waiting-request",
@@ -72,18 +72,18 @@ SAMPLES = [
         ],
         0,
         "P-NET segment\n"
-        "M01 bound 1000 bp 13021 us refined 1000 bp 13021 us 2 rounds\n"
-        "M02 bound 500 bp 6511 us refined 500 bp 6511 us 1 rounds\n",
+        "M01 bound 1000 bp 13020834 ns refined 1000 bp 13020834 ns 2 rounds\n"
+        "M02 bound 500 bp 6510417 ns refined 500 bp 6510417 ns 1 rounds\n",
     ),
     (
         "pnet-four-masters",
         "Accepted. Every deadline stands at the bound of 2,000 bp, which source 004\n"
-        "prints as 26 ms; rounded up it is 26,042 us.",
+        "prints as 26 ms; rounded up it is 26,041,667 ns.",
         FOUR_MASTERS,
         0,
         "P-NET segment\n"
         + "".join(
-            "M0%d bound 2000 bp 26042 us refined 2000 bp 26042 us 1 rounds\n" % y
+            "M0%d bound 2000 bp 26041667 ns refined 2000 bp 26041667 ns 1 rounds\n" % y
             for y in (1, 2, 3, 4)
         ),
     ),
@@ -107,8 +107,8 @@ SAMPLES = [
         ],
         0,
         "P-NET segment\n"
-        "M01 bound 620 bp 8073 us refined 620 bp 8073 us 1 rounds\n"
-        "M03 bound 1240 bp 16146 us refined 1000 bp 13021 us 1 rounds\n",
+        "M01 bound 620 bp 8072917 ns refined 620 bp 8072917 ns 1 rounds\n"
+        "M03 bound 1240 bp 16145834 ns refined 1000 bp 13020834 ns 1 rounds\n",
     ),
     (
         "profibus-ring",
@@ -189,9 +189,9 @@ CAPTURES = [
             (16, 3, 100_004),
         ],
         "P-NET capture\n"
-        "stream 1 M01 bound 1000 bp largest 1000 bp 1 answers 0 above 0 open\n"
-        "stream 2 M01 bound 1000 bp largest 521 bp 1 answers 0 above 0 open\n"
-        "stream 3 M02 bound 500 bp largest 193 bp 1 answers 0 above 1 open\n"
+        "stream 1 M01 bound 1000 bp 13020834 ns largest 1000 bp 13020834 ns 1 answers 0 above 0 open\n"
+        "stream 2 M01 bound 1000 bp 13020834 ns largest 521 bp 6783855 ns 1 answers 0 above 0 open\n"
+        "stream 3 M02 bound 500 bp 6510417 ns largest 193 bp 2513021 ns 1 answers 0 above 1 open\n"
         "every answer within its bound\n",
     ),
     (
@@ -207,9 +207,9 @@ CAPTURES = [
             (17, 3, 101_700),
         ],
         "P-NET capture\n"
-        "stream 1 M01 bound 1000 bp largest 930 bp 1 answers 0 above 0 open\n"
-        "stream 2 M01 bound 1000 bp largest 0 bp 0 answers 0 above 0 open\n"
-        "stream 3 M02 bound 500 bp largest 501 bp 2 answers 1 above 0 open\n"
+        "stream 1 M01 bound 1000 bp 13020834 ns largest 930 bp 12109375 ns 1 answers 0 above 0 open\n"
+        "stream 2 M01 bound 1000 bp 13020834 ns largest 0 bp 0 ns 0 answers 0 above 0 open\n"
+        "stream 3 M02 bound 500 bp 6510417 ns largest 501 bp 6523438 ns 2 answers 1 above 0 open\n"
         "answers above the bound in 1 streams, first stream 3\n",
     ),
     (
@@ -234,7 +234,7 @@ PATHS = [
         "segment 1 M01 bound 1000 bp\n"
         "gateway 1 request 30 bp reply 30 bp\n"
         "segment 2 M02 bound 2000 bp\n"
-        "total 3060 bp deadline 3060 bp\n",
+        "total 3060 bp 39843750 ns deadline 3060 bp\n",
     ),
     (
         "path-late",

@@ -38,6 +38,7 @@ PHRASES = (
     "at most %d for one master" % second_opinion.STREAMS_LIMIT_OF_MASTER,
     "at most %d variables" % second_opinion.VARIABLES_LIMIT,
     "48 in %d us" % second_opinion.us_up(48),
+    "6 in %d ns" % second_opinion.ns_up(6),
     "a kind that is not %d..%d" % (min(second_opinion.WIDTHS), max(second_opinion.WIDTHS)),
     "more than %d rows" % second_opinion.ROWS_LIMIT,
     "however often the others ask",

@@ -45,6 +45,11 @@ def us_up(bp):
     return -(-bp * 625 // 48)
 
 
+def ns_up(bp):
+    """A bound in bp as ns, rounded up; at 76,800 bit/s one bp is 78,125/6 ns."""
+    return -(-bp * 10**9 // 76_800)
+
+
 def bp_down(us):
     """A deadline in us as bp, rounded down."""
     return us * 48 // 625
@@ -488,8 +493,8 @@ def report_lines(data):
         for master, (r, w, rounds) in enumerate(figures, start=1):
             if r != 0:
                 lines.append(
-                    "M%02d bound %d bp %d us refined %d bp %d us %d rounds"
-                    % (master, r, us_up(r), w, us_up(w), rounds)
+                    "M%02d bound %d bp %d ns refined %d bp %d ns %d rounds"
+                    % (master, r, ns_up(r), w, ns_up(w), rounds)
                 )
         return lines
 
@@ -536,8 +541,8 @@ def capture_lines(data, capture):
     lines = ["P-NET capture"]
     for number, one in enumerate(shown, start=1):
         lines.append(
-            "stream %d M%02d bound %d bp largest %d bp %d answers %d above %d open"
-            % (number, one.master, one.bound, one.largest, one.answers, one.above, one.left)
+            "stream %d M%02d bound %d bp %d ns largest %d bp %d ns %d answers %d above %d open"
+            % (number, one.master, one.bound, ns_up(one.bound), one.largest, ns_up(one.largest), one.answers, one.above, one.left)
         )
     above = [number for number, one in enumerate(shown, start=1) if one.above]
     if above:
@@ -568,7 +573,7 @@ def path_lines(segments, times, deadline):
         if number > 1:
             lines.append("gateway %d request %d bp reply %d bp" % ((number - 1,) + (times[number - 2],) * 2))
         lines.append("segment %d M%02d bound %d bp" % (number, master, bound))
-    lines.append("total %d bp deadline %d bp" % (crossed.total, deadline))
+    lines.append("total %d bp %d ns deadline %d bp" % (crossed.total, ns_up(crossed.total), deadline))
     return lines
 
 

@@ -63,8 +63,11 @@ def shown(answer):
 
 UP = [(0, 0), (1, 14), (48, 625), (2_000, 26_042), (48_001, 625_014)]
 DOWN = [(26_041, 1_999), (26_042, 2_000)]
-# both conversions accept every 32-bit number
+# page 02, Ask 5; two legs of 501 bp are turned up once, not leg by leg
+UP_NS = [(0, 0), (1, 13_021), (6, 78_125), (501, 6_523_438), (1_000, 13_020_834), (1_002, 13_046_875)]
+# the conversions accept every 32-bit number
 UP_WIDE = [(2**32 - 1, 55_924_053_321)]
+UP_NS_WIDE = [(2**32 - 1, 55_924_053_320_313)]
 DOWN_WIDE = [(0, 0), (2**32 - 1, 329_853_488)]
 
 FOUR_MASTERS = [(1, 4)] + [(2, y, 203, 100_000, 2_000) for y in (1, 2, 3, 4, 1, 2, 3, 4)]
@@ -93,8 +96,8 @@ PAGE = [
     ("pnet", sheet(*TWO_MASTERS), "R 1000 500; W 760 500; rounds 1 1"),
     ("report", sheet(*TWO_MASTERS),
      "P-NET segment\n"
-     "M01 bound 1000 bp 13021 us refined 760 bp 9896 us 1 rounds\n"
-     "M02 bound 500 bp 6511 us refined 500 bp 6511 us 1 rounds\n"),
+     "M01 bound 1000 bp 13020834 ns refined 760 bp 9895834 ns 1 rounds\n"
+     "M02 bound 500 bp 6510417 ns refined 500 bp 6510417 ns 1 rounds\n"),
     ("pnet", sheet(*WAITING), "R 1000 500; W 1000 500; rounds 2 1"),
     ("profibus", sheet(*RING), "TTR 2500 by 1"),
     ("report", sheet(*RING), "PROFIBUS ring\nTTR 2500 bp limited by stream 1\n"),
@@ -175,6 +178,7 @@ A:0, A:1 | 0 | 1000 | 18 at 1
 A:1, 0103 020200cb0000270f0000270f:1 | 0 | 1000 | 18 at 2
 A:1, 05 00000190 06 0011 000003e8:1 | 0 | 1000 | 3 at 0
 A:1, 05 00000190:1 | 0 | 1000 | 6 at 5
+2*0102 020100cb0000270f0000270f 020200cc0000270f0000270f:1 | 0 | 1002 | total 1002
 """
 
 
@@ -260,9 +264,9 @@ PROSE = [
      lambda: opinion.capture_report(
          sheet(*TWO_MASTERS), events((16, 1, 5), (16, 3, 4), (17, 3, 4), (17, 1, 1_006), (16, 3, 9))),
      "P-NET capture\n"
-     "stream 1 M01 bound 1000 bp largest 1001 bp 1 answers 1 above 0 open\n"
-     "stream 2 M01 bound 1000 bp largest 0 bp 0 answers 0 above 0 open\n"
-     "stream 3 M02 bound 500 bp largest 0 bp 1 answers 0 above 1 open\n"
+     "stream 1 M01 bound 1000 bp 13020834 ns largest 1001 bp 13033855 ns 1 answers 1 above 0 open\n"
+     "stream 2 M01 bound 1000 bp 13020834 ns largest 0 bp 0 ns 0 answers 0 above 0 open\n"
+     "stream 3 M02 bound 500 bp 6510417 ns largest 0 bp 0 ns 1 answers 0 above 1 open\n"
      "answers above the bound in 1 streams, first stream 1\n"),
     ("a refused capture", lambda: opinion.capture_report(sheet(*TWO_MASTERS), events((17, 1, 0))),
      "refused 15 at capture byte 0\n"),
@@ -272,7 +276,14 @@ PROSE = [
      "segment 1 M01 bound 1000 bp\n"
      "gateway 1 request 30 bp reply 30 bp\n"
      "segment 2 M02 bound 2000 bp\n"
-     "total 3060 bp deadline 3060 bp\n"),
+     "total 3060 bp 39843750 ns deadline 3060 bp\n"),
+    ("a path's total is turned up once: leg by leg it would be 1 ns more",
+     lambda: opinion.path_report([(sheet((1, 2), (2, 1, 203, 9_999, 9_999), (2, 2, 204, 9_999, 9_999)), 1)] * 2, [0], 1_002),
+     "P-NET path\n"
+     "segment 1 M01 bound 501 bp\n"
+     "gateway 1 request 0 bp reply 0 bp\n"
+     "segment 2 M01 bound 501 bp\n"
+     "total 1002 bp 13046875 ns deadline 1002 bp\n"),
     ("a refused sheet of a path",
      lambda: opinion.path_report([(sheet(*TWO_MASTERS), 1), (sheet(*FOUR_MASTERS_LATE), 2)], [0], 1),
      "refused 8 at stream 5 of segment 2\n"),
@@ -306,6 +317,8 @@ def vectors():
     """Every vector as (name, what is asked, the answer known beforehand)."""
     for bp, us in UP + UP_WIDE:
         yield "%d bp up" % bp, lambda bp=bp: opinion.us_up(bp), str(us)
+    for bp, ns in UP_NS + UP_NS_WIDE:
+        yield "%d bp up in ns" % bp, lambda bp=bp: opinion.ns_up(bp), str(ns)
     for us, bp in DOWN + DOWN_WIDE:
         yield "%d us down" % us, lambda us=us: opinion.bp_down(us), str(bp)
     for name, data, expected in PAGE:

@@ -19,6 +19,11 @@ two-segments : pathText (item (0 ∷ 1 ∷ 2 ∷ [])) (item (0 ∷ 500 ∷ 500 �
 unfolding pathText hopLines segmentLine gatewayLine totalLine inBoth inBp inNs nanosUp up nameOf texts decimal places widthOf holds firstOf
 two-segments = refl
 
+-- two legs of 501 bp are turned into ns once: 6,523,438 ns each would be 13,046,876
+legs : totalLine (bp (501 + 501)) (bp 1060) ≡ word "total 1002 bp 13046875 ns deadline 1060 bp\n"
+unfolding totalLine inBoth inBp inNs nanosUp up decimal places widthOf holds firstOf
+legs = refl
+
 -- eleven segments with every figure as wide as 32 bits allow. `mostPath` counts two digits for each hop's number, and 18 of them have one
 widest : length (pathText (λ i. 31) (λ i. 4294967295) (λ i. 4294967295) 10 (bp 4294967295) (bp 4294967295)) + 18 ≡ mostPath
 unfolding pathText hopLines segmentLine gatewayLine totalLine inBoth inBp inNs nanosUp up nameOf texts decimal places widthOf holds firstOf

@@ -1,5 +1,5 @@
--- Page 01, 'Sheets worked by hand': the cases marked (p), in one table, and the sheet of page 02, Ask 2. The count behind W and its
--- rounds is that of page 02, Ask 2, for all of them. Each sheet goes through its bytes: it is written record by record, read and planned
+-- Page 01, 'Sheets worked by hand': the cases marked (p), in one table, the sheet of page 02, Ask 2, and the figure of Ask 5. The count
+-- behind W and its rounds is that of page 02, Ask 2, for all of them. Each sheet goes through its bytes: it is written record by record, read and planned
 -- by the definitions that the planners' contracts cite. Assumes nothing.
 use Prim.Native.Nat.{ℕ}
 use mathlib.Core.List.{List, [], _∷_, _++_}
@@ -7,7 +7,7 @@ use mathlib.Core.Bool.{Bool, true, false, _&&_}
 use lib.ListN.{length}
 use lib.Dec.{eqb}
 use Rattle.common.specs.Runs.{tab}
-use Rattle.units.specs.Units.{bp, us, microsUp, periodsDown}
+use Rattle.units.specs.Units.{bp, us, microsUp, nanosUp, periodsDown}
 use Rattle.format.specs.declared.Record.{Record}
 use Rattle.sheet.specs.Whole.{Outcome, reading}
 use Rattle.sheet.specs.Whole.Outcome.{Read, Not}
@@ -110,7 +110,7 @@ abbrev pub _is_ : List ℕ → List ℕ → Case
 w is x = record { worked = w; wanted = x }
 
 unfoldable pub cases : List Case
-unfolding pnet profibus worldfip microsUp periodsDown
+unfolding pnet profibus worldfip microsUp nanosUp periodsDown
 cases =
     -- the six unit lines
     ((microsUp (bp 0) .0 ∷ []) is (0 ∷ []))
@@ -119,6 +119,8 @@ cases =
     ∷ ((microsUp (bp 2000) .0 ∷ []) is (26042 ∷ []))
     ∷ ((periodsDown (us 26041) .0 ∷ []) is (1999 ∷ []))
     ∷ ((periodsDown (us 26042) .0 ∷ []) is (2000 ∷ []))
+    -- page 02, Ask 5: 1,000 bp in ns
+    ∷ ((nanosUp (bp 1000) .0 ∷ []) is (13020834 ∷ []))
     -- V 1,000, R 2,000 bp; D = 2,000 passes, 1,999 is refused with 8
     ∷ (pnet (four 2000) is (1000 ∷ 2000 ∷ 2000 ∷ 2000 ∷ 2000 ∷ 2000 ∷ 2000 ∷ 2000 ∷ 2000 ∷ 1 ∷ 1 ∷ 1 ∷ 1 ∷ []))
     ∷ (pnet (four 1999) is (8 ∷ 8 ∷ []))

@@ -1,1 +1,1 @@
-// Page 01's worked cases that are to be proved, and the sheet of page 02, Ask 2, in one table; no code.
+// Page 01's worked cases that are to be proved, the sheet of page 02, Ask 2, and the figure of Ask 5, in one table; no code.
