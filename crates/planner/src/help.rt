@@ -1,121 +1,114 @@
-// What --help writes: what the bytes of a sheet and of a capture are, and what a path is, with units.
+// What --help writes: what the bytes of a sheet and of a capture are, and what a path is, with units. Each part is one byte string, as it
+// is shown: calls are what a proof costs.
 use libc::STDOUT_FILENO;
 
-fn line(text: &[u8]) {
-    io::write_all(STDOUT_FILENO, text);
-    io::write_all(STDOUT_FILENO, b"\n");
-}
-
 fn usage() {
-    line(b"planner: plans a fieldbus sheet and writes a report");
-    line(b"");
-    line(b"planner < SHEET          reads the sheet from standard input");
-    line(b"planner SHEET            reads it from the file SHEET");
-    line(b"planner SHEET CAPTURE    lays a tester's capture beside the bounds of a P-NET sheet");
-    line(b"planner --path DEADLINE bp SHEET MASTER TIME bp SHEET MASTER ..");
-    line(
-        b"                         goes over a path of several P-NET segments, for as many gateways as TIMEs",
+    io::write_all(
+        STDOUT_FILENO,
+        b"planner: plans a fieldbus sheet and writes a report
+
+planner < SHEET          reads the sheet from standard input
+planner SHEET            reads it from the file SHEET
+planner SHEET CAPTURE    lays a tester's capture beside the bounds of a P-NET sheet
+planner --path DEADLINE bp SHEET MASTER TIME bp SHEET MASTER ..
+                         goes over a path of several P-NET segments, for as many gateways as TIMEs
+planner --help           writes this
+
+- stands for standard input: planner SHEET - < CAPTURE
+",
     );
-    line(b"planner --help           writes this");
-    line(b"");
-    line(b"- stands for standard input: planner SHEET - < CAPTURE");
 }
 
 fn kinds() {
-    line(b"A sheet is a row of records: one byte of kind, then a body. Numbers are big-endian.");
-    line(b"");
-    line(b"kind  body  fields, each with its bytes and its range");
-    line(b"   1     1  P-NET segment: masters N (1) 1..32");
-    line(
-        b"   2    11  P-NET stream: master (1) 1..N, longest cycle C (2) 1..1548 bp, spacing T (4) 1..1000000000 bp, deadline D (4) 1..T bp",
+    io::write_all(
+        STDOUT_FILENO,
+        b"
+A sheet is a row of records: one byte of kind, then a body. Numbers are big-endian.
+
+kind  body  fields, each with its bytes and its range
+   1     1  P-NET segment: masters N (1) 1..32
+   2    11  P-NET stream: master (1) 1..N, longest cycle C (2) 1..1548 bp, spacing T (4) 1..1000000000 bp, deadline D (4) 1..T bp
+   3     9  PROFIBUS ring: masters n (1) 1..32, ring latency L (4) 1..100000 bp, longest message M (4) 1..100000 bp
+   4     9  PROFIBUS high-priority stream: master (1) 1..n, cycle C (4) 1..M bp, deadline D (4) 1..1000000000 bp
+   5     4  WorldFIP: one buffer exchange E (4) 1..1000000 us
+   6     6  WorldFIP variable: identifier (2) any, period (4) 1..1000000000 us
+",
     );
-    line(
-        b"   3     9  PROFIBUS ring: masters n (1) 1..32, ring latency L (4) 1..100000 bp, longest message M (4) 1..100000 bp",
-    );
-    line(
-        b"   4     9  PROFIBUS high-priority stream: master (1) 1..n, cycle C (4) 1..M bp, deadline D (4) 1..1000000000 bp",
-    );
-    line(b"   5     4  WorldFIP: one buffer exchange E (4) 1..1000000 us");
-    line(b"   6     6  WorldFIP variable: identifier (2) any, period (4) 1..1000000000 us");
 }
 
 fn rules() {
-    line(
-        b"The first record is 1, 3 or 5; all later ones are 2, 4 or 6 to match. P-NET and PROFIBUS: at most 800 streams, at most 80 for one master.",
-    );
-    line(
-        b"WorldFIP: at most 64 variables, no identifier twice. us are microseconds, ns nanoseconds. bp are bit periods: of P-NET, 48 in 625 us and 6 in 78125 ns; of that ring for PROFIBUS.",
+    io::write_all(
+        STDOUT_FILENO,
+        b"
+The first record is 1, 3 or 5; all later ones are 2, 4 or 6 to match. P-NET and PROFIBUS: at most 800 streams, at most 80 for one master.
+WorldFIP: at most 64 variables, no identifier twice. us are microseconds and ns nanoseconds. bp are bit periods: of P-NET, 48 in 625 us
+or 6 in 78125 ns; of that ring for PROFIBUS.
+",
     );
 }
 
 fn figures() {
-    line(
-        b"A P-NET report has a line for each master with streams. bound: each of its requests is answered within it, if that master keeps its spacing,",
-    );
-    line(
-        b"however often the others ask. refined: the same, if every master keeps its spacing. Both are in bp and in ns, rounded up. rounds: of the search for refined.",
+    io::write_all(
+        STDOUT_FILENO,
+        b"
+A P-NET report has a line for each master with streams. bound: each of its requests is answered within it, if that master keeps its spacing,
+however often the others ask. refined: the same, if every master keeps its spacing. Both are in bp and in ns, rounded up. rounds: of the search
+for refined.
+",
     );
 }
 
 fn captures() {
-    line(
-        b"A capture is a row of records of its own: one byte of kind, 16 for a request that enters its queue or 17 for its completed answer,",
-    );
-    line(
-        b"then the stream's number (2) and the stamp (4), a counter of bp that runs over to zero. A response is true below 4294967296 bp.",
-    );
-    line(
-        b"Its report has a line for each stream: bound and largest response in bp and in ns, rounded up; answers, answers above the bound, and 1 or 0 requests left open.",
+    io::write_all(
+        STDOUT_FILENO,
+        b"
+A capture is a row of records of its own: one byte of kind, 16 for a request that enters its queue or 17 for its completed answer,
+then the stream's number (2) and the stamp (4), a counter of bp that runs over to zero. A response is true below 4294967296 bp.
+Its report has a line for each stream: bound and largest response, both in bp and in ns, rounded up; answers, answers above the bound,
+and 1 or 0 requests left open.
+",
     );
 }
 
 fn paths() {
-    line(
-        b"A path has 1 to 10 gateways and a sheet for each segment. MASTER sends there, after the first segment the gateway: the relayed stream stands in every",
+    io::write_all(
+        STDOUT_FILENO,
+        b"
+A path has 1 to 10 gateways and a sheet for each segment. MASTER sends there, after the first segment the gateway: the relayed stream stands
+in every sheet, under the master that carries it. TIME: the gateway's forwarding time, 0..1000000 bp. DEADLINE: of the whole path,
+1..1000000000 bp. Its report has a line for each hop. total: each segment's bound for its MASTER, and each TIME twice, for the request and for
+its reply, in bp and in ns, rounded up once. The reply is there within it, if each MASTER keeps its spacing and each gateway its time, and if no
+reply waits for a token on its way back.
+",
     );
-    line(
-        b"sheet, under the master that carries it. TIME: the gateway's forwarding time, 0..1000000 bp. DEADLINE: of the whole path, 1..1000000000 bp.",
-    );
-    line(
-        b"Its report has a line for each hop, in bp. total: each segment's bound for its MASTER, and each TIME twice, for the request and for its reply; in bp,",
-    );
-    line(
-        b"and in ns, rounded up once. The reply is there within it, if each MASTER keeps its spacing and each gateway its time, and if no reply waits for a token",
-    );
-    line(b"on its way back.");
 }
 
 fn refusals() {
-    line(b"A sheet that cannot be planned is refused with a number and a place:");
-    line(b"   1  it is empty, or ends inside a record     2  a kind that is not 1..6");
-    line(b"   3  a kind in the wrong position             4  a field out of range");
-    line(b"   5  one stream more than a limit allows      6  a first record and no stream");
-    line(b"   7  an identifier met before                 8  a P-NET bound above a deadline");
-    line(b"   9  a PROFIBUS stream fails at L            10  no exchange fits a microcycle");
-    line(b"  11  more than 4096 rows                     12  a variable misses its period");
-    line(b"  14  a stream that is not on the sheet       15  an answer with no request open");
-    line(b"  16  a request while one is open             17  a path of not 1 to 10 gateways");
-    line(b"  18  a MASTER absent or without streams      19  a path's total above its DEADLINE");
-    line(
-        b"In a capture 1 is a record that is cut, 2 a kind that is neither 16 nor 17, and the place is a byte of the capture.",
-    );
-    line(
-        b"In a path 4 is a TIME or the DEADLINE out of range; where a sheet is refused for itself, the line says of which segment.",
+    io::write_all(
+        STDOUT_FILENO,
+        b"
+A sheet that cannot be planned is refused with a number and a place:
+   1  it is empty, or ends inside a record     2  a kind that is not 1..6
+   3  a kind in the wrong position             4  a field out of range
+   5  one stream more than a limit allows      6  a first record and no stream
+   7  an identifier met before                 8  a P-NET bound above a deadline
+   9  a PROFIBUS stream fails at L            10  no exchange fits a microcycle
+  11  more than 4096 rows                     12  a variable misses its period
+  14  a stream that is not on the sheet       15  an answer with no request open
+  16  a request while one is open             17  a path of not 1 to 10 gateways
+  18  a MASTER absent or without streams      19  a path's total above its DEADLINE
+In a capture 1 is a record that is cut, 2 a kind that is neither 16 nor 17, and the place is a byte of the capture.
+In a path 4 is a TIME or the DEADLINE out of range; where a sheet is refused for itself, the line says of which segment.
+",
     );
 }
 
 pub(crate) fn help() {
     usage();
-    line(b"");
     kinds();
-    line(b"");
     rules();
-    line(b"");
     figures();
-    line(b"");
     captures();
-    line(b"");
     paths();
-    line(b"");
     refusals();
 }
