@@ -1,5 +1,5 @@
 -- Page 01, 'Sheets worked by hand': what the report's lines are made of. Words are fixed byte strings, numbers are decimal, and the unit
--- words are always " bp" and " us". Assumes nothing.
+-- words are always " bp", " us" and, by page 02's Ask 5, " ns". Assumes nothing.
 use mathlib.Core.Path.{_≡_}
 use Prim.Native.Nat.{ℕ, zero, suc, _+_, _-_, _*_, _/_, _%_, _^_, min}
 use Prim.Native.Char.{code}

@@ -46,6 +46,18 @@ pub verdict-same-of-counts-shown : (b d : BitPeriods) → Same (nanosUp b .0 ≤
 unfolding nanosUp up
 verdict-same-of-counts-shown b d = ((λ h. omega arith), (λ h. omega arith))
 
+-- ---- What is promised in bp is promised in the ns that are shown
+
+-- what takes at most b bp is over within the ns shown for b
+pub promise-kept-in-ns : (t b : BitPeriods) → t .0 ≤ b .0 → WithinNanos t (nanosUp b)
+unfolding nanosUp up
+promise-kept-in-ns t b h = omega arith
+
+-- and where something takes exactly b bp, no lower figure in ns would be true
+pub no-lower-ns : (b : BitPeriods) (n : Nanos) → n .0 < nanosUp b .0 → WithinNanos b n → ⊥
+unfolding nanosUp up
+no-lower-ns b n l h = omega arith
+
 -- ---- The three units are one time
 
 -- the us of page 01 are the ns turned up once more
