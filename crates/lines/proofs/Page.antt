@@ -7,7 +7,7 @@ use Rattle.text.specs.Text.{word, places, holds, widthOf, decimal, item, texts}
 use Rattle.phrases.specs.Phrases.{inBp, inUs, inNs, inBoth, twoCounts, nameOf}
 use Rattle.lines.specs.Lines.{masterLine, masterText, ringText, nameText, nameAt, rowLine, tableHead}
 
--- the third case's first master, its rounds by the count of page 02, Ask 2; a silent master has no line
+-- the third case's first master, its rounds by the count of page 02, Ask 2, and ns by Ask 5; a silent master has no line
 masters : (masterText 1 1000 760 1 ≡ word "M01 bound 1000 bp 13020834 ns refined 760 bp 9895834 ns 1 rounds\n") × (masterText 3 0 0 0 ≡ [])
 unfolding masterText masterLine nameOf twoCounts inBoth inBp inNs nanosUp up decimal places widthOf holds firstOf
 masters = (refl, refl)

@@ -1,5 +1,5 @@
--- Page 01, 'Sheets worked by hand', the third case, from its bytes to its whole report; its rounds are by the count of page 02, Ask 2.
--- Assumes nothing.
+-- Page 01, 'Sheets worked by hand', the third case, from its bytes to its whole report; its rounds are by the count of page 02, Ask 2, and
+-- ns stand in place of us by Ask 5. Assumes nothing.
 use mathlib.Core.Path.{_≡_, refl}
 use mathlib.Core.List.{List, [], _∷_}
 use Prim.Native.Nat.{ℕ}
