@@ -195,6 +195,44 @@ CAPTURES = [
         "every answer within its bound\n",
     ),
     (
+        "capture-silent",
+        "pnet-two-masters",
+        "No answer: the probe hears requests only. Stream 1 has waited for 100,000 bp, and\n"
+        "its bound is 1,000 bp; stream 3 for 450 bp, and its bound is 500 bp.",
+        [(16, 1, 5), (16, 3, 99_555), (16, 2, 100_005)],
+        "P-NET capture\n"
+        "stream 1 M01 bound 1000 bp 13020834 ns largest 0 bp 0 ns 0 answers 0 above 1 open\n"
+        "stream 2 M01 bound 1000 bp 13020834 ns largest 0 bp 0 ns 0 answers 0 above 1 open\n"
+        "stream 3 M02 bound 500 bp 6510417 ns largest 0 bp 0 ns 0 answers 0 above 1 open\n"
+        "requests open beyond the bound in 1 streams, first stream 1\n"
+        "no answer in the whole capture\n",
+    ),
+    (
+        "capture-too-soon",
+        "pnet-two-masters",
+        "The application's fault and not the bus's: stream 3 asks again 99,999 bp after its\n"
+        "last request, while the counter runs over, and its T is 100,000 bp.",
+        [(16, 3, 4_294_900_000), (17, 3, 4_294_900_400), (16, 3, 32_703), (17, 3, 33_300)],
+        "P-NET capture\n"
+        "stream 1 M01 bound 1000 bp 13020834 ns largest 0 bp 0 ns 0 answers 0 above 0 open\n"
+        "stream 2 M01 bound 1000 bp 13020834 ns largest 0 bp 0 ns 0 answers 0 above 0 open\n"
+        "stream 3 M02 bound 500 bp 6510417 ns largest 597 bp 7773438 ns 2 answers 1 above 0 open\n"
+        "answers above the bound in 1 streams, first stream 3\n"
+        "requests sooner than T after the one before 1 times, first stream 3\n",
+    ),
+    (
+        "capture-not-in-order",
+        "pnet-two-masters",
+        "Two records are swapped, so the counter seems to go on by almost its whole round:\n"
+        "no age and no gap is known.",
+        [(16, 1, 1_000), (17, 1, 1_930), (16, 3, 1_200), (17, 3, 1_600)],
+        "P-NET capture\n"
+        "stream 1 M01 bound 1000 bp 13020834 ns largest 930 bp 12109375 ns 1 answers 0 above 0 open\n"
+        "stream 2 M01 bound 1000 bp 13020834 ns largest 0 bp 0 ns 0 answers 0 above 0 open\n"
+        "stream 3 M02 bound 500 bp 6510417 ns largest 400 bp 5208334 ns 1 answers 0 above 0 open\n"
+        "records not in order of time, or none for 2147483648 bp 27962026666667 ns or longer: ages and gaps not known\n",
+    ),
+    (
         "capture-above",
         "pnet-two-masters",
         "Answers above their bound: stream 3 took 501 bp once, where 500 bp were promised.",

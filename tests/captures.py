@@ -50,6 +50,63 @@ def good_events(rng, bounds, count):
     return made
 
 
+def spacings_of(data):
+    return [stream[2] for stream in second_opinion.read(data).streams]
+
+
+def kept_events(rng, data, count):
+    """About so many events in order of time, most of them as the sheet has it: answers within the bound, requests at least T apart."""
+    made = []
+    fault = rng.choice([None, None, "late", "soon", "both"])
+    start = rng.choice([0, COUNTER - rng.randint(1, 5_000), rng.randrange(COUNTER)])
+    bounds, spacings = bounds_of(data), spacings_of(data)
+    for i, (bound, spacing) in enumerate(zip(bounds, spacings), start=1):
+        now = start + rng.randint(0, spacing)
+        for _ in range(max(1, count // (2 * len(bounds)))):
+            made.append((now, i, REQUEST))
+            took = rng.randint(0, bound) if rng.random() < 0.9 else bound
+            if fault in ("late", "both") and rng.random() < 0.1:
+                took = bound + rng.choice([1, 2, bound])
+            answered = now + took
+            if rng.random() < 0.03:
+                break
+            made.append((answered, i, ANSWER))
+            gap = spacing + rng.choice([0, 1, rng.randint(0, spacing)])
+            if fault in ("soon", "both") and rng.random() < 0.1:
+                gap = spacing - rng.choice([1, 2, spacing // 2])
+            now = max(answered, now + gap)
+    return [event(kind, stream, stamp) for stamp, stream, kind in sorted(made, key=lambda one: one[0])]
+
+
+def kept(rng):
+    data = small_sheet(rng)
+    return data, b"".join(kept_events(rng, data, rng.randint(0, 200)))
+
+
+def asked_only(rng):
+    """Requests that nothing answers, the last of them a bound or so behind the others."""
+    data = small_sheet(rng)
+    bounds = bounds_of(data)
+    now = rng.randrange(COUNTER)
+    made = []
+    for i, bound in enumerate(bounds, start=1):
+        made.append(event(REQUEST, i, now))
+        now += rng.choice([0, bound, bound + 1, max(bound - 1, 0), rng.randint(0, 2 * bound)])
+    return data, b"".join(made)
+
+
+def silent_for_long(rng):
+    """Nothing is recorded for almost half a round of the counter, or for half of it and more."""
+    data = small_sheet(rng)
+    first, second = kept_events(rng, data, 20), []
+    apart = rng.choice([COUNTER // 2 - 1, COUNTER // 2, COUNTER // 2 + 1, COUNTER - 1])
+    last = int.from_bytes(first[-1][3:], "big")
+    open_streams = {e[1:3] for e in first if e[0] == REQUEST} - {e[1:3] for e in first if e[0] == ANSWER}
+    if (1).to_bytes(2, "big") not in open_streams and sum(e[1:3] == b"\0\1" for e in first) % 2 == 0:
+        second = [event(REQUEST, 1, last + apart), event(ANSWER, 1, last + apart + 5)]
+    return data, b"".join(first + second)
+
+
 def small_sheet(rng):
     masters = rng.randint(1, 6)
     streams = [
@@ -121,7 +178,7 @@ def noise(rng):
     return small_sheet(rng), rng.randbytes(rng.randint(0, 40))
 
 
-FAMILIES = [good, good, damaged, damaged, damaged, any_sheet, noise]
+FAMILIES = [good, kept, damaged, kept, asked_only, damaged, any_sheet, silent_for_long, damaged, noise]
 
 
 # ---------------------------------------------------------------- edges
@@ -133,6 +190,17 @@ def edges(rng):
     for earlier in (0, 1, COUNTER - 251, COUNTER - 250, COUNTER - 1):
         for later in (0, 1, 249, 250, 251, COUNTER - 1):
             yield "from %d to %d" % (earlier, later), one, event(REQUEST, 1, earlier) + event(ANSWER, 1, later)
+    # T is 1,000 bp and the bound 250 bp: how soon, how long open, and how far apart
+    asked = event(REQUEST, 1, COUNTER - 500) + event(ANSWER, 1, COUNTER - 400)
+    for later in (499, 500, 501):
+        yield "asked again at %d" % later, one, asked + event(REQUEST, 1, later) + event(ANSWER, 1, later + 9)
+    two = sheets.pnet_sheet(1, [(1, 203, 1_000, 1_000)] * 2)
+    for later in (498, 499, 500, 501, 502):
+        yield "open until %d" % later, two, event(REQUEST, 1, 0) + event(REQUEST, 2, later) + event(ANSWER, 2, later)
+    for apart in (COUNTER // 2 - 1, COUNTER // 2, COUNTER - 1):
+        yield "%d bp apart" % apart, one, asked + event(REQUEST, 1, apart - 400) + event(ANSWER, 1, apart - 399)
+    day = b"".join(event(kind, 2, 2_000_000_000 * n + kind) for n in range(1, 9) for kind in (REQUEST, ANSWER))
+    yield "silent for more than a round", two, event(REQUEST, 1, 0) + event(ANSWER, 1, 9) + day + event(REQUEST, 1, 17_000_000_000)
     pair = event(REQUEST, 1, 7) + event(ANSWER, 1, 9)
     for length in range(len(pair) + 1):
         yield "cut to %d bytes" % length, one, pair[:length]

@@ -5,7 +5,7 @@
 So many sheets, then so many pairs of a sheet and a capture, then so many paths.
 
 PROGRAM may be several words, so that a program built for another machine can
-be run under an emulator.
+be run under an emulator. Its exit status is held to the second opinion's too.
 """
 
 import multiprocessing
@@ -33,7 +33,14 @@ ACCEPTED = ["P-NET segment", "PROFIBUS ring", "WorldFIP table", "P-NET path"]
 OF_SHEETS = ["accepted, " + head for head in ACCEPTED[:3]] + [
     "refused %d" % number for number in range(1, 13)
 ]
-OF_CAPTURES = ["every answer within its bound", "answers above the bound"] + [
+OF_CAPTURES = [
+    "every answer within its bound",
+    "answers above the bound",
+    "requests open beyond the bound",
+    "requests sooner than T",
+    "records not in order",
+    "no answer in the whole capture",
+] + [
     "capture refused %d" % number for number in (1, 2, 14, 15, 16)
 ]
 OF_PATHS = ["accepted, P-NET path", "sheet of a path refused"] + [
@@ -46,7 +53,7 @@ def outcome(report):
     if lines[0] in ACCEPTED:
         return "accepted, " + lines[0]
     if lines[0] == "P-NET capture":
-        return lines[-1].split(" in ")[0]
+        return next(one for one in OF_CAPTURES if lines[-1].startswith(one))
     refused = " ".join(lines[0].split()[:2])
     if " of segment " in lines[0]:
         return "sheet of a path refused"
@@ -75,8 +82,9 @@ def compare_one(task):
             timeout=SECONDS_FOR_A_SHEET,
         )
         output = done.stdout
-        if done.returncode < 0:
-            trouble = "ended by signal %d" % -done.returncode
+        wanted = second_opinion.status(expected.decode("ascii").splitlines())
+        if done.returncode != wanted:
+            trouble = "ended with status %d, not with %d" % (done.returncode, wanted)
     except subprocess.TimeoutExpired as late:
         output = late.stdout or b""
         trouble = "did not end within %d seconds" % SECONDS_FOR_A_SHEET

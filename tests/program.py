@@ -1,9 +1,12 @@
-"""Hold a planner's help to the second opinion's table of kinds, and try what goes wrong around a sheet.
+"""Hold a planner's help to the second opinion's table of kinds, and try what goes wrong around a sheet, with the exit status of each; then the
+script `plan` and what `install` puts down, with the program as it is built.
 
     program.py PROGRAM...
 """
 
 import os
+import pathlib
+import pty
 import re
 import subprocess
 import sys
@@ -14,6 +17,10 @@ sys.dont_write_bytecode = True
 
 import second_opinion  # noqa: E402
 
+ROOT = pathlib.Path(__file__).resolve().parent.parent
+# the script starts no check: the program is built by whoever runs this
+AS_BUILT = dict(os.environ, PLAN_BUILD="never")
+COLUMNS = 80
 # one record of each kind, each field at a value that leaves room for the others'
 GOOD = {
     1: (1,),
@@ -54,6 +61,9 @@ PHRASES = (
 # those that a program can show: its own room is never short, so 13 is not among them
 REFUSALS = [number for number in range(1, 20) if number != 13]
 GOOD_SHEET = bytes.fromhex("0101020100cb000003e8000003e8")
+# 64 variables in each of 4,096 rows: no pipe holds its report
+TABLE = bytes.fromhex("0500000001") + b"".join(
+    b"\x06" + (60_000 + n).to_bytes(2, "big") + (1_000 if n else 4_096_000).to_bytes(4, "big") for n in range(64))
 KIND = re.compile(r" {3}(\d) +(\d+)  ([^:]+): (.*)")
 FIELD = re.compile(r"(.+) \((\d)\) (?:(any)|(\d+)\.\.(\w+)(?: (bp|us))?)$")
 UNTIMED = ("masters", "master", "identifier")
@@ -61,9 +71,9 @@ UNTIMED = ("masters", "master", "identifier")
 
 def run(program, words, data=b""):
     done = subprocess.run(
-        program + words, input=data, stdout=subprocess.PIPE, stderr=subprocess.PIPE, check=False
+        program + words, input=data, stdout=subprocess.PIPE, stderr=subprocess.PIPE, check=False, env=AS_BUILT
     )
-    return done.stdout.decode("utf-8"), done.stderr.decode("utf-8")
+    return done.stdout.decode("utf-8"), done.stderr.decode("utf-8"), done.returncode
 
 
 def limits(width, match):
@@ -94,12 +104,26 @@ def field_trouble(kind, place, text):
     return None
 
 
-def help_troubles(text):
-    told = {}
+def told_kinds(text):
+    """Each kind of the help's table, with its body's length and its fields; a line that goes on is indented."""
+    told, kind = {}, None
     for line in text.splitlines():
         match = KIND.match(line)
         if match:
-            told[int(match.group(1))] = (int(match.group(2)), match.group(4).split(", "))
+            kind = int(match.group(1))
+            told[kind] = (int(match.group(2)), match.group(4))
+        elif kind and line.startswith(" " * 12):
+            told[kind] = (told[kind][0], told[kind][1] + " " + line.strip())
+        else:
+            kind = None
+    return {kind: (length, fields.split(", ")) for kind, (length, fields) in told.items()}
+
+
+def help_troubles(text):
+    for line in text.splitlines():
+        if len(line) > COLUMNS:
+            yield "a line of more than %d columns: %s" % (COLUMNS, line)
+    told = told_kinds(text)
     if sorted(told) != sorted(second_opinion.WIDTHS):
         yield "the kinds told are %s" % sorted(told)
         return
@@ -113,57 +137,211 @@ def help_troubles(text):
             trouble = field_trouble(kind, place, field)
             if trouble:
                 yield "kind %d: %s" % (kind, trouble)
+    flowing = " ".join(text.split())
     for words in PHRASES:
-        if words not in text:
+        if words not in flowing:
             yield "not told: %s" % words
-    numbers = [int(n) for n in re.findall(r"(?:^|  ) *(\d+)  [a-z]", text, re.M)]
-    if sorted(numbers) != REFUSALS:
-        yield "the refusals told are %s" % sorted(numbers)
+    statuses, listed = text.split("\nExit status:\n")[1].split("\nA sheet is a row")[0], text.split("refused with a number")[1]
+    for found, numbers in ((statuses, [0, 1, 2, 3]), (listed, REFUSALS)):
+        if sorted(int(n) for n in re.findall(r"(?:^|  ) *(\d+)  [a-z]", found, re.M)) != numbers:
+            yield "not the numbers %s: %s" % (numbers, found)
 
 
-def complaint_troubles(program, words, part):
-    """Nothing to report: the reason is said on standard error, and standard output stays empty."""
-    out, err = run(program, words)
-    if out or part not in err:
-        yield "%s: wrote %r, and said %r" % (words, out, err)
+# ---------------------------------------------------------------- complaints
+
+
+def complaint_troubles(program, words, part, data=b""):
+    """Nothing to report: the reason is said on standard error, standard output stays empty, and the status is 2."""
+    out, err, status = run(program, words, data)
+    named = all(line.startswith("planner: ") for line in err.splitlines())
+    if out or status != 2 or not named or part not in err:
+        yield "%s: wrote %r, said %r and ended with %d" % (words, out, err, status)
 
 
 def path_troubles(program, sheet, missing):
-    """Words behind --path that are not fours of a number, its unit, a sheet and a master."""
+    """Words behind --path that are not fours of a number, its unit, a sheet and a master: which one, what stands there, what should."""
     first = ["--path", "1000", "bp", sheet, "1"]
-    for words in (["--path"], ["--path", "1000"], first[:4], first + ["5", "bp"], first + ["5", "bp", sheet]):
-        yield from complaint_troubles(program, words, "DEADLINE bp")
-    for at, word in ((1, "1000bp"), (1, ""), (1, "-1"), (2, "us"), (2, ""), (4, "M1"), (4, "1.0")):
-        yield from complaint_troubles(program, first[:at] + [word] + first[at + 1 :], "cannot take " + word)
+    whole = first + ["5", "bp", sheet, "M01"]
+    for count, wanted in ((1, "DEADLINE"), (2, "bp"), (4, "MASTER"), (6, "bp"), (7, "SHEET"), (8, "MASTER")):
+        yield from complaint_troubles(program, whole[:count], "word %d is missing; wanted there: " % count)
+        yield from complaint_troubles(program, whole[:count], wanted)
+    for at, word, wanted in (
+        (1, "1000bp", "DEADLINE"), (1, "", "DEADLINE"), (1, "-1", "DEADLINE"), (2, "us", "bp"), (2, "", "bp"), (4, "M1", "MASTER"),
+        (4, "1.0", "MASTER"), (4, "M001", "MASTER"), (4, "M0x", "MASTER"), (5, "5bp", "TIME"), (5, "M01", "TIME"), (6, "1", "bp"), (8, "x", "MASTER"),
+    ):
+        changed = whole[:at] + [word] + whole[at + 1 :]
+        yield from complaint_troubles(program, changed, "word %d is %s; wanted there: " % (at, word))
+        yield from complaint_troubles(program, changed, wanted)
+    yield from complaint_troubles(program, whole[:1] + ["1" * 5000] + whole[2:], "word 1 is %s..; wanted" % ("1" * 60))
     yield from complaint_troubles(program, first + ["5", "bp", missing, "1"], missing)
     yield from complaint_troubles(program, first[:3] + ["-", "1", "5", "bp", "-", "1"], "standard input")
+    if run(program, whole) != run(program, first + ["5", "bp", sheet, "1"]):
+        yield "M01 and 1 are not the same master"
+
+
+def word_troubles(program, folder, sheet):
+    missing = os.path.join(folder, "missing.sheet")
+    for words in ([missing], [missing, missing], [sheet, missing], ["--", missing]):
+        yield from complaint_troubles(program, words, "%s: No such file" % missing)
+    for words in ([folder], [sheet, folder], [folder, sheet]):
+        yield from complaint_troubles(program, words, "%s: Is a directory" % folder)
+    for words in ([missing] * 3, ["--"] + [missing] * 3):
+        yield from complaint_troubles(program, words, "--help")
+    for words in (["--hlep"], ["-x", sheet], [sheet, "--help"], [sheet, "-n", sheet]):
+        yield from complaint_troubles(program, words, "unknown option " + [w for w in words if w[0] == "-"][0] + "; planner --help")
+    yield from complaint_troubles(program, ["a\x1b[2J\\\x7fb"], "a\\x1b[2J\\x5c\\x7fb: No such file")
+    yield from complaint_troubles(program, ["x" * 5000], "%s..: longer than" % ("x" * 60))
+    yield from complaint_troubles(program, [sheet, "x" * 5000], "%s..: longer than" % ("x" * 60))
+    yield from complaint_troubles(program, [""], ": ")
+    yield from complaint_troubles(program, ["-", "-"], "standard input")
+    for words in ([], ["-"], [sheet, "-"], ["-", sheet], ["--path", "9", "bp", "-", "1"]):
+        closed = ["sh", "-c", '"$@" <&-', "sh"] + program
+        yield from complaint_troubles(closed, words, "planner: standard input: Bad file descriptor\n")
+    yield from path_troubles(program, sheet, missing)
+
+
+# ---------------------------------------------------------------- statuses
+
+
+def end_troubles(program, words, ending, data=b""):
+    out, err, status = run(program, words, data)
+    if (err, status) != ("", ending) or not out:
+        yield "%s: wrote %r, said %r and ended with %d, not with %d" % (words, out, err, status, ending)
+
+
+def event(kind, stream, stamp):
+    return bytes([kind]) + stream.to_bytes(2, "big") + stamp.to_bytes(4, "big")
+
+
+def status_troubles(program, sheet):
+    """Each case of the table in README."""
+    for data, ending in ((GOOD_SHEET, 0), (b"", 1), (GOOD_SHEET[:-1], 1), (TABLE, 0)):
+        for words in ([], ["-"], ["--"], ["--", "-"]):
+            yield from end_troubles(program, words, ending, data)
+    asked, answered = event(16, 1, 0), event(17, 1, 250)
+    for capture, ending in (
+        (asked + answered, 0),
+        (asked + event(17, 1, 251), 1),
+        (asked + answered + event(16, 1, 1000) + event(17, 1, 1009), 0),
+        (asked + answered + event(16, 1, 999) + event(17, 1, 1009), 1),
+        (asked + answered + event(16, 1, 2000), 0),
+        (b"", 1),
+        (asked, 1),
+        (event(16, 1, 9) + event(17, 1, 8), 1),
+        (answered, 1),
+    ):
+        yield from end_troubles(program, [sheet, "-"], ending, capture)
+    # beside a second stream that answers: open for 500 bp, the bound, and for one more
+    with tempfile.NamedTemporaryFile() as two:
+        two.write(bytes.fromhex("0101") + GOOD_SHEET[2:] * 2)
+        two.flush()
+        for stamp, ending in ((500, 0), (501, 1)):
+            capture = asked + event(16, 2, stamp) + event(17, 2, stamp)
+            yield from end_troubles(program, [two.name, "-"], ending, capture)
+    path = ["bp", sheet, "1", "5", "bp", sheet, "1"]
+    yield from end_troubles(program, ["--path", "510"] + path, 0)
+    yield from end_troubles(program, ["--path", "509"] + path, 1)
+    yield from end_troubles(program, ["--path", "9", "bp"], 1)
+    yield from end_troubles(program, ["--help"], 0)
+    yield from end_troubles(program, ["--version"], 0)
+
+
+def cut_troubles(program, sheet):
+    """A report that cannot be written whole: one line on standard error, and 3."""
+    with tempfile.NamedTemporaryFile() as table, tempfile.NamedTemporaryFile() as capture:
+        table.write(TABLE)
+        table.flush()
+        calls = [[sheet], [sheet, capture.name], ["--path", "510", "bp", sheet, "1", "5", "bp", sheet, "1"], ["--path", "1", "bp"], ["--help"], [table.name]]
+        for words in calls:
+            with open("/dev/full", "wb") as full:
+                done = subprocess.run(program + words, stdout=full, stderr=subprocess.PIPE, check=False, env=AS_BUILT)
+            if done.returncode != 3 or done.stderr.count(b"\n") != 1:
+                yield "%s on a full disk: said %r and ended with %d" % (words, done.stderr, done.returncode)
+        # a reader that goes away in the middle
+        started = subprocess.Popen(program + [table.name], stdout=subprocess.PIPE, stderr=subprocess.PIPE, env=AS_BUILT)
+        started.stdout.read(100)
+        started.stdout.close()
+        said = started.stderr.read()
+        started.stderr.close()
+        if started.wait() != 3 or said.count(b"\n") != 1:
+            yield "a closed pipe: said %r and ended with %d" % (said, started.returncode)
+
+
+def terminal_troubles(program):
+    """No word, and someone at a terminal: the usage, and 2."""
+    controller, terminal = pty.openpty()
+    done = subprocess.run(
+        program, stdin=terminal, stdout=subprocess.PIPE, stderr=subprocess.PIPE, timeout=60, check=False, env=AS_BUILT)
+    os.close(terminal)
+    os.close(controller)
+    if done.stdout or done.returncode != 2 or b"planner SHEET CAPTURE" not in done.stderr or b"no sheet" not in done.stderr:
+        yield "on a terminal: wrote %r, said %r and ended with %d" % (done.stdout, done.stderr, done.returncode)
+
+
+# ---------------------------------------------------------------- the script, and what it installs
+
+
+def script_troubles(program, sheet):
+    """The script says what the program says, without it."""
+    script = [str(ROOT / "plan")]
+    for words in (["--help"], ["-h"], ["--hlep"], ["-x", sheet], [sheet, "-\x1b\\"], ["-" + "x" * 5000]):
+        if run(script, words) != run(program, words):
+            yield "%s: the script says %r, the program %r" % (words, run(script, words), run(program, words))
+    version = run(script, ["--version"])[0].splitlines()
+    if len(version) != 2 or version[0] + "\n" != run(program, ["--version"])[0] or " logic " not in version[1]:
+        yield "--version: %r" % version
+
+
+def installed_troubles(sheet):
+    """Put somewhere, it runs without the repository, and goes away again whole."""
+    install = [str(ROOT / "install")]
+    with tempfile.TemporaryDirectory() as folder:
+        prefix = os.path.join(folder, "a prefix")
+        out, err, status = run(install, [prefix])
+        planner = [os.path.join(prefix, "bin", "planner")]
+        if status != 0 or err or not os.access(planner[0], os.X_OK):
+            yield "install: wrote %r, said %r and ended with %d" % (out, err, status)
+            return
+        link = os.path.join(folder, "link")
+        os.symlink(planner[0], link)
+        for call in (planner, [link]):
+            yield from status_troubles(call, sheet)
+        yield from complaint_troubles(planner, ["--hlep"], "unknown option")
+        yield from cut_troubles(planner, sheet)
+        if run(planner, ["--version"]) != run([str(ROOT / "plan")], ["--version"]):
+            yield "--version of the installed one: %r" % (run(planner, ["--version"]),)
+        if run(install, ["--remove", prefix])[2] != 0 or os.path.exists(planner[0]) or os.listdir(os.path.join(prefix, "lib")):
+            yield "install --remove left something: %s" % os.listdir(os.path.join(prefix, "lib"))
+        if run(install, ["--remove", prefix])[2] != 2 or run(install, ["--what"])[2] != 2:
+            yield "install --remove of nothing"
+        with open(planner[0], "w", encoding="ascii") as other:
+            other.write("another program\n")
+        for words in ([prefix], ["--remove", prefix]):
+            if run(install, words)[2] != 2 or not os.path.exists(planner[0]):
+                yield "install took another program's place"
 
 
 def main(program):
     if not program:
         sys.exit(__doc__)
     troubles = []
-    text, said = run(program, ["--help"])
-    if said:
-        troubles.append("--help said %r on standard error" % said)
+    text, said, status = run(program, ["--help"])
+    if said or status:
+        troubles.append("--help said %r on standard error and ended with %d" % (said, status))
     troubles += help_troubles(text)
     with tempfile.TemporaryDirectory() as folder:
-        missing = os.path.join(folder, "missing.sheet")
-        troubles += complaint_troubles(program, [missing], missing)
-        troubles += complaint_troubles(program, [folder], folder)
-        troubles += complaint_troubles(program, [missing, missing], missing)
-        troubles += complaint_troubles(program, [missing, missing, missing], "--help")
         sheet = os.path.join(folder, "one.sheet")
         with open(sheet, "wb") as file:
             file.write(GOOD_SHEET)
-        troubles += complaint_troubles(program, [sheet, missing], missing)
-        troubles += complaint_troubles(program, [sheet, folder], folder)
-        troubles += complaint_troubles(program, [folder, sheet], folder)
-        troubles += complaint_troubles(program, ["-", "-"], "standard input")
-        troubles += path_troubles(program, sheet, missing)
+        troubles += word_troubles(program, folder, sheet)
+        troubles += status_troubles(program, sheet)
+        troubles += cut_troubles(program, sheet)
+        troubles += terminal_troubles(program)
+        troubles += script_troubles(program, sheet)
+        troubles += installed_troubles(sheet)
     for trouble in troubles:
         print(trouble)
-    print("the program's help and complaints: %d wrong" % len(troubles))
+    print("the program's help, complaints and statuses: %d wrong" % len(troubles))
     return 1 if troubles else 0
 
 

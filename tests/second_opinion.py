@@ -423,6 +423,19 @@ def compare_capture(data, capture, lent=None):
     return [Shown(master, bound, *figure) for master, bound, figure in zip(masters, bounds, figures)]
 
 
+def instants(capture):
+    """Kind, stream and bp since the first record, of each record; nothing where two that follow each other are too far apart."""
+    times, stamp, now = [], None, 0
+    for place in range(0, len(capture), EVENT_LENGTH):
+        before, stamp = stamp, int.from_bytes(capture[place + 3 : place + EVENT_LENGTH], "big")
+        passed = 0 if before is None else (stamp - before) % COUNTER
+        if passed >= COUNTER // 2:
+            return None
+        now += passed
+        times.append((capture[place], int.from_bytes(capture[place + 1 : place + 3], "big"), now))
+    return times
+
+
 # ---------------------------------------------------------------- paths
 
 GATEWAYS_LIMIT = 10
@@ -544,17 +557,49 @@ def capture_lines(data, capture):
             "stream %d M%02d bound %d bp %d ns largest %d bp %d ns %d answers %d above %d open"
             % (number, one.master, one.bound, ns_up(one.bound), one.largest, ns_up(one.largest), one.answers, one.above, one.left)
         )
-    above = [number for number, one in enumerate(shown, start=1) if one.above]
-    if above:
-        lines.append("answers above the bound in %d streams, first stream %d" % (len(above), above[0]))
+    return lines + (capture_findings(data, capture, shown) or ["every answer within its bound"])
+
+
+def in_streams(what, streams):
+    return ["%s in %d streams, first stream %d" % (what, len(streams), streams[0])] if streams else []
+
+
+def capture_findings(data, capture, shown):
+    """The last lines of a capture's report that say what is wrong; none where nothing is."""
+    found = in_streams("answers above the bound", [n for n, one in enumerate(shown, start=1) if one.above])
+    times = instants(capture)
+    if times is None:
+        found.append(
+            "records not in order of time, or none for %d bp %d ns or longer: ages and gaps not known"
+            % (COUNTER // 2, ns_up(COUNTER // 2))
+        )
     else:
-        lines.append("every answer within its bound")
-    return lines
+        streams = read(data).streams
+        asked, early = {}, []
+        for kind, stream, now in times:
+            if kind == REQUEST:
+                if stream in asked and now - asked[stream] < streams[stream - 1][2]:
+                    early.append(stream)
+                asked[stream] = now
+        late = [n for n, one in enumerate(shown, start=1) if one.left and times[-1][2] - asked[n] > one.bound]
+        found += in_streams("requests open beyond the bound", late)
+        if early:
+            found.append("requests sooner than T after the one before %d times, first stream %d" % (len(early), early[0]))
+    if not any(one.answers for one in shown):
+        found.append("no answer in the whole capture")
+    return found
 
 
 def capture_report(data, capture):
     """The program's standard output for this sheet and this capture, byte for byte."""
     return "".join(line + "\n" for line in capture_lines(data, capture)).encode("ascii")
+
+
+def status(lines):
+    """The planner's exit status for these lines of a report: 1 for a refusal and for what is wrong in a capture, else 0."""
+    if lines[0] == "P-NET capture":
+        return 0 if lines[-1] == "every answer within its bound" else 1
+    return 1 if lines[0].startswith("refused ") else 0
 
 
 def path_lines(segments, times, deadline):

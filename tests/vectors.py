@@ -267,7 +267,21 @@ PROSE = [
      "stream 1 M01 bound 1000 bp 13020834 ns largest 1001 bp 13033855 ns 1 answers 1 above 0 open\n"
      "stream 2 M01 bound 1000 bp 13020834 ns largest 0 bp 0 ns 0 answers 0 above 0 open\n"
      "stream 3 M02 bound 500 bp 6510417 ns largest 0 bp 0 ns 1 answers 0 above 1 open\n"
-     "answers above the bound in 1 streams, first stream 1\n"),
+     "answers above the bound in 1 streams, first stream 1\n"
+     "records not in order of time, or none for 2147483648 bp 27962026666667 ns or longer: ages and gaps not known\n"),
+    ("no record at all", lambda: opinion.capture_report(sheet((1, 1), (2, 1, 203, 1_000, 1_000)), b""),
+     "P-NET capture\n"
+     "stream 1 M01 bound 250 bp 3255209 ns largest 0 bp 0 ns 0 answers 0 above 0 open\n"
+     "no answer in the whole capture\n"),
+    ("a request that is open for longer than its bound, and one that comes too soon",
+     lambda: opinion.capture_report(
+         sheet((1, 1), (2, 1, 203, 1_000, 1_000), (2, 1, 203, 1_000, 1_000)),
+         events((16, 1, 0), (16, 2, 7), (17, 2, 9), (16, 2, 1_006))),
+     "P-NET capture\n"
+     "stream 1 M01 bound 500 bp 6510417 ns largest 0 bp 0 ns 0 answers 0 above 1 open\n"
+     "stream 2 M01 bound 500 bp 6510417 ns largest 2 bp 26042 ns 1 answers 0 above 1 open\n"
+     "requests open beyond the bound in 1 streams, first stream 1\n"
+     "requests sooner than T after the one before 1 times, first stream 2\n"),
     ("a refused capture", lambda: opinion.capture_report(sheet(*TWO_MASTERS), events((17, 1, 0))),
      "refused 15 at capture byte 0\n"),
     ("the report of a path",

@@ -35,12 +35,7 @@ pub fn start() -> Watch
 
 // Follows the whole records of a piece, the next of a capture, behind those of which w and the run `asked` keep what is needed; `spacing` has
 // each stream's T.
-pub fn follow(
-    piece: &[u8],
-    w: Watch,
-    spacing: &[u32; MOST],
-    asked: &mut [u64; MOST],
-) -> Watch
+pub fn follow(piece: &[u8], w: Watch, spacing: &[u32; MOST], asked: &mut [u64; MOST]) -> Watch
     ensures { λ r. ⌜ r ≡ followed (now (spacing .entry)) (seen w (now (asked .entry))) (metIn (now (piece .entry)) (length (now (piece .entry)) / size)) .watch ⌝ }
     ensures { λ _. ⌜ now (asked .exit) ≡ followed (now (spacing .entry)) (seen w (now (asked .entry))) (metIn (now (piece .entry)) (length (now (piece .entry)) / size)) .asked ⌝ }
 {
@@ -56,5 +51,4 @@ pub fn overdue(
     late: &mut [u64; MOST],
 )
     ensures { λ _. ⌜ now (late .exit) ≡ overdueRun (w .clock) (now (bound .entry)) (now (left .entry)) (now (asked .entry)) ⌝ }
-{
-}
+{}

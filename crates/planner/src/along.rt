@@ -1,10 +1,16 @@
 // A path over several P-NET segments, from the words behind `--path`, in fours: a number and its unit, a sheet, and the master that sends
 // there. The first number is the deadline, each other one the forwarding time of the gateway that leads to the segment.
-use crate::complain;
 use crate::input::Input;
-use crate::input::read_all;
-use crate::open;
-use crate::write;
+use crate::input::open;
+use crate::output;
+use crate::output::ACCEPTED;
+use crate::output::FAILED;
+use crate::output::REFUSED;
+use crate::output::complain;
+use crate::words::from_standard_input;
+use crate::words::is_word;
+use crate::words::serves;
+use crate::words::show_word;
 use entry::Entered;
 use path::Crossing;
 use path::Way;
@@ -12,11 +18,7 @@ use units::BitPeriods;
 ghost use Prim.Native.Nat.{_≤_};
 ghost use lib.ListN.{length};
 
-pub(crate) fn is_word(i: usize, text: &[u8]) -> bool {
-    let mut word = io::buffer();
-    let n = os::arg(i, &mut word);
-    check::same(&word[..n], text)
-}
+// ---- Words
 
 fn number_at(i: usize) -> Entered {
     let mut word = io::buffer();
@@ -24,73 +26,92 @@ fn number_at(i: usize) -> Entered {
     entry::number(&word[..n])
 }
 
-fn is_number(i: usize) -> bool {
-    if let Entered::Number(_) = number_at(i) {
-        true
-    } else {
-        false
+// A master is a number, or M and two digits, as a report shows it.
+fn master_at(i: usize) -> Entered {
+    let mut word = io::buffer();
+    let n = os::arg(i, &mut word);
+    if (n == 3) & (word[0] == b'M') {
+        return entry::number(&word[1..n]);
+    }
+    entry::number(&word[..n])
+}
+
+fn is_number(entered: Entered) -> bool {
+    match entered {
+        Entered::Number(_) => true,
+        Entered::Nothing => false,
     }
 }
 
-// The number that word i is.
-fn entered(i: usize) -> u32 {
-    match number_at(i) {
+fn number_of(entered: Entered) -> u32 {
+    match entered {
         Entered::Number(n) => n,
         Entered::Nothing => 0,
     }
 }
 
 // The master that word i is; none has a number above 255.
-fn master_at(i: usize) -> u8 {
-    let n = entered(i);
+fn sender(i: usize) -> u8 {
+    let n = number_of(master_at(i));
     if n < 255 { n as u8 } else { 255 }
 }
 
 // Word i is what stands there: a number, its unit, any sheet, a master.
 fn fits(i: usize) -> bool {
-    if i % 4 == 0 {
-        return true;
+    match i % 4 {
+        2 => is_number(number_at(i)),
+        3 => is_word(i, b"bp"),
+        1 => is_number(master_at(i)),
+        _ => true,
     }
-    if i % 4 == 3 {
-        return is_word(i, b"bp");
-    }
-    is_number(i)
 }
 
-fn usage() {
+// What should stand at word i.
+fn wanted(i: usize) {
+    if i == 2 {
+        complain(b"DEADLINE, a number of decimal digits, with bp as the next word\n");
+        return;
+    }
+    match i % 4 {
+        2 => complain(b"TIME, a number of decimal digits, with bp as the next word\n"),
+        3 => complain(b"the unit of the number before it, bp\n"),
+        1 => complain(b"MASTER, as 1 or M01\n"),
+        _ => complain(b"SHEET, a file's name or - for standard input\n"),
+    }
+}
+
+// Says of word i, counted from the one behind `--path`, what stands there, if it does, and what should.
+fn misplaced(i: usize, count: usize) {
+    complain(b"planner: --path: word ");
+    io::print_decimal(libc::STDERR_FILENO, (i - 1) as u64);
+    if i < count {
+        complain(b" is ");
+        show_word(i);
+    } else {
+        complain(b" is missing");
+    }
+    complain(b"; wanted there: ");
+    wanted(i);
     complain(
-        b"planner --path takes DEADLINE bp, then SHEET MASTER, and for each gateway TIME bp SHEET MASTER",
+        b"planner: --path takes DEADLINE bp, then SHEET MASTER, and for each gateway TIME bp SHEET MASTER\n",
     );
 }
 
-// Says which word is out of place.
-fn misplaced(i: usize) {
-    usage();
-    let mut word = io::buffer();
-    let n = os::arg(i, &mut word);
-    complain(b"; it cannot take ");
-    complain(&word[..n]);
-    complain(b"\n");
-}
-
-// All words fit, or it is said which does not.
+// All words fit, and the fours are whole; else it is said which word is not what stands there.
 fn well_formed(count: usize) -> bool {
     let mut i: usize = 2;
     while i < count {
         if !fits(i) {
-            misplaced(i);
+            misplaced(i, count);
             return false;
         }
         i += 1;
     }
-    true
-}
-
-// 1 where word i stands for standard input, else 0.
-fn from_standard_input(i: usize) -> usize
-    ensures { λ r. ⌜ r ≤ 1 ⌝ }
-{
-    if is_word(i, b"-") { 1 } else { 0 }
+    if (count == 4) | ((count % 4 == 2) & (count > 2)) {
+        return true;
+    }
+    misplaced(i, count);
+    false
 }
 
 // How many of the sheets are to come from standard input.
@@ -107,6 +128,8 @@ fn standard_inputs(segments: usize) -> usize
     found
 }
 
+// ---- The path
+
 // Reads the sheet that word i names, or says why it cannot.
 fn read_sheet(i: usize, sheet: &mut [u8]) -> Input
     ensures { λ r. ⌜ r .length ≤ length (now (sheet .entry)) ⌝ }
@@ -115,41 +138,37 @@ fn read_sheet(i: usize, sheet: &mut [u8]) -> Input
     let n = os::arg(i, &mut name);
     let fd = open(&name[..n]);
     if fd < 0 {
-        os::fail(&name[..n]);
         return Input {
             length: 0,
             failed: true,
         };
     }
-    let input = read_all(fd, sheet);
-    if input.failed {
-        os::fail(&name[..n]);
-    }
+    let input = crate::input::read_sheet(fd, &name[..n], sheet);
     libc::close(fd);
     input
 }
 
 // The last segment's sheet is refused.
-fn write_sheet_refusal(way: Way) {
+fn write_sheet_refusal(way: Way) -> u8 {
     let mut text = io::buffer();
     let segment = way.segments as u64;
     let n = path_report::put_sheet_refusal(&mut text, segment, way.no, way.place as u64);
-    write(&text[..n]);
+    output::report(&text, n, REFUSED)
 }
 
-fn write_path_refusal(no: u8, place: usize) {
+fn write_path_refusal(no: u8, place: usize) -> u8 {
     let mut text = io::buffer();
     let n = path_report::put_path_refusal(&mut text, no, place as u64);
-    write(&text[..n]);
+    output::report(&text, n, REFUSED)
 }
 
-fn write_path(way: Way, total: BitPeriods, deadline: BitPeriods) {
+fn write_path(way: Way, total: BitPeriods, deadline: BitPeriods) -> u8 {
     let mut text = path_report::text_buffer();
     let n = path_report::put_path(&mut text, way, total, deadline);
-    write(&text[..n]);
+    output::report(&text, n, ACCEPTED)
 }
 
-fn write_answer(way: Way, deadline: BitPeriods) {
+fn write_answer(way: Way, deadline: BitPeriods) -> u8 {
     let crossing = path::answer(way, deadline);
     match crossing {
         Crossing::Within(total) => write_path(way, total, deadline),
@@ -158,7 +177,7 @@ fn write_answer(way: Way, deadline: BitPeriods) {
 }
 
 // Goes over so many segments, to the end or to the first sheet that is refused, and writes what that shows.
-fn cross(segments: usize, deadline: BitPeriods)
+fn cross(segments: usize, deadline: BitPeriods) -> u8
     requires { ⌜ segments ≤ 4611686018427387903 ⌝ }
 {
     let mut way = path::start();
@@ -168,38 +187,30 @@ fn cross(segments: usize, deadline: BitPeriods)
         let mut sheet = report::sheet_buffer();
         let input = read_sheet(i + 2, &mut sheet);
         if input.failed {
-            return;
+            return FAILED;
         }
         let n = input.length;
-        way = path::over(way, BitPeriods(entered(i)), &sheet[..n], master_at(i + 3));
+        let time = BitPeriods(number_of(number_at(i)));
+        way = path::over(way, time, &sheet[..n], sender(i + 3));
         if way.refused {
-            write_sheet_refusal(way);
-            return;
+            return write_sheet_refusal(way);
         }
         j += 1;
     }
-    write_answer(way, deadline);
+    write_answer(way, deadline)
 }
 
 // Plans the path that so many words say, the program's name and `--path` among them. `DEADLINE bp` alone is a path of no segment.
-pub(crate) fn plan(count: usize) {
-    if (count != 4) & (count % 4 != 2) {
-        usage();
-        complain(b"\n");
-        return;
+pub(crate) fn plan(count: usize) -> u8 {
+    if !well_formed(count) {
+        return FAILED;
     }
     if count < 4 {
-        usage();
-        complain(b"\n");
-        return;
-    }
-    if !well_formed(count) {
-        return;
+        return FAILED;
     }
     let segments = (count - 2) / 4;
-    if standard_inputs(segments) > 1 {
-        complain(b"planner: standard input serves for one sheet\n");
-        return;
+    if !serves(standard_inputs(segments)) {
+        return FAILED;
     }
-    cross(segments, BitPeriods(entered(2)));
+    cross(segments, BitPeriods(number_of(number_at(2))))
 }

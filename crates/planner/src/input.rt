@@ -1,4 +1,5 @@
-// Reading until a buffer is full.
+// Opening a file, and reading until a buffer is full.
+use crate::words::fail;
 ghost use Prim.Native.Nat.{_≤_};
 ghost use lib.ListN.{length};
 
@@ -41,4 +42,27 @@ pub(crate) fn read_all(fd: i32, buf: &mut [u8]) -> Input
         length: at,
         failed: false,
     }
+}
+
+// The file of a name, or less than 0, and then it is said why; `-` is standard input.
+pub(crate) fn open(name: &[u8]) -> i32 {
+    if check::same(name, b"-") {
+        return libc::STDIN_FILENO;
+    }
+    let fd = os::open_read(name);
+    if fd < 0 {
+        fail(name);
+    }
+    fd
+}
+
+// Reads the start of a sheet, as much as decides its report, or says why it cannot.
+pub(crate) fn read_sheet(fd: i32, name: &[u8], sheet: &mut [u8]) -> Input
+    ensures { λ r. ⌜ r .length ≤ length (now (sheet .entry)) ⌝ }
+{
+    let input = read_all(fd, sheet);
+    if input.failed {
+        fail(name);
+    }
+    input
 }

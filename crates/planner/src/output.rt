@@ -1,0 +1,59 @@
+// What the program writes: a finished text to standard output, complaints to standard error, and how it ended to descriptor 3, as one
+// byte, from which whoever started the program makes an exit status.
+use libc::STDERR_FILENO;
+use libc::STDOUT_FILENO;
+ghost use mathlib.Core.Path.{_≡_};
+ghost use Prim.Native.Nat.{min};
+
+// How a call of the program ends, as the digit that it says.
+pub(crate) const ACCEPTED: u8 = b'0';
+
+pub(crate) const REFUSED: u8 = b'1';
+
+pub(crate) const FAILED: u8 = b'2';
+
+pub(crate) const UNWRITTEN: u8 = b'3';
+
+const STATUS_FILENO: i32 = 3;
+
+// Says how the call ended, to whoever listens.
+pub(crate) fn end(status: u8) {
+    let said = [status];
+    io::write_all(STATUS_FILENO, &said);
+}
+
+pub(crate) fn complain(words: &[u8]) {
+    io::write_all(STDERR_FILENO, words);
+}
+
+// How many bytes of a text are written, of which the first n are finished.
+fn end_of(length: usize, n: usize) -> usize
+    ensures { λ r. ⌜ r ≡ min n length ⌝ }
+{
+    if n < length { n } else { length }
+}
+
+// Writes the first n bytes of a text, or all where it has fewer, and answers whether all of them went out.
+pub(crate) fn put_first(fd: i32, text: &[u8], n: usize) -> bool {
+    let end = end_of(text.len(), n);
+    io::write_all(fd, &text[..end])
+}
+
+pub(crate) fn put(text: &[u8]) -> bool {
+    io::write_all(STDOUT_FILENO, text)
+}
+
+// How a call ends whose report went out whole, or did not.
+pub(crate) fn unless_cut(whole: bool, status: u8) -> u8 {
+    if whole {
+        return status;
+    }
+    complain(b"planner: ");
+    os::fail(b"standard output");
+    UNWRITTEN
+}
+
+// Writes a finished report, the first n bytes of a text, and answers how the call ends.
+pub(crate) fn report(text: &[u8], n: usize, status: u8) -> u8 {
+    unless_cut(put_first(STDOUT_FILENO, text, n), status)
+}
