@@ -93,7 +93,8 @@ fn hear(fd: i32, name: &[u8], streams: usize, masters: &[u8; MOST], bound: &[u32
 pub(crate) fn compare(sheet: &[u8], fd: i32, name: &[u8]) {
     let mut masters = [0u8; MOST];
     let mut bound = [0u32; MOST];
-    match limits::bounds(sheet, MOST, &mut masters, &mut bound) {
+    let mut spacing = [0u32; MOST];
+    match limits::bounds(sheet, MOST, &mut masters, &mut bound, &mut spacing) {
         Plan::Accepted {
             masters: _,
             streams,
