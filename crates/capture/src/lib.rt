@@ -124,7 +124,8 @@ pub fn compare(
     );
     let mut masters = [0u8; MOST];
     let mut bound = [0u32; MOST];
-    let plan = limits::bounds(s, room, &mut masters, &mut bound);
+    let mut spacing = [0u32; MOST];
+    let plan = limits::bounds(s, room, &mut masters, &mut bound, &mut spacing);
     match plan {
         Plan::Refused { no, place } => Plan::Refused { no, place },
         Plan::Accepted {

@@ -33,7 +33,7 @@ use Rattle.pnet.specs.declared.answer.Plan.{Plan}
 use Rattle.pnet.specs.declared.answer.Plan.the-variants as answer
 use Rattle.pnet.specs.Arrays.{segmentIn, Sheeted}
 use Rattle.pnet.proofs.Bytes.{Here, declares, streams-few, its-master, its-bound}
-use Rattle.limits.specs.Bounded.{boundedBy, bounded, boundOf, masterOf, streamRun}
+use Rattle.limits.specs.Bounded.{boundedBy, bounded, boundOf, masterOf, spacingOf, streamRun}
 
 -- ---- What is refused
 
@@ -115,18 +115,19 @@ module _ {s : List ℕ} {head : Record} {n first : ℕ} (took : Taken s head n f
   pub taken-short : head .kind ≡ 1 → room < n → bounded s room ≡ Not 13 n
   taken-short k = let ready = taken-ready took k in bounded-short s room (sheetIn s n) (took .reads) (ready .bus) n (ready-streams ready)
 
--- ---- The answer and the two runs together, as the code returns them
+-- ---- The answer and the three runs together, as the code returns them
 
--- the answer r, and the runs a and b where x and y were lent
-abbrev pub Returned : List ℕ → ℕ → List ℕ → List ℕ → Plan → List ℕ → List ℕ → Type 0
-Returned s room x y r a b =
-    (r ≡ planOf (bounded s room)) × ((a ≡ streamRun (bounded s room) masterOf x) × (b ≡ streamRun (bounded s room) boundOf y))
+-- the answer r, and the runs a, b and c where x, y and z were lent
+abbrev pub Returned : List ℕ → ℕ → List ℕ → List ℕ → List ℕ → Plan → List ℕ → List ℕ → List ℕ → Type 0
+Returned s room x y z r a b c =
+    (r ≡ planOf (bounded s room))
+    × ((a ≡ streamRun (bounded s room) masterOf x) × ((b ≡ streamRun (bounded s room) boundOf y) × (c ≡ streamRun (bounded s room) spacingOf z)))
 
-pub returned-refused : (s : List ℕ) (room : ℕ) (x y : List ℕ) (n p : ℕ) → bounded s room ≡ Not n p → Returned s room x y (answer.Refused n p) x y
-returned-refused s room x y n p e = (
-  ap planOf (sym e),
-  (ap (λ (o : Outcome). streamRun o masterOf x) (sym e), ap (λ (o : Outcome). streamRun o boundOf y) (sym e)),
-)
+pub returned-refused : (s : List ℕ) (room : ℕ) (x y z : List ℕ) (n p : ℕ) → bounded s room ≡ Not n p → Returned s room x y z (answer.Refused n p) x y z
+returned-refused s room x y z n p e = (ap planOf (sym e), (run-kept masterOf x, (run-kept boundOf y, run-kept spacingOf z)))
+  where
+    run-kept : (figure : Segment → ℕ → ℕ) (old : List ℕ) → old ≡ streamRun (bounded s room) figure old
+    run-kept figure old = ap (λ (o : Outcome). streamRun o figure old) (sym e)
 
 -- ---- A sheet with room for its streams
 
@@ -138,8 +139,8 @@ module _ {s : List ℕ} {N n first : ℕ} {counts longests : List ℕ} (h : Shee
   pub sheeted-late : late ≤ n → bounded s room ≡ Not 8 late
   sheeted-late l = bounded-late s room (sheetIn s n) (h .ready .reads) (h .ready .bus) few late first-late (omega (arith, ready-streams (h .ready)))
 
-  pub returned-late : late ≤ n → (x y : List ℕ) → Returned s room x y (answer.Refused 8 late) x y
-  returned-late l x y = returned-refused s room x y 8 late (sheeted-late l)
+  pub returned-late : late ≤ n → (x y z : List ℕ) → Returned s room x y z (answer.Refused 8 late) x y z
+  returned-late l x y z = returned-refused s room x y z 8 late (sheeted-late l)
 
   module _ (l : n < late) where
     pub sheeted-read : bounded s room ≡ Read (sheetIn s n)
@@ -151,28 +152,30 @@ module _ {s : List ℕ} {N n first : ℕ} {counts longests : List ℕ} (h : Shee
         (q ∙ ap (λ (x : ℕ). filled (atPlace (figure (segmentIn s n))) x old) (sym (ready-streams (h .ready))))
         ∙ ap (λ (o : Outcome). streamRun o figure old) (sym sheeted-read)
 
-    pub returned-accepted : (x y a b : List ℕ) → a ≡ filled (atPlace (masterOf (segmentIn s n))) n x
-        → b ≡ filled (atPlace (boundOf (segmentIn s n))) n y → Returned s room x y (answer.Accepted N n) a b
+    pub returned-accepted : (x y z a b c : List ℕ) → a ≡ filled (atPlace (masterOf (segmentIn s n))) n x
+        → b ≡ filled (atPlace (boundOf (segmentIn s n))) n y → c ≡ filled (atPlace (spacingOf (segmentIn s n))) n z
+        → Returned s room x y z (answer.Accepted N n) a b c
     unfolding segmentOf
-    returned-accepted x y a b p q =
+    returned-accepted x y z a b c p q t =
         let r : answer.Accepted N n ≡ planOf (Read (sheetIn s n)) = ap (λ (k : ℕ). answer.Accepted k n) (h .masters-are) ∙ ap (answer.Accepted (sheetIn s n .head .a)) (sym (ready-streams (h .ready))) in
-        (r ∙ ap planOf (sym sheeted-read), (run-read masterOf x a p, run-read boundOf y b q))
+        (r ∙ ap planOf (sym sheeted-read), (run-read masterOf x a p, (run-read boundOf y b q, run-read spacingOf z c t)))
 
 -- ---- Stream by stream
 
--- the record met is stream i + 1: its master, and what the code multiplies for its bound
-pub record Placed (s : List ℕ) (n i : ℕ) (counts : List ℕ) (v a : ℕ) : Type 0 where
+-- the record r is stream i + 1: its master, what the code multiplies for its bound, and its spacing
+pub record Placed (s : List ℕ) (n i : ℕ) (counts : List ℕ) (v : ℕ) (r : Record) : Type 0 where
   pub inside : i < 800
-  pub to : a ≤ 32
-  pub count-to : at counts a ≤ 80
+  pub to : r .a ≤ 32
+  pub count-to : at counts (r .a) ≤ 80
   pub v-to : v ≤ 51040
-  pub small : at counts a * v ≤ 4083200
-  pub master : a ≡ atPlace (masterOf (segmentIn s n)) i
-  pub bounds : at counts a * v ≡ atPlace (boundOf (segmentIn s n)) i
+  pub small : at counts (r .a) * v ≤ 4083200
+  pub master : r .a ≡ atPlace (masterOf (segmentIn s n)) i
+  pub bounds : at counts (r .a) * v ≡ atPlace (boundOf (segmentIn s n)) i
+  pub spaced : r .c ≡ atPlace (spacingOf (segmentIn s n)) i
 
 module _ {s : List ℕ} {first n : ℕ} (ready : Ready s 1 first n) (counts : List ℕ) (v : ℕ)
     (ev : v ≡ turn (segmentIn s n)) (counts-are : (y : ℕ) → y ≤ 32 → at counts y ≡ count (segmentIn s n) y) where
-  pub placed : (i : ℕ) (r : Met) → i < n → Here s n i r → Placed s n i counts v (r .found .a)
+  pub placed : (i : ℕ) (r : Met) → i < n → Here s n i r → Placed s n i counts v (r .found)
   unfolding boundOf
   placed i r l h =
       let S = segmentIn s n in
@@ -187,4 +190,5 @@ module _ {s : List ℕ} {first n : ℕ} (ready : Ready s 1 first n) (counts : Li
         small = omega (arith, e, bound-at-most S d (S .stream (i + 1) .master));
         master = ap (λ (x : Stream). x .master) (h .stream);
         bounds = e;
+        spaced = ap (λ (x : Stream). x .spacing) (h .stream);
       }

@@ -1,5 +1,5 @@
-// The bounds of a P-NET sheet without a search: for a capture, page 02 'Ask 1', each stream's master and its master's R; for a path,
-// page 02 'Ask 4', R of the master that sends.
+// The bounds of a P-NET sheet without a search: for a capture, page 02 'Ask 1', each stream's master, its master's R and its T; for a
+// path, page 02 'Ask 4', R of the master that sends.
 use pnet::Plan;
 use sheet::MOST;
 use sheet::Reading;
@@ -14,7 +14,7 @@ ghost use Rattle.segment.specs.Segment;
 ghost use Rattle.token.specs.Turn.{at};
 ghost use Rattle.pnet.specs.Arrays.{segmentIn, Sheeted};
 ghost use Rattle.pnet.specs.Planned.{firstLate, planOf, atPlace};
-ghost use Rattle.limits.specs.Bounded.{bounded, boundOf, masterOf, streamRun};
+ghost use Rattle.limits.specs.Bounded.{bounded, boundOf, masterOf, spacingOf, streamRun};
 ghost use Rattle.limits.specs.Sender.{sound, senderOf};
 
 // What the sheet of a segment says of the master that sends there: its R, or the refusal's number and place.
@@ -44,7 +44,7 @@ fn first_late(s: &[u8], first: usize, n: usize, counts: &[u8; 33], turn: u32) ->
     n + 1
 }
 
-// Each stream's master and bound; turn is V.
+// Each stream's master, bound and spacing; turn is V.
 fn by_stream(
     s: &[u8],
     first: usize,
@@ -53,11 +53,13 @@ fn by_stream(
     turn: u32,
     masters: &mut [u8],
     bound: &mut [u32],
+    spacing: &mut [u32],
 )
-    requires { ⌜ Ready (now s) 1 first n × (n ≤ length (now masters)) × (n ≤ length (now bound)) ⌝ }
+    requires { ⌜ Ready (now s) 1 first n × (n ≤ length (now masters)) × (n ≤ length (now bound)) × (n ≤ length (now spacing)) ⌝ }
     requires { ⌜ (turn ≡ Segment.turn (segmentIn (now s) n)) × ((y : ℕ) → y ≤ 32 → at (now counts) y ≡ Segment.count (segmentIn (now s) n) y) ⌝ }
     ensures { λ _. ⌜ now (masters .exit) ≡ filled (atPlace (masterOf (segmentIn (now (s .entry)) n))) n (now (masters .entry)) ⌝ }
     ensures { λ _. ⌜ now (bound .exit) ≡ filled (atPlace (boundOf (segmentIn (now (s .entry)) n))) n (now (bound .entry)) ⌝ }
+    ensures { λ _. ⌜ now (spacing .exit) ≡ filled (atPlace (spacingOf (segmentIn (now (s .entry)) n))) n (now (spacing .entry)) ⌝ }
 {
     let mut at = first;
     let mut i: usize = 0;
@@ -66,12 +68,13 @@ fn by_stream(
         let r = met.found;
         masters[i] = r.a as u8;
         bound[i] = counts[r.a as usize] as u32 * turn;
+        spacing[i] = r.c;
         at = met.next;
         i += 1;
     }
 }
 
-// The masters and bounds of the n streams of a P-NET sheet of N masters, unless 8 is given.
+// The masters, bounds and spacings of the n streams of a P-NET sheet of N masters, unless 8 is given.
 fn bounds_of(
     s: &[u8],
     all: usize,
@@ -82,30 +85,39 @@ fn bounds_of(
     longests: &[u32; 33],
     masters: &mut [u8; MOST],
     bound: &mut [u32; MOST],
+    spacing: &mut [u32; MOST],
 ) -> Plan
     requires { ⌜ Sheeted (now s) all n first (now counts) (now longests) × (n ≤ room) ⌝ }
     ensures { λ r. ⌜ r ≡ planOf (bounded (now (s .entry)) room) ⌝ }
     ensures { λ _. ⌜ now (masters .exit) ≡ streamRun (bounded (now (s .entry)) room) masterOf (now (masters .entry)) ⌝ }
     ensures { λ _. ⌜ now (bound .exit) ≡ streamRun (bounded (now (s .entry)) room) boundOf (now (bound .entry)) ⌝ }
+    ensures { λ _. ⌜ now (spacing .exit) ≡ streamRun (bounded (now (s .entry)) room) spacingOf (now (spacing .entry)) ⌝ }
 {
     let turn = token::turn_of(counts, longests, all) as u32;
     let late = first_late(s, first, n, counts, turn);
     if late <= n {
         return Plan::Refused { no: 8, place: late };
     }
-    by_stream(s, first, n, counts, turn, masters, bound);
+    by_stream(s, first, n, counts, turn, masters, bound, spacing);
     Plan::Accepted {
         masters: all,
         streams: n,
     }
 }
 
-// The sheet that a capture is laid beside: each stream's master and bound, where `room` is the length of the shortest run lent for
-// results.
-pub fn bounds(s: &[u8], room: usize, masters: &mut [u8; MOST], bound: &mut [u32; MOST]) -> Plan
+// The sheet that a capture is laid beside: each stream's master, bound and spacing, where `room` is the length of the shortest run lent
+// for results.
+pub fn bounds(
+    s: &[u8],
+    room: usize,
+    masters: &mut [u8; MOST],
+    bound: &mut [u32; MOST],
+    spacing: &mut [u32; MOST],
+) -> Plan
     ensures { λ r. ⌜ r ≡ planOf (bounded (now (s .entry)) room) ⌝ }
     ensures { λ _. ⌜ now (masters .exit) ≡ streamRun (bounded (now (s .entry)) room) masterOf (now (masters .entry)) ⌝ }
     ensures { λ _. ⌜ now (bound .exit) ≡ streamRun (bounded (now (s .entry)) room) boundOf (now (bound .entry)) ⌝ }
+    ensures { λ _. ⌜ now (spacing .exit) ≡ streamRun (bounded (now (s .entry)) room) spacingOf (now (spacing .entry)) ⌝ }
 {
     let mut counts: [u8; 33] = [0; 33];
     let mut longests: [u32; 33] = [0; 33];
@@ -136,6 +148,7 @@ pub fn bounds(s: &[u8], room: usize, masters: &mut [u8; MOST], bound: &mut [u32;
                 &longests,
                 masters,
                 bound,
+                spacing,
             )
         }
     }

@@ -74,8 +74,9 @@ fn by_pieces(
 {
     let mut masters = [0u8; 800];
     let mut bound = [0u32; 800];
+    let mut spacing = [0u32; 800];
     let mut since = [0u32; 800];
-    let sheet = flat(limits::bounds(s, room, &mut masters, &mut bound));
+    let sheet = flat(limits::bounds(s, room, &mut masters, &mut bound, &mut spacing));
     if sheet.no != 0 {
         return sheet;
     }

@@ -210,7 +210,8 @@ fn say_reached(
 fn reach(s: &[u8], c: &[u8], last: usize) {
     let mut masters = [0u8; 800];
     let mut bound = [0u32; 800];
-    limits::bounds(s, 800, &mut masters, &mut bound);
+    let mut spacing = [0u32; 800];
+    limits::bounds(s, 800, &mut masters, &mut bound, &mut spacing);
     let mut answers = [170u64; 800];
     let mut largest = [170u32; 800];
     let mut above = [170u64; 800];

@@ -36,7 +36,7 @@ its c =
     here (c .before .before .before .before .pre .0) (l .i) (l .at) (c .record-of .result) (omega arith) (l .inv .1) (c .record-of .ensures)
 
 stream : (c : tie.After-record-of Inv-loop μ-loop)
-    → Placed (c .before .before .before .before .args .s .now) (c .before .before .before .before .args .n) (c .before .before .loop .i) (c .before .before .before .before .args .counts .now) (c .before .before .before .before .args .turn) (c .record-of .result .found .a)
+    → Placed (c .before .before .before .before .args .s .now) (c .before .before .before .before .args .n) (c .before .before .loop .i) (c .before .before .before .before .args .counts .now) (c .before .before .before .before .args .turn) (c .record-of .result .found)
 stream c =
     let start = c .before .before .before .before in
     placed (start .pre .0) (start .args .counts .now) (start .args .turn) (start .pre .1 .0) (start .pre .1 .1) (c .before .before .loop .i) (c .record-of .result) (omega arith) (its c)
