@@ -1,25 +1,28 @@
 -- A capture on the page's worked segment, byte by byte: one request of stream 1, whose answer takes 210 bp, while the counter runs over to zero.
--- So nothing that Captured and CapturedBytes suppose is empty. Assumes nothing.
+-- So nothing that Captured, CapturedBytes and Watched suppose is empty. Assumes nothing.
 use Prim.Native.Nat.{ℕ}
-use mathlib.Core.Path.{_≡_, refl}
-use mathlib.Core.List.{List, [], _∷_, List·Memᴰ·not-nil}
+use mathlib.Core.Path.{_≡_, refl, ap}
+use mathlib.Core.Bool.{true, false}
+use mathlib.Core.List.{List, [], _∷_, List·Memᴰ, List·Memᴰ·not-nil, List·Memᴰ·eq-of-singleton}
 use native.Mathlib.Omega.{arith}
 use lib.ListN.{length}
 use Rattle.common.specs.Checks.Verdict.{Passed}
 use Rattle.format.specs.Numbers.{be}
 use Rattle.sheet.specs.Whole.Outcome.{Read}
-use Rattle.segment.specs.Segment.{segmentOf, streamAt}
-use Rattle.pnet_run.specs.Run.{Belongs, request, answer, put, join, toward, on-way, next, Run, start, complete, arrive, serve}
+use Rattle.segment.specs.Segment.{segmentOf, streamAt, bound}
+use Rattle.pnet_run.specs.Run.{Belongs, Request, request, answer, put, join, toward, on-way, next, Run, start, complete, arrive, serve}
 use Rattle.pnet_run.specs.Promise.{none, and, Spaced}
-use Rattle.log.specs.Log.{stampAt, fresh, largest, asks, answers, around, since, shown}
+use Rattle.log.specs.Log.{stampAt, fresh, largest, asks, answers, around, left, since, shown}
 use Rattle.log.specs.Records.{eventAt, eventsIn, heard}
 use Rattle.capture.specs.Compared.{compared}
 use Rattle.capture.specs.Refusals.{Room}
-use Rattle.demands.specs.Logged.{logOf}
+use Rattle.capture_watch.specs.Ages.{step, clock, asked, soon, beyond}
+use Rattle.demands.specs.Logged.{logOf, instantsOf, Close, one, and as near}
 use Rattle.demands.proofs.Demand3.{accepted-as-demanded}
 use Rattle.demands.proofs.PageCase.{sheet, bytes, lent, page, accepts}
 use Rattle.demands.proofs.Captured.{the-capture-passes}
 use Rattle.demands.proofs.CapturedBytes.{the-capture-is-accepted}
+use Rattle.demands.proofs.Watched.{no-request-too-soon, no-request-open-beyond-the-bound}
 
 -- the token is at master 1 when its stream 1 asks: 7 bp reaction, 203 bp message
 unfoldable pub run : Run page 210 (toward (next (page .masters) 1) 40) (put (join (λ y. []) 1 (request 1 0)) 1 []) (request 1 0 ∷ [])
@@ -61,3 +64,48 @@ room = record { for-answers = omega arith; for-largest = omega arith; for-above 
 pub it-is-accepted : compared bytes capture (length eight) (length eight) (length eight) (length eight) ≡ Read sheet
 unfolding capture
 it-is-accepted = the-capture-is-accepted bytes lent lent lent sheet accepts run 4294967196 spaced capture 2 refl capture-is-the-log eight eight eight eight room
+
+-- ---- Followed by a clock that goes on where the counter runs over
+
+close : Close (instantsOf run)
+unfolding run instantsOf
+close = near {s = 0} {t = 210} (omega arith) one
+
+pub shows-211 : clock (logOf 4294967196 run) ≡ 211
+unfolding run logOf stampAt clock step around
+shows-211 = refl
+
+pub none-too-soon : soon (λ i. page .stream i .spacing) (logOf 4294967196 run) ≡ 0
+none-too-soon = no-request-too-soon page run 4294967196 close spaced
+
+-- stream 2 asks with stream 1, and still waits when that one has its answer
+unfoldable pub both : Run page 210 (toward (next (page .masters) 1) 40) (put (join (join (λ y. []) 1 (request 1 0)) 1 (request 2 0)) 1 (request 2 0 ∷ []))
+    (request 2 0 ∷ request 1 0 ∷ []) (answer (request 1 0) 210 ∷ [])
+unfolding sheet segmentOf streamAt put
+both =
+    let from : Run page 0 (toward 1 0) (λ y. []) [] [] = start {m = 1} {d = 0} (omega arith) (omega arith) (omega arith) in
+    let own1 : Belongs page 1 1 = record { from-one = omega arith; to-last = omega arith; own = refl } in
+    let own2 : Belongs page 1 2 = record { from-one = omega arith; to-last = omega arith; own = refl } in
+    complete
+    (serve {c = 0} 210 7 203 (arrive (arrive from on-way own1) on-way own2) refl (omega arith) (omega arith) (omega arith) (omega arith) (omega arith) refl) refl
+
+both-close : Close (instantsOf both)
+unfolding both instantsOf
+both-close = near {s = 0} {t = 210} (omega arith) (near {s = 0} {t = 0} (omega arith) one)
+
+both-spaced : (k : ℕ) → Spaced page k (request 2 0 ∷ request 1 0 ∷ [])
+both-spaced k i b = and (λ e a j. absurd (others e j)) (and (λ e a j. absurd (List·Memᴰ·not-nil j)) none)
+  where
+    others : {a : ℕ} → 2 ≡ i → List·Memᴰ (request i a) (request 1 0 ∷ []) → ⊥
+    others e j = let f = ap (λ (r : Request). r .of) (List·Memᴰ·eq-of-singleton j) in omega arith
+
+-- it has been open for 210 bp at the latest record, which is not beyond the bound
+pub open-for-more-than-209 : beyond 209 (logOf 4294967196 both) 2 ≡ true
+unfolding both logOf stampAt beyond clock step around asked asks answers left
+open-for-more-than-209 = refl
+
+pub none-beyond-the-bound : beyond (bound page 1) (logOf 4294967196 both) 2 ≡ false
+unfolding sheet segmentOf streamAt
+none-beyond-the-bound =
+    no-request-open-beyond-the-bound page both 4294967196 both-close (accepted-as-demanded bytes lent lent lent sheet accepts) 1 (both-spaced 1) 2
+    (record { from-one = omega arith; to-last = omega arith; own = refl })

@@ -8,5 +8,7 @@ pub mod Matching
 pub mod Passing
 pub mod Captured
 pub mod CapturedBytes
+pub mod Clocked
+pub mod Watched
 pub mod CaptureCase
 pub mod Relayed

@@ -50,7 +50,8 @@ use Rattle.pnet_run.specs.Run.{
 use Rattle.pnet_run.specs.Promise.{Spaced, Answered, Accepted}
 use Rattle.pnet_run.proofs.Charges.{in-ring, hold-covers}
 use Rattle.pnet_run.proofs.Queues.{put-same, put-other, owned}
-use Rattle.pnet_run.proofs.Bound.{apart-before, answered-by, first-differs, none-waits}
+use Rattle.pnet_run.proofs.Answering.{NotLate}
+use Rattle.pnet_run.proofs.Bound.{apart-before, waits-in-time, answered-by, first-differs, none-waits}
 use Rattle.log.specs.declared.Event.{Event}
 use Rattle.log.specs.Log.{asks, answers, stampAt, fresh, left, since, shown, largest, above}
 use Rattle.log.proofs.Stamps.{true-response}
@@ -209,6 +210,10 @@ module _ {S : Segment} (accepted : Accepted S) where
       in-bound : Spaced S k came → Answered (bound S k) S k t y came went
       unfolding bound
       in-bound spaced = answered-by S (hold S) k (ring .0) (ring .1) (hold-covers S) (λ i. S .stream i .spacing) fits run spaced
+
+      pub not-late : Spaced S k came → (r : Request) → List·Memᴰ r (q k) → NotLate (bound S k) (r .since) t y
+      unfolding bound
+      not-late spaced = waits-in-time S (hold S) k (ring .0) (ring .1) (hold-covers S) (λ i. S .stream i .spacing) fits run spaced
 
       differs : {r p : Request} {rest : List Request} → Spaced S k came → q k ≡ r ∷ rest → List·Memᴰ p rest → r .of ≢ p .of
       differs spaced e i = first-differs S (hold S) k (ring .0) (ring .1) (hold-covers S) (λ i. S .stream i .spacing) fits run spaced e i

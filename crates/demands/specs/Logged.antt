@@ -1,5 +1,5 @@
--- Page 02, 'Ask 1', beside page 01, 'How a P-NET run goes': the capture of a run. Assumes nothing.
-use Prim.Native.Nat.{ℕ}
+-- Page 02, 'Ask 1', beside page 01, 'How a P-NET run goes': the capture of a run, and when its records were made. Assumes nothing.
+use Prim.Native.Nat.{ℕ, _+_, _^_, _<_}
 use mathlib.Core.List.{List, [], _∷_}
 use Rattle.segment.specs.Segment.{Segment}
 use Rattle.pnet_run.specs.Run.{Request, Answer, Queues, Token, Run, start, complete, arrive, travel, work, serve, skip}
@@ -17,3 +17,27 @@ logOf z (travel e run) = logOf z run
 logOf z (work e run) = logOf z run
 logOf z (serve e reaction message run head a b c d f g) = logOf z run
 logOf z (skip e run empty a b) = logOf z run
+
+-- ---- When
+
+-- the instants of these records, the latest first
+unfoldable pub instantsOf : {S : Segment} {t : ℕ} {y : Token} {q : Queues} {came : List Request} {went : List Answer} → Run S t y q came went → List ℕ
+instantsOf (start a b c) = []
+instantsOf (complete {t = t} run head) = t ∷ instantsOf run
+instantsOf (arrive {t = t} run settled own) = t ∷ instantsOf run
+instantsOf (travel e run) = instantsOf run
+instantsOf (work e run) = instantsOf run
+instantsOf (serve e reaction message run head a b c d f g) = instantsOf run
+instantsOf (skip e run empty a b) = instantsOf run
+
+-- that of the first record, 0 if there is none
+unfoldable pub first : List ℕ → ℕ
+first [] = 0
+first (t ∷ []) = t
+first (t ∷ s ∷ ts) = first (s ∷ ts)
+
+-- each is less than 2^31 bp behind the one before it: true instants, since by their stamps two that are 2^32 + 5 bp apart are 5 bp apart
+pub data Close : List ℕ → Type 0 where
+  none : Close []
+  one : {t : ℕ} → Close (t ∷ [])
+  and : {s t : ℕ} {ts : List ℕ} → t < s + 2 ^ 31 → Close (s ∷ ts) → Close (t ∷ s ∷ ts)

@@ -70,7 +70,7 @@ use Rattle.pnet_run.proofs.Waiting.{
 }
 
 -- arrivals that are apart: the latest from those before it, and those before it
-apart-latest : {d i : ℕ} {r : Request} {came : List Request} → Apart d i (r ∷ came) → r .of ≡ i → (a : ℕ) → List·Memᴰ (request i a) came → a + d ≤ r .since
+pub apart-latest : {d i : ℕ} {r : Request} {came : List Request} → Apart d i (r ∷ came) → r .of ≡ i → (a : ℕ) → List·Memᴰ (request i a) came → a + d ≤ r .since
 apart-latest (and f p) e a j = omega (arith, f e a j)
 
 pub apart-before : {d i : ℕ} {r : Request} {came : List Request} → Apart d i (r ∷ came) → Apart d i came
