@@ -1,1 +1,6 @@
+pub mod Examples
 pub mod Following
+pub mod Means
+pub mod Passed
+pub mod Pieces
+pub mod True
