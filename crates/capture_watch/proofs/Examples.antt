@@ -69,4 +69,6 @@ kept-over-the-wrap = refl
 -- and in time: the counter showed fffffff0 at instant 0
 pub timed-over-the-wrap : Timed 0xfffffff0 wrapped 0 48
 unfolding stampAt
-timed-over-the-wrap = next (next {u = 32} (one {t = 0} refl) (omega arith) (omega arith) refl) (omega arith) (omega arith) refl
+timed-over-the-wrap =
+    let answered : Timed 0xfffffff0 (answers-at 1 0x10 ∷ asks-at 1 0xfffffff0 ∷ []) 0 32 = next {u = 32} (one {t = 0} refl) (omega arith) (omega arith) refl in
+    next {u = 48} answered (omega arith) (omega arith) refl

@@ -58,12 +58,23 @@ unfolding asked asks
 asked-at {i} (here {e} k s) = rw (eq-eqb (e .kind) 16 k, eq-eqb (e .stream) i s) refl
 asked-at {i} (later {e} other r) = rw (asks-not e i other) (asked-at r)
 
+-- the last request stood at an instant of its own, no later than the latest record
+pub record Instant (z : ℕ) (fs : List Event) (a u : ℕ) : Type 0 where
+  pub r : ℕ
+  pub at : Timed z fs a r
+  pub past : r ≤ u
+
+pub asked-instant : {z i a u : ℕ} {es fs : List Event} → UpTo i es fs → Timed z es a u → Instant z fs a u
+asked-instant (here k s) t = record { r = _; at = t; past = omega arith }
+asked-instant (later other q) (next t l n e) = let x = asked-instant q t in record { r = x .r; at = x .at; past = omega (arith, x .past) }
+
+-- that is r
 module _ {z i a u r : ℕ} {es fs : List Event} (q : UpTo i es fs) (last : Timed z fs a r) where
-  -- the last request stood at r and the latest record stands at u
+  -- its age at the latest record, at u
   pub true-age : Timed z es a u → clock es - asked es i ≡ u - r
   true-age t = omega (arith, true-clock t, true-clock last, asked-at q, in-order last, in-order t)
 
-  -- and so does the record behind it, from which the gap is taken
+  -- the gap to one record more, at u
   pub true-gap : (e : Event) → Timed z (e ∷ es) a u → clock (e ∷ es) - asked es i ≡ u - r
   true-gap e t = omega (arith, true-clock t, true-clock last, asked-at q, in-order last, in-order t)
 

@@ -86,7 +86,7 @@ fn count(soon: u64, early: bool) -> u64
     soon
 }
 
-// The first stream of all that came too soon.
+// The stream of the first request that came too soon, 0 for none.
 fn first(whose: u32, early: bool, stream: u32) -> u32
     ensures { λ r. ⌜ r ≡ cond (eqb whose 0) (when early stream) whose ⌝ }
 {
