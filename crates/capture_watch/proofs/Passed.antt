@@ -1,30 +1,22 @@
 -- What is followed of a capture that passes: its records, all whole and known, of streams that have a place. Assumes nothing.
 use Prim.Native.Nat.{ℕ, zero, suc, _*_, _/_, _^_, _≤_, _<_}
 use mathlib.Core.Path.{_≡_, refl, ap}
-use mathlib.Core.Bool.{true, or-true}
 use mathlib.Core.List.{List}
-use mathlib.Core.Logic.{_⊎_, inl, inr}
 use native.Mathlib.Decide.{ℕ-discrete}
 use native.Mathlib.Omega.{arith}
-use borrow.Author.Tests.{eq-eqb}
-use lib.Dec.{eqb}
 use lib.ListN.{length, getD}
 use Rattle.common.specs.Checks.Verdict.{Passed}
+use Rattle.common.specs.Sums.{up}
 use Rattle.log.specs.Log.{fresh}
-use Rattle.log.specs.Records.{size, eventsIn, known, heard}
+use Rattle.log.specs.Records.{size, eventsIn, records, heard}
 use Rattle.log.specs.Refusals.{Taken}
 use Rattle.log.proofs.Records.{met-whole}
-use Rattle.log.proofs.Refusals.{passed-exactly}
+use Rattle.log.proofs.Refusals.{known-exactly, passed-exactly}
 use Rattle.capture_watch.specs.Ages.{clock}
 use Rattle.capture_watch.specs.Follow.{most, began, seen, followed, metIn}
 use Rattle.capture_watch.specs.Timed.{Placed}
 use Rattle.capture_watch.specs.Timed.Placed.{none, and}
 use Rattle.capture_watch.proofs.Means.{Keeps, kept-means}
-
-either-known : (kind : ℕ) → kind ≡ 16 ⊎ kind ≡ 17 → known kind ≡ true
-unfolding known
-either-known kind (inl k) = rw (eq-eqb kind 16 k) refl
-either-known kind (inr k) = rw (eq-eqb kind 17 k) (or-true (eqb kind 16))
 
 events-many : (c : List ℕ) (j : ℕ) → length (eventsIn c j) ≡ j
 unfolding eventsIn
@@ -43,12 +35,17 @@ module _ (c : List ℕ) (n : ℕ) (passes : heard c n fresh ≡ Passed) where
       split (yes e) = e
       split (no z) = let t = each (length c / size) (omega (arith, z)) in absurd (omega (arith, t .is-whole .ends))
 
-  read-as : (j : ℕ) → size * j ≤ length c → metIn c j ≡ eventsIn c j
+  pub passed-count : records c ≡ length c / size
+  unfolding records up
+  passed-count = omega (arith, passed-whole)
+
+  -- each is met as it stands
+  pub read-as : (j : ℕ) → size * j ≤ length c → metIn c j ≡ eventsIn c j
   unfolding metIn eventsIn
   read-as zero h = refl
   read-as (suc j) h =
       let t = each j (omega arith) in
-      rw (met-whole c (size * j) (omega arith) (either-known _ (t .is-known .either)), read-as j (omega arith)) refl
+      rw (met-whole c (size * j) (omega arith) (known-exactly c n j .1 (t .is-known)), read-as j (omega arith)) refl
 
   pub passed-records : metIn c (length c / size) ≡ eventsIn c (length c / size)
   passed-records = read-as (length c / size) (omega arith)
