@@ -1,2 +1,3 @@
 pub mod Ages
 pub mod Follow
+pub mod Timed

@@ -119,7 +119,7 @@ unfolding records up
 records-whole c m whole = omega arith
 
 module _ (c p : List ℕ) where
-  event-front : (at : ℕ) → at + size ≤ length c → eventAt (c ++ p) at ≡ eventAt c at
+  pub event-front : (at : ℕ) → at + size ≤ length c → eventAt (c ++ p) at ≡ eventAt c at
   unfolding eventAt
   event-front at h =
       let same : (i : ℕ) → i < length c → getD (c ++ p) i 0 ≡ getD c i 0 = λ i l. List·getD-append c p 0 i l in
@@ -136,7 +136,7 @@ module _ (c p : List ℕ) where
       let e : length c + at + w ≡ length c + (at + w) = omega arith in
       omega (arith, be-behind at w, ap (λ (i : ℕ). getD (c ++ p) i 0) e, getD-append-add c p (at + w) 0)
 
-  event-behind : (at : ℕ) → eventAt (c ++ p) (length c + at) ≡ eventAt p at
+  pub event-behind : (at : ℕ) → eventAt (c ++ p) (length c + at) ≡ eventAt p at
   unfolding eventAt
   event-behind at =
       let one : length c + at + 1 ≡ length c + (at + 1) = omega arith in

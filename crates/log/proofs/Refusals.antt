@@ -147,7 +147,7 @@ module _ (c : List ℕ) (n j : ℕ) where
   waiting = left fresh (eventsIn c j) stream
 
   -- each test holds exactly if the words do
-  known-exactly : (known kind ≡ true) ↔ KnownKind c j
+  pub known-exactly : (known kind ≡ true) ↔ KnownKind c j
   unfolding known
   known-exactly = (λ e. by (eqb kind 16) refl e, λ k. back (k .either))
     where
