@@ -151,6 +151,7 @@ fn put_soon(out: &mut [u8], at: usize, soon: u64, whose: u32) -> usize
     put_counted(out, next, b"", whose as u64, b"\n")
 }
 
+// Requests open for too long and requests that came too soon. Records that are far apart hide how long and how soon, so that is said instead.
 fn put_ages(
     out: &mut [u8],
     at: usize,
@@ -205,7 +206,7 @@ fn put_faults(
     put_silence(out, silence, answers, n)
 }
 
-// Nothing is wrong.
+// Nothing is wrong. The last lines and is_clean both go by this.
 fn clean(
     answers: &[u64; MOST],
     above: &[u64; MOST],
@@ -273,7 +274,7 @@ pub fn put_capture(
     put_last(out, last, answers, above, late, soon, whose, broken, n)
 }
 
-// The report says that nothing is wrong.
+// Whether the report that put_capture writes says that nothing is wrong.
 pub fn is_clean(
     streams: usize,
     answers: &[u64; MOST],
