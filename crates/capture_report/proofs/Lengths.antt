@@ -1,5 +1,5 @@
 -- No report of a capture is longer than `mostCapture`, so a run of so many bytes holds every one. Assumes nothing.
-use mathlib.Core.List.{_++_}
+use mathlib.Core.List.{List, [], _++_}
 use mathlib.Core.Bool.{Bool, true, false, cond}
 use Prim.Native.Nat.{ℕ, _+_, _^_, _≤_, _<_}
 use native.Mathlib.Omega.{arith}
@@ -11,7 +11,7 @@ use Rattle.text.proofs.Numbers.{length-places}
 use Rattle.text.proofs.Lengths.{decimal-most, texts-most}
 use Rattle.phrases.specs.Phrases.{nameOf, twoCounts}
 use Rattle.phrases.proofs.Lengths.{both-most, two-most}
-use Rattle.capture_report.specs.Shown.{mostCapture, whoseText, countsText, streamLine, streamAt, exceeding, first, lastLine, captureText}
+use Rattle.capture_report.specs.Shown.{mostCapture, whoseText, countsText, streamLine, streamAt, exceeding, first, streamsLine, soonLine, agesLines, silenceLine, faultLines, clean, lastLines, captureText}
 use Rattle.capture_report.proofs.Counts.{exceeding-few, first-few}
 
 -- every figure of a run has so many bits
@@ -36,22 +36,67 @@ counts-most answers above left n a l =
       decimal-most 3 left (omega arith) (omega arith) (omega arith),
     ))
 
--- ---- The last line
+-- ---- The last lines
 
-last-most : (above : ℕ → ℕ) (n : ℕ) → n ≤ 800 → length (lastLine above n) ≤ 57
-unfolding lastLine
-last-most above n few = split (eqb (exceeding above n) 0)
-  where
-    split : (b : Bool)
-        → length (cond b (word "every answer within its bound\n") (word "answers above the bound in " ++ (decimal (exceeding above n) ++ (word " streams, first stream " ++ (decimal (first above n + 1) ++ word "\n"))))) ≤ 57
-    split true = omega arith
-    split false =
-        simp length-append
-        (omega (
-          arith,
-          decimal-most 3 (exceeding above n) (omega arith) (omega arith) (omega (arith, exceeding-few above n)),
-          decimal-most 3 (first above n + 1) (omega arith) (omega arith) (omega (arith, first-few above n)),
-        ))
+module _ (n : ℕ) (few : n ≤ 800) where
+  streams-most : (words : List ℕ) (run : ℕ → ℕ) → length (streamsLine words run n) ≤ length words + 30
+  unfolding streamsLine
+  streams-most words run = split (eqb (exceeding run n) 0)
+    where
+      split : (b : Bool) → length (cond b [] (words ++ (decimal (exceeding run n) ++ (word " streams, first stream " ++ (decimal (first run n + 1) ++ word "\n"))))) ≤ length words + 30
+      split true = omega arith
+      split false =
+          simp length-append
+          (omega (
+            arith,
+            decimal-most 3 (exceeding run n) (omega arith) (omega arith) (omega (arith, exceeding-few run n)),
+            decimal-most 3 (first run n + 1) (omega arith) (omega arith) (omega (arith, first-few run n)),
+          ))
+
+  silence-most : (answers : ℕ → ℕ) → length (silenceLine answers n) ≤ 31
+  unfolding silenceLine
+  silence-most answers = split (eqb (exceeding answers n) 0)
+    where
+      split : (b : Bool) → length (cond b (word "no answer in the whole capture\n") []) ≤ 31
+      split true = omega arith
+      split false = omega arith
+
+  module _ (above late answers : ℕ → ℕ) (soon whose : ℕ) (s : soon < 2 ^ 64) (w : whose < 2 ^ 32) where
+    soon-most : length (soonLine soon whose) ≤ 96
+    unfolding soonLine
+    soon-most = split (eqb soon 0)
+      where
+        split : (b : Bool) → length (cond b [] (word "requests sooner than T after the one before " ++ (decimal soon ++ (word " times, first stream " ++ (decimal whose ++ word "\n"))))) ≤ 96
+        split true = omega arith
+        split false =
+            simp length-append
+            (omega (arith, decimal-most 20 soon (omega arith) (omega arith) (omega arith), decimal-most 10 whose (omega arith) (omega arith) (omega arith)))
+
+    ages-most : (broken : Bool) → length (agesLines late soon whose broken n) ≤ 160
+    unfolding agesLines
+    ages-most true = omega arith
+    ages-most false =
+        let overdue = streamsLine (word "requests open beyond the bound in ") late n in
+        omega (arith, length-append overdue (soonLine soon whose), streams-most (word "requests open beyond the bound in ") late, soon-most)
+
+    last-most : (broken : Bool) → length (lastLines above late answers soon whose broken n) ≤ 248
+    unfolding lastLines faultLines
+    last-most broken = split (clean above late answers soon broken n)
+      where
+        over : List ℕ
+        over = streamsLine (word "answers above the bound in ") above n
+
+        split : (b : Bool) → length (cond b (word "every answer within its bound\n") (over ++ (agesLines late soon whose broken n ++ silenceLine answers n))) ≤ 248
+        split true = omega arith
+        split false =
+            omega (
+              arith,
+              length-append over (agesLines late soon whose broken n ++ silenceLine answers n),
+              length-append (agesLines late soon whose broken n) (silenceLine answers n),
+              streams-most (word "answers above the bound in ") above,
+              ages-most broken,
+              silence-most answers,
+            )
 
 -- ---- The report
 
@@ -71,13 +116,14 @@ module _ (masters bound largest answers above left : ℕ → ℕ) (b : Bits 32 b
         counts-most (answers i) (above i) (left i) (r i) (a i) (o i),
       )
 
-  pub no-capture-longer : (n : ℕ) → n ≤ 800 → length (captureText masters bound largest answers above left n) ≤ mostCapture
+  pub no-capture-longer : (late : ℕ → ℕ) (soon whose : ℕ) (broken : Bool) (n : ℕ) → soon < 2 ^ 64 → whose < 2 ^ 32 → n ≤ 800
+      → length (captureText masters bound largest answers above left late soon whose broken n) ≤ mostCapture
   unfolding captureText
-  no-capture-longer n few =
+  no-capture-longer late soon whose broken n s w few =
       let lines = texts (streamAt masters bound largest answers above left) n in
       omega (
         arith,
-        length-append lines (lastLine above n),
+        length-append lines (lastLines above late answers soon whose broken n),
         texts-most (streamAt masters bound largest answers above left) 158 n (λ i h. stream-most i (omega arith)),
-        last-most above n few,
+        last-most n few above late answers soon whose s w broken,
       )

@@ -10,10 +10,10 @@ ghost use mathlib.Core.Path.{_≡_};
 ghost use Prim.Native.Nat.{_≤_, min};
 ghost use Rattle.text.specs.Text.{Zeros, Wrote, item, texts};
 ghost use Rattle.capture_report.specs.Shown;
-ghost use Rattle.capture_report.specs.Shown.{mostCapture, whoseText, countsText, streamLine, streamAt, lastLine, captureText, captureRefusal};
+ghost use Rattle.capture_report.specs.Shown.{mostCapture, whoseText, countsText, streamLine, streamAt, streamsLine, soonLine, agesLines, silenceLine, faultLines, lastLines, captureText, captureRefusal};
 
 // No report of a capture is longer.
-pub const MOST_TEXT: usize = 126_471;
+pub const MOST_TEXT: usize = 126_662;
 
 // Room for every report of a capture.
 pub fn text_buffer() -> [u8; MOST_TEXT]
@@ -90,15 +90,15 @@ fn put_streams(
     next
 }
 
-// How many of the first n streams have an answer above their bound.
-fn exceeding(above: &[u64; MOST], n: usize) -> u64
+// How many of the first n streams have a figure other than 0 in a run.
+fn exceeding(run: &[u64; MOST], n: usize) -> u64
     requires { ⌜ n ≤ 800 ⌝ }
-    ensures { λ r. ⌜ r ≡ Shown.exceeding (item (now (above .entry))) n ⌝ }
+    ensures { λ r. ⌜ r ≡ Shown.exceeding (item (now (run .entry))) n ⌝ }
 {
     let mut count: u64 = 0;
     let mut i = 0;
     while i < n {
-        if above[i] > 0 {
+        if run[i] > 0 {
             count += 1;
         }
         i += 1;
@@ -107,13 +107,13 @@ fn exceeding(above: &[u64; MOST], n: usize) -> u64
 }
 
 // The index of the first of them.
-fn first(above: &[u64; MOST], n: usize) -> u64
+fn first(run: &[u64; MOST], n: usize) -> u64
     requires { ⌜ n ≤ 800 ⌝ }
-    ensures { λ r. ⌜ r ≡ Shown.first (item (now (above .entry))) n ⌝ }
+    ensures { λ r. ⌜ r ≡ Shown.first (item (now (run .entry))) n ⌝ }
 {
     let mut i = 0;
     while i < n {
-        if above[i] != 0 {
+        if run[i] != 0 {
             return i as u64;
         }
         i += 1;
@@ -121,23 +121,128 @@ fn first(above: &[u64; MOST], n: usize) -> u64
     i as u64
 }
 
-fn put_last(out: &mut [u8], at: usize, above: &[u64; MOST], n: usize) -> usize
+// Behind the words, how many streams have a figure other than 0 in a run, and the first; nothing where none has.
+fn put_found(out: &mut [u8], at: usize, words: &[u8], run: &[u64; MOST], n: usize) -> usize
     requires { ⌜ n ≤ 800 ⌝ }
-    ensures { λ r. ⌜ Wrote (now (out .entry)) at (lastLine (item (now (above .entry))) n) (now (out .exit)) r ⌝ }
+    ensures { λ r. ⌜ Wrote (now (out .entry)) at (streamsLine (now (words .entry)) (item (now (run .entry))) n) (now (out .exit)) r ⌝ }
 {
-    let count = exceeding(above, n);
+    let count = exceeding(run, n);
     if count == 0 {
-        return put_word(out, at, b"every answer within its bound\n");
+        return at;
     }
-    let lowest = first(above, n) + 1;
+    let lowest = first(run, n) + 1;
+    let next = put_counted(out, at, words, count, b" streams, first stream ");
+    put_counted(out, next, b"", lowest, b"\n")
+}
+
+fn put_soon(out: &mut [u8], at: usize, soon: u64, whose: u32) -> usize
+    ensures { λ r. ⌜ Wrote (now (out .entry)) at (soonLine soon whose) (now (out .exit)) r ⌝ }
+{
+    if soon == 0 {
+        return at;
+    }
     let next = put_counted(
         out,
         at,
-        b"answers above the bound in ",
-        count,
-        b" streams, first stream ",
+        b"requests sooner than T after the one before ",
+        soon,
+        b" times, first stream ",
     );
-    put_counted(out, next, b"", lowest, b"\n")
+    put_counted(out, next, b"", whose as u64, b"\n")
+}
+
+// Requests open for too long and requests that came too soon. Records that are far apart hide how long and how soon, so that is said instead.
+fn put_ages(
+    out: &mut [u8],
+    at: usize,
+    late: &[u64; MOST],
+    soon: u64,
+    whose: u32,
+    broken: bool,
+    n: usize,
+) -> usize
+    requires { ⌜ n ≤ 800 ⌝ }
+    ensures { λ r. ⌜ Wrote (now (out .entry)) at (agesLines (item (now (late .entry))) soon whose broken n) (now (out .exit)) r ⌝ }
+{
+    if broken {
+        return put_word(
+            out,
+            at,
+            b"records not in order of time, or none for 2147483648 bp 27962026666667 ns or longer: ages and gaps not known\n",
+        );
+    }
+    let next = put_found(out, at, b"requests open beyond the bound in ", late, n);
+    put_soon(out, next, soon, whose)
+}
+
+fn put_silence(out: &mut [u8], at: usize, answers: &[u64; MOST], n: usize) -> usize
+    requires { ⌜ n ≤ 800 ⌝ }
+    ensures { λ r. ⌜ Wrote (now (out .entry)) at (silenceLine (item (now (answers .entry))) n) (now (out .exit)) r ⌝ }
+{
+    let heard = exceeding(answers, n);
+    if heard == 0 {
+        return put_word(out, at, b"no answer in the whole capture\n");
+    }
+    at
+}
+
+// Whatever is wrong, a line for each.
+fn put_faults(
+    out: &mut [u8],
+    at: usize,
+    answers: &[u64; MOST],
+    above: &[u64; MOST],
+    late: &[u64; MOST],
+    soon: u64,
+    whose: u32,
+    broken: bool,
+    n: usize,
+) -> usize
+    requires { ⌜ n ≤ 800 ⌝ }
+    ensures { λ r. ⌜ Wrote (now (out .entry)) at (faultLines (item (now (above .entry))) (item (now (late .entry))) (item (now (answers .entry))) soon whose broken n) (now (out .exit)) r ⌝ }
+{
+    let ages = put_found(out, at, b"answers above the bound in ", above, n);
+    let silence = put_ages(out, ages, late, soon, whose, broken, n);
+    put_silence(out, silence, answers, n)
+}
+
+// Nothing is wrong. The last lines and is_clean both go by this.
+fn clean(
+    answers: &[u64; MOST],
+    above: &[u64; MOST],
+    late: &[u64; MOST],
+    soon: u64,
+    broken: bool,
+    n: usize,
+) -> bool
+    requires { ⌜ n ≤ 800 ⌝ }
+    ensures { λ r. ⌜ r ≡ Shown.clean (item (now (above .entry))) (item (now (late .entry))) (item (now (answers .entry))) soon broken n ⌝ }
+{
+    let over = exceeding(above, n);
+    let open = exceeding(late, n);
+    let heard = exceeding(answers, n);
+    (over == 0) & (open == 0) & (soon == 0) & !broken & (heard != 0)
+}
+
+fn put_last(
+    out: &mut [u8],
+    at: usize,
+    answers: &[u64; MOST],
+    above: &[u64; MOST],
+    late: &[u64; MOST],
+    soon: u64,
+    whose: u32,
+    broken: bool,
+    n: usize,
+) -> usize
+    requires { ⌜ n ≤ 800 ⌝ }
+    ensures { λ r. ⌜ Wrote (now (out .entry)) at (lastLines (item (now (above .entry))) (item (now (late .entry))) (item (now (answers .entry))) soon whose broken n) (now (out .exit)) r ⌝ }
+{
+    let good = clean(answers, above, late, soon, broken, n);
+    if good {
+        return put_word(out, at, b"every answer within its bound\n");
+    }
+    put_faults(out, at, answers, above, late, soon, whose, broken, n)
 }
 
 fn shown(streams: usize) -> usize
@@ -156,13 +261,32 @@ pub fn put_capture(
     answers: &[u64; MOST],
     above: &[u64; MOST],
     left: &[u8; MOST],
+    late: &[u64; MOST],
+    soon: u64,
+    whose: u32,
+    broken: bool,
 ) -> usize
-    ensures { λ r. ⌜ Wrote (now (out .entry)) 0 (captureText (item (now (masters .entry))) (item (now (bound .entry))) (item (now (largest .entry))) (item (now (answers .entry))) (item (now (above .entry))) (item (now (left .entry))) (min streams 800)) (now (out .exit)) r ⌝ }
+    ensures { λ r. ⌜ Wrote (now (out .entry)) 0 (captureText (item (now (masters .entry))) (item (now (bound .entry))) (item (now (largest .entry))) (item (now (answers .entry))) (item (now (above .entry))) (item (now (left .entry))) (item (now (late .entry))) soon whose broken (min streams 800)) (now (out .exit)) r ⌝ }
 {
     let n = shown(streams);
     let lines = put_word(out, 0, b"P-NET capture\n");
     let last = put_streams(out, lines, n, masters, bound, largest, answers, above, left);
-    put_last(out, last, above, n)
+    put_last(out, last, answers, above, late, soon, whose, broken, n)
+}
+
+// Whether the report that put_capture writes says that nothing is wrong.
+pub fn is_clean(
+    streams: usize,
+    answers: &[u64; MOST],
+    above: &[u64; MOST],
+    late: &[u64; MOST],
+    soon: u64,
+    broken: bool,
+) -> bool
+    ensures { λ r. ⌜ r ≡ Shown.clean (item (now (above .entry))) (item (now (late .entry))) (item (now (answers .entry))) soon broken (min streams 800) ⌝ }
+{
+    let n = shown(streams);
+    clean(answers, above, late, soon, broken, n)
 }
 
 // Writes the report of a capture that is refused.

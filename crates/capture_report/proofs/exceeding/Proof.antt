@@ -1,4 +1,4 @@
--- `capture_report::exceeding` counts the streams that have an answer above their bound. The loop's invariant: those of the first i are
+-- `capture_report::exceeding` counts the streams that have a figure other than 0 in a run. The loop's invariant: those of the first i are
 -- counted. Assumes nothing.
 use mathlib.Core.Path.{_≡_, refl, _∙_}
 use mathlib.Core.Logic.{⊎-elim}
@@ -14,10 +14,10 @@ use Rattle.capture_report.proofs.exceeding.Statement.{statement}
 use Rattle.capture_report.proofs.exceeding.Tie as tie
 
 abbrev Inv-loop : tie.InvT-loop
-Inv-loop above n count₀ i₀ count i = (i ≤ n) × (count ≤ i) × (count ≡ exceeding (item above) i)
+Inv-loop run n count₀ i₀ count i = (i ≤ n) × (count ≤ i) × (count ≡ exceeding (item run) i)
 
 abbrev μ-loop : tie.MeasureT-loop
-μ-loop above n count₀ i₀ count i = n - i
+μ-loop run n count₀ i₀ count i = n - i
 
 loop-holds : tie.Need-loop-holds Inv-loop μ-loop
 unfolding exceeding sum
@@ -41,9 +41,9 @@ loop-less c = search needs
 loop-again : tie.Need-loop-again Inv-loop μ-loop
 loop-again c =
     let l = c .before .before .before .loop in
-    let above = item (now (c .before .before .before .before .args .above)) in
-    ⊎-elim (λ w. (omega arith, omega arith, w .1 ∙ exceeding-some above (l .i) (l .count) (l .inv .2) (omega (arith, w .0 .taken))))
-    (λ w. (omega arith, omega arith, w .1 ∙ exceeding-none above (l .i) (l .count) (l .inv .2) (omega (arith, w .0 .left))))
+    let run = item (now (c .before .before .before .before .args .run)) in
+    ⊎-elim (λ w. (omega arith, omega arith, w .1 ∙ exceeding-some run (l .i) (l .count) (l .inv .2) (omega (arith, w .0 .taken))))
+    (λ w. (omega arith, omega arith, w .1 ∙ exceeding-none run (l .i) (l .count) (l .inv .2) (omega (arith, w .0 .left))))
     (c .if1 .came)
 
 returns : tie.Need-returns Inv-loop μ-loop

@@ -1,4 +1,4 @@
--- `capture_report::first` finds the first stream that has an answer above its bound. The loop's invariant: none of the first i
+-- `capture_report::first` finds the first stream that has a figure other than 0 in a run. The loop's invariant: none of the first i
 -- has one. Assumes nothing.
 use mathlib.Core.Path.{_≡_}
 use mathlib.Core.Bool.{false}
@@ -14,10 +14,10 @@ use Rattle.capture_report.proofs.first.Statement.{statement}
 use Rattle.capture_report.proofs.first.Tie as tie
 
 abbrev Inv-loop : tie.InvT-loop
-Inv-loop above n i₀ i = (i ≤ n) × ((j : ℕ) → j < i → exceeds (item above) j ≡ false)
+Inv-loop run n i₀ i = (i ≤ n) × ((j : ℕ) → j < i → exceeds (item run) j ≡ false)
 
 abbrev μ-loop : tie.MeasureT-loop
-μ-loop above n i₀ i = n - i
+μ-loop run n i₀ i = n - i
 
 loop-holds : tie.Need-loop-holds Inv-loop μ-loop
 loop-holds c = (search needs, λ j l. absurd (omega arith))
@@ -33,7 +33,7 @@ unfolding first
 returns c =
     let l = c .before .before .before .loop in
     let a = c .before .before .before .before .args in
-    found-first (exceeds (item (now (a .above)))) (a .n) (l .i) (l .inv .1) (exceeds-some (item (now (a .above))) (l .i) (omega (arith, c .if1 .taken))) (omega arith)
+    found-first (exceeds (item (now (a .run)))) (a .n) (l .i) (l .inv .1) (exceeds-some (item (now (a .run))) (l .i) (omega (arith, c .if1 .taken))) (omega arith)
 
 add-i : tie.Need-add-i Inv-loop μ-loop
 add-i c = search needs
@@ -44,15 +44,15 @@ loop-less c = search needs
 loop-again : tie.Need-loop-again Inv-loop μ-loop
 loop-again c =
     let l = c .before .before .before .loop in
-    let above = item (now (c .before .before .before .before .args .above)) in
-    (omega arith, none-more above (l .i) (l .inv .1) (omega (arith, c .if1 .left)))
+    let run = item (now (c .before .before .before .before .args .run)) in
+    (omega arith, none-more run (l .i) (l .inv .1) (omega (arith, c .if1 .left)))
 
 returns-2 : tie.Need-returns-2 Inv-loop μ-loop
 unfolding first
 returns-2 c =
     let l = c .before .loop in
     let a = c .before .before .args in
-    found-none (exceeds (item (now (a .above)))) (a .n) (l .i) (l .inv .1) (omega arith)
+    found-none (exceeds (item (now (a .run)))) (a .n) (l .i) (l .inv .1) (omega arith)
 
 pub first-spec : {M : Type 1} → statement M
 first-spec = tie.close (tie.spec Inv-loop μ-loop loop-holds mul-if1 element-copy-out-if1 returns add-i loop-less loop-again returns-2)

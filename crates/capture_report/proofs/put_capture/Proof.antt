@@ -1,4 +1,4 @@
--- `capture_report::put_capture` stores the heading, the lines of the streams and the last line. Assumes nothing.
+-- `capture_report::put_capture` stores the heading, the lines of the streams and the last lines. Assumes nothing.
 use Rattle.text.proofs.Writing.{wrote-then}
 use Rattle.capture_report.specs.Shown.{captureText}
 use borrow.Author.Needs.{needs}
