@@ -1,9 +1,6 @@
-<<<<<<< HEAD
-=======
 pub mod Examples
 pub mod Following
 pub mod Means
 pub mod Passed
 pub mod Pieces
 pub mod True
->>>>>>> desk-watch

@@ -31,7 +31,7 @@ fn master_at(i: usize) -> Entered {
     let mut word = io::buffer();
     let n = os::arg(i, &mut word);
     if (n == 3) & (word[0] == b'M') {
-        return entry::number(&word[1..n]);
+        return entry::number(&word[1..3]);
     }
     entry::number(&word[..n])
 }
