@@ -81,7 +81,9 @@ fn wanted(i: usize) {
 }
 
 // Says of word i, counted from the one behind `--path`, what stands there, if it does, and what should.
-fn misplaced(i: usize, count: usize) {
+fn misplaced(i: usize, count: usize)
+    requires { ⌜ 2 ≤ i ⌝ }
+{
     complain(b"planner: --path: word ");
     io::print_decimal(libc::STDERR_FILENO, (i - 1) as u64);
     if i < count {

@@ -27,7 +27,7 @@ pub(crate) fn complain(words: &[u8]) {
 }
 
 // How many bytes of a text are written, of which the first n are finished.
-fn end_of(length: usize, n: usize) -> usize
+pub(crate) fn end_of(length: usize, n: usize) -> usize
     ensures { λ r. ⌜ r ≡ min n length ⌝ }
 {
     if n < length { n } else { length }

@@ -2,6 +2,7 @@
 use crate::help::COMMANDS;
 use crate::output::FAILED;
 use crate::output::complain;
+use crate::output::end_of;
 use crate::output::put_first;
 use libc::STDERR_FILENO;
 use text::put_word;
@@ -10,9 +11,6 @@ ghost use lib.ListN.{length};
 
 // Four bytes show one, and a word has 4,096 at most.
 const SHOWN: usize = 16_384;
-
-// So much of a longer one is shown.
-const CUT: usize = 60;
 
 // ---- Showing a word
 
@@ -35,13 +33,14 @@ fn put_shown(out: &mut [u8], at: usize, byte: u8) -> usize {
     put_word(out, at, &[byte])
 }
 
-// A name on standard error, control bytes by their numbers.
-fn show(name: &[u8]) {
+// The first n bytes of a text on standard error, control bytes by their numbers.
+fn show(text: &[u8], n: usize) {
     let mut out = [0u8; SHOWN];
+    let end = end_of(text.len(), n);
     let mut at: usize = 0;
     let mut i: usize = 0;
-    while i < name.len() {
-        at = put_shown(&mut out, at, name[i]);
+    while i < end {
+        at = put_shown(&mut out, at, text[i]);
         i += 1;
     }
     put_first(STDERR_FILENO, &out, at);
@@ -54,20 +53,20 @@ pub(crate) fn fail(name: &[u8]) {
         os::fail(b"standard input");
         return;
     }
-    show(name);
+    show(name, name.len());
     os::fail(b"");
 }
 
-// Word i on standard error; of one that is longer than a file's name can be, the start.
+// Word i on standard error; of one that is longer than a file's name can be, the first 60 bytes.
 pub(crate) fn show_word(i: usize) {
     let mut word = io::buffer();
     let n = os::arg(i, &mut word);
     if os::errno() == libc::ENAMETOOLONG {
-        show(&word[..CUT]);
+        show(&word, 60);
         complain(b"..");
         return;
     }
-    show(&word[..n]);
+    show(&word, n);
 }
 
 // ---- What a word is

@@ -1,22 +1,19 @@
--- `planner::plan` hands on what was read, which stands within the buffer. Assumes nothing.
+-- `planner::plan` hands over what was read, which stands within the buffer. Assumes nothing.
 use mathlib.Core.Path.{sym}
 use native.Mathlib.Omega.{arith}
-use borrow.Author.Needs.{needs}
 use lib.Seq.{length-take-le}
+use borrow.Author.Needs.{needs}
 use Rattle.planner.proofs.plan.Statement.{statement}
 use Rattle.planner.proofs.plan.Tie as tie
 
 sheet-buffer-requires : tie.Need-sheet-buffer-requires
 sheet-buffer-requires c κs = search needs
 
-slice-aggregate-read-all : tie.Need-slice-aggregate-read-all
-slice-aggregate-read-all c = search needs
+slice-aggregate-read-sheet : tie.Need-slice-aggregate-read-sheet
+slice-aggregate-read-sheet c = search needs
 
-read-all-requires : tie.Need-read-all-requires
-read-all-requires c κs = search needs
-
-fail-requires : tie.Need-fail-requires
-fail-requires c κs = search needs
+read-sheet-requires : tie.Need-read-sheet-requires
+read-sheet-requires c κs = search needs
 
 returns : tie.Need-returns
 returns c = search needs
@@ -25,7 +22,9 @@ array-share-prefix-sheet : tie.Need-array-share-prefix-sheet
 array-share-prefix-sheet c = search needs
 
 slice-aggregate-write-report : tie.Need-slice-aggregate-write-report
-slice-aggregate-write-report c = sym (length-take-le _ _ (omega (arith, c .before .before .before .read-all .ensures, c .before .before .before .read-all .kept .1 .0)))
+slice-aggregate-write-report c =
+    let read = c .before .before .before .read-sheet in
+    sym (length-take-le _ _ (omega (arith, read .ensures, read .kept .1 .1 .0)))
 
 write-report-requires : tie.Need-write-report-requires
 write-report-requires c κs = search needs
@@ -35,4 +34,13 @@ returns-2 c = search needs
 
 pub plan-spec : {M : Type 1} → statement M
 plan-spec =
-    tie.close (tie.spec sheet-buffer-requires slice-aggregate-read-all read-all-requires fail-requires returns array-share-prefix-sheet slice-aggregate-write-report write-report-requires returns-2)
+    tie.close
+    (tie.spec
+    sheet-buffer-requires
+    slice-aggregate-read-sheet
+    read-sheet-requires
+    returns
+    array-share-prefix-sheet
+    slice-aggregate-write-report
+    write-report-requires
+    returns-2)

@@ -2,8 +2,8 @@
 use mathlib.Core.Path.{sym}
 use Prim.Native.Nat.{_-_, _≤_}
 use native.Mathlib.Omega.{arith}
-use borrow.Author.Needs.{needs}
 use lib.Seq.{length-take-le}
+use borrow.Author.Needs.{needs}
 use Rattle.planner.proofs.along.cross.Statement.{statement}
 use Rattle.planner.proofs.along.cross.Tie as tie
 
@@ -40,22 +40,25 @@ read-sheet-requires c κs = search needs
 returns : tie.Need-returns Inv-loop μ-loop
 returns c = search needs
 
-entered-requires : tie.Need-entered-requires Inv-loop μ-loop
-entered-requires c κs = search needs
+number-at-requires : tie.Need-number-at-requires Inv-loop μ-loop
+number-at-requires c κs = search needs
+
+number-of-requires : tie.Need-number-of-requires Inv-loop μ-loop
+number-of-requires c κs = search needs
 
 array-share-prefix-sheet : tie.Need-array-share-prefix-sheet Inv-loop μ-loop
 array-share-prefix-sheet c = search needs
 
 slice-aggregate-over : tie.Need-slice-aggregate-over Inv-loop μ-loop
 slice-aggregate-over c =
-    let read = c .before .before .before .before .read-sheet in
+    let read = c .before .before .before .before .before .read-sheet in
     sym (length-take-le _ _ (omega (arith, read .ensures, read .kept .1 .0)))
 
-add-master-at : tie.Need-add-master-at Inv-loop μ-loop
-add-master-at c = search needs
+add-sender : tie.Need-add-sender Inv-loop μ-loop
+add-sender c = search needs
 
-master-at-requires : tie.Need-master-at-requires Inv-loop μ-loop
-master-at-requires c κs = search needs
+sender-requires : tie.Need-sender-requires Inv-loop μ-loop
+sender-requires c κs = search needs
 
 over-requires : tie.Need-over-requires Inv-loop μ-loop
 over-requires c κs = search needs
@@ -96,11 +99,12 @@ cross-spec =
     slice-aggregate-read-sheet
     read-sheet-requires
     returns
-    entered-requires
+    number-at-requires
+    number-of-requires
     array-share-prefix-sheet
     slice-aggregate-over
-    add-master-at
-    master-at-requires
+    add-sender
+    sender-requires
     over-requires
     write-sheet-refusal-requires
     returns-2

@@ -34,6 +34,12 @@ loop-again c = search needs
 returns-2 : tie.Need-returns-2 Inv-loop μ-loop
 returns-2 c = search needs
 
+misplaced-requires-2 : tie.Need-misplaced-requires-2 Inv-loop μ-loop
+misplaced-requires-2 c κs = search needs
+
+returns-3 : tie.Need-returns-3 Inv-loop μ-loop
+returns-3 c = search needs
+
 pub well-formed-spec : {M : Type 1} → statement M
 well-formed-spec =
     tie.close
@@ -47,4 +53,6 @@ well-formed-spec =
     add-i
     loop-less
     loop-again
-    returns-2)
+    returns-2
+    misplaced-requires-2
+    returns-3)
