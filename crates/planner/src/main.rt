@@ -20,7 +20,7 @@ pub(crate) fn write(text: &[u8]) {
 fn write_report(s: &[u8]) {
     let mut text = report::text_buffer();
     match report::report(s, &mut text) {
-        Reported::Written(n) => write(&text[..n]),
+        Reported::Accepted(n) | Reported::Refused(n) => write(&text[..n]),
         Reported::NoRoom => {}
     }
 }
