@@ -1,3 +1,4 @@
+pub mod Accepted
 pub mod Alike
 pub mod Lengths
 pub mod Longest
