@@ -1,5 +1,5 @@
 -- What holds of the report of any bytes: an accepted sheet is planned by its own bus, reading's refusals are reported alike whichever
--- planner is picked, 13 never shows, and the first `enough` bytes decide the report. Assumes nothing.
+-- planner is picked, 13 never shows, and the first `enough` bytes decide the report and its answer. Assumes nothing.
 use mathlib.Core.Path.{_≡_, refl, sym, ap, _∙_}
 use mathlib.Core.List.{List}
 use mathlib.Core.Bool.{Bool, true, false, cond, not, _||_}
@@ -24,21 +24,31 @@ use Rattle.format.specs.declared.Record.{Record}
 use Rattle.format.specs.Kinds.{sizeOf, decode}
 use Rattle.format.proofs.Ranges.{segment-ranges}
 use Rattle.segment.specs.Segment.{segmentOf}
-use Rattle.pnet.specs.Planned.{firstLate, planChecks, plannedBy, planned}
-use Rattle.profibus.specs.Planned.{planOf}
+use Rattle.pnet.specs.Planned.{firstLate, planChecks, plannedBy, planned, planOf as segmentPlan}
+use Rattle.profibus.specs.Planned.{planOf as ringPlan}
 use Rattle.table.specs.Traffic.{Traffic, slots, rows, missOf, missingOf}
 use Rattle.worldfip.specs.Answer as fip
 use Rattle.worldfip.specs.declared.answer.Plan.the-variants as answer
 use Rattle.phrases.specs.Phrases.{refusalText}
-use Rattle.report.specs.Whole.{segmentReport, ringReport, tableReport, firstKind, reportOf}
+use Rattle.report.specs.Whole.{segmentReport, segmentAccepts, ringReport, ringAccepts, tableReport, tableAccepts, firstKind, reportOf, accepts, answerOf}
 
 -- the report is made from that kind and the reading
 reportBy : ℕ → Outcome → List ℕ
-reportBy k o = cond (eqb k 3) (ringReport (planOf o)) (cond (eqb k 5) (tableReport o) (segmentReport (plannedBy o 32 32 32)))
+reportBy k o = cond (eqb k 3) (ringReport (ringPlan o)) (cond (eqb k 5) (tableReport o) (segmentReport (plannedBy o 32 32 32)))
 
 report-by : (s : List ℕ) → reportOf s ≡ reportBy (firstKind s) (reading s)
 unfolding reportOf reportBy planned
 report-by s = refl
+
+-- and so is whether the sheet is accepted
+acceptsBy : ℕ → Outcome → Bool
+acceptsBy k o =
+    cond (eqb k 3) (ringAccepts (ringPlan o))
+    (cond (eqb k 5) (tableAccepts (fip.planOf o 4096)) (segmentAccepts (segmentPlan (plannedBy o 32 32 32))))
+
+accepts-by : (s : List ℕ) → accepts s ≡ acceptsBy (firstKind s) (reading s)
+unfolding accepts acceptsBy planned
+accepts-by s = refl
 
 -- ---- An accepted sheet has its own bus's report
 
@@ -53,23 +63,41 @@ own-bus s S e =
 
 -- ---- Reading's refusals
 
-pub refused-alike : (s : List ℕ) (n p : ℕ) → reading s ≡ Not n p → reportOf s ≡ refusalText n p
-unfolding reportBy ringReport tableReport segmentReport planOf
-refused-alike s n p e = report-by s ∙ (ap (reportBy (firstKind s)) e ∙ split (eqb (firstKind s) 3) (eqb (firstKind s) 5))
-  where
-    split : (a b : Bool) → cond a (refusalText n p) (cond b (refusalText n p) (refusalText n p)) ≡ refusalText n p
-    split true b = refl
-    split false true = refl
-    split false false = refl
+-- whichever is picked
+pub picks : {A : Type 0} (a b : Bool) (x : A) → cond a x (cond b x x) ≡ x
+picks true b x = refl
+picks false true x = refl
+picks false false x = refl
+
+module _ (s : List ℕ) (n p : ℕ) (e : reading s ≡ Not n p) where
+  pub refused-alike : reportOf s ≡ refusalText n p
+  unfolding reportBy ringReport tableReport segmentReport ringPlan
+  refused-alike = report-by s ∙ (ap (reportBy (firstKind s)) e ∙ picks (eqb (firstKind s) 3) (eqb (firstKind s) 5) (refusalText n p))
+
+  pub refused-by-each : accepts s ≡ false
+  unfolding acceptsBy ringAccepts tableAccepts segmentAccepts ringPlan fip.planOf
+  refused-by-each = accepts-by s ∙ (ap (acceptsBy (firstKind s)) e ∙ picks (eqb (firstKind s) 3) (eqb (firstKind s) 5) false)
 
 -- ---- A bounded buffer serves
 
+-- what is said of a refused sheet by reading's refusal alone, the first bytes settle
+module _ {A : Type 0} (f : List ℕ → A) (g : ℕ → ℕ → A) (refused : (s : List ℕ) (n p : ℕ) → reading s ≡ Not n p → f s ≡ g n p) where
+  settled : (s : List ℕ) → f s ≡ f (take enough s)
+  settled s = by (reading s) refl
+    where
+      by : (o : Outcome) → reading s ≡ o → f s ≡ f (take enough s)
+      by (Not n p) e = refused s n p e ∙ sym (refused (take enough s) n p (sym (reading-prefix s) ∙ e))
+      by (Read S) e = ap f (sym (take-all enough s (omega (arith, length-at-most s S e, longest-sheet-is, enough-is))))
+
 pub report-prefix : (s : List ℕ) → reportOf s ≡ reportOf (take enough s)
-report-prefix s = by (reading s) refl
-  where
-    by : (o : Outcome) → reading s ≡ o → reportOf s ≡ reportOf (take enough s)
-    by (Not n p) e = refused-alike s n p e ∙ sym (refused-alike (take enough s) n p (sym (reading-prefix s) ∙ e))
-    by (Read S) e = ap reportOf (sym (take-all enough s (omega (arith, length-at-most s S e, longest-sheet-is, enough-is))))
+report-prefix = settled reportOf refusalText refused-alike
+
+pub accepts-prefix : (s : List ℕ) → accepts s ≡ accepts (take enough s)
+accepts-prefix = settled accepts (λ n p. false) refused-by-each
+
+pub answer-prefix : (s : List ℕ) (room : ℕ) → answerOf s room ≡ answerOf (take enough s) room
+unfolding answerOf
+answer-prefix s room = rw (accepts-prefix s, report-prefix s)
 
 -- ---- 13 never shows
 

@@ -24,8 +24,9 @@ use Rattle.profibus.specs.declared.answer.Plan.{Plan}
 use Rattle.profibus.specs.declared.answer.Plan.the-variants as ring
 use Rattle.table.specs.Traffic.{microcycle, slots, rows, rowOf, variableOf, identifierAt}
 use Rattle.worldfip.specs.Answer.{variableAt, trafficOf, planChecks}
+use Rattle.report.specs.declared.Reported.{Reported}
 use Rattle.report.specs.declared.Reported.the-variants as answer
-use Rattle.report.specs.Whole.{mostText, segmentReport, ringReport, tableOf, tableBy, tableReport, firstKind, reportOf, answerOf}
+use Rattle.report.specs.Whole.{mostText, segmentReport, ringReport, tableOf, tableBy, tableReport, firstKind, reportOf, accepts, told, answerOf}
 use Rattle.units.specs.Units.{us}
 use Rattle.report.proofs.Lengths.{Small, masters-most, ring-most, table-most, refusal-most}
 use Rattle.report.proofs.Segments.{masters-few}
@@ -92,11 +93,18 @@ no-report-longer s = split (eqb (firstKind s) 3) (eqb (firstKind s) 5)
     split false true = table-longest s (reading s) refl
     split false false = segment-longest s (planned s 32 32 32) refl
 
+-- how many bytes an answer says
+abbrev pub bytesOf : Reported → ℕ
+bytesOf (answer.Accepted n) = n
+bytesOf (answer.Refused n) = n
+bytesOf answer.NoRoom = 0
+
 -- what was written stands within the lent run
-pub written-within : (s : List ℕ) (room n : ℕ) → answer.Written n ≡ answerOf s room → n ≤ room
+pub written-within : (s : List ℕ) (room : ℕ) (r : Reported) → r ≡ answerOf s room → bytesOf r ≤ room
 unfolding answerOf
-written-within s room n e = split (ltb room mostText) refl e
+written-within s room r e = rw e (split (ltb room mostText) refl (accepts s))
   where
-    split : (b : Bool) → ltb room mostText ≡ b → answer.Written n ≡ cond b answer.NoRoom (answer.Written (length (reportOf s))) → n ≤ room
-    split true q f = let z : _≡_ {A = ℕ} 0 1 = cc in absurd (omega arith)
-    split false q f = let k : n ≡ length (reportOf s) = cc in omega (arith, no-report-longer s, ltb-false room mostText q)
+    split : (b : Bool) → ltb room mostText ≡ b → (a : Bool) → bytesOf (cond b answer.NoRoom (told a (length (reportOf s)))) ≤ room
+    split true q a = omega arith
+    split false q true = omega (arith, no-report-longer s, ltb-false room mostText q)
+    split false q false = omega (arith, no-report-longer s, ltb-false room mostText q)

@@ -1,7 +1,8 @@
 -- Page 01, 'Sheets worked by hand', the third case, from its bytes to its whole report; its rounds are by the count of page 02, Ask 2, and
 -- ns stand in place of us by Ask 5. Assumes nothing.
-use mathlib.Core.Path.{_≡_, refl}
+use mathlib.Core.Path.{_≡_, refl, ap, _∙_}
 use mathlib.Core.List.{List, [], _∷_}
+use mathlib.Core.Bool.{true}
 use Prim.Native.Nat.{ℕ}
 use Rattle.common.specs.Checks.{verdict}
 use Rattle.common.specs.Sums.{upto, greatest, up, firstOf}
@@ -17,7 +18,8 @@ use Rattle.pnet.specs.Planned.{firstLate, planChecks, planned}
 use Rattle.text.specs.Text.{word, _·_, places, holds, widthOf, decimal, texts}
 use Rattle.phrases.specs.Phrases.{inBp, inNs, inBoth, twoCounts, nameOf}
 use Rattle.lines.specs.Lines.{masterLine}
-use Rattle.report.specs.Whole.{masterOf, mastersOf, segmentReport, firstKind, reportOf}
+use Rattle.report.specs.Whole.{masterOf, mastersOf, segmentReport, firstKind, reportOf, accepts}
+use Rattle.report.proofs.Accepted.{saysAccepted, first-letter}
 
 -- N = 2; master 1 has two streams, master 2 one; all C = 203, T = D = 100,000
 unfoldable pub third : List ℕ
@@ -34,3 +36,6 @@ pub third-case : reportOf third
     · word "M02 bound 500 bp 6510417 ns refined 500 bp 6510417 ns 1 rounds\n"
 unfolding third reportOf firstKind foundAt byteChecks segmentReport mastersOf masterOf texts masterLine nameOf twoCounts inBoth inBp inNs nanosUp up decimal places widthOf holds firstOf planned planChecks verdict firstLate late segmentOf streamAt owns count longest hold turnBy boundBy turn bound saving rightBy valueOf stands roundsOf mostRounds askedBy right rounds refined upto greatest reading readFrom ended judge recordChecks endChecks recordsOf placeOf streamsOf headOf sheetOf fits countOf mostInAll hasMaster overLimit metBefore kinds fieldsOf widths sizeOf known fieldAt decode limit within ranged inRange be
 third-case = refl
+
+pub third-accepted : accepts third ≡ true
+third-accepted = first-letter third ∙ ap saysAccepted third-case

@@ -1,7 +1,7 @@
 -- Page 01, 'Sheets worked by hand': the whole report of a sheet, from its bytes alone. Assumes nothing.
 use Prim.Native.Nat.{ℕ, _+_}
 use mathlib.Core.List.{List, [], _++_}
-use mathlib.Core.Bool.{cond}
+use mathlib.Core.Bool.{Bool, true, false, cond}
 use lib.Dec.{eqb, ltb}
 use lib.ListN.{length, drop}
 use Rattle.common.specs.Checks.{Verdict, verdict}
@@ -15,12 +15,16 @@ use Rattle.sheet.specs.Whole.{Outcome, reading}
 use Rattle.sheet.specs.Whole.Outcome.{Read, Not}
 use Rattle.segment.specs.Segment.{Segment, segmentOf, count, bound}
 use Rattle.segment.specs.Refined.{refined, rounds}
-use Rattle.pnet.specs.Planned.{planned}
-use Rattle.profibus.specs.Planned.{planOf}
-use Rattle.profibus.specs.declared.answer.Plan.{Plan}
+use Rattle.pnet.specs.Planned.{planned, planOf as segmentPlan}
+use Rattle.pnet.specs.declared.answer.Plan.{Plan as SegmentPlan}
+use Rattle.pnet.specs.declared.answer.Plan.the-variants as segment
+use Rattle.profibus.specs.Planned.{planOf as ringPlan}
+use Rattle.profibus.specs.declared.answer.Plan.{Plan as RingPlan}
 use Rattle.profibus.specs.declared.answer.Plan.the-variants as ring
 use Rattle.table.specs.Traffic.{Traffic, microcycle, slots, rows, rowOf, identifierAt}
-use Rattle.worldfip.specs.Answer.{trafficOf, planChecks}
+use Rattle.worldfip.specs.Answer.{trafficOf, planChecks, planOf as tablePlan}
+use Rattle.worldfip.specs.declared.answer.Plan.{Plan as TablePlan}
+use Rattle.worldfip.specs.declared.answer.Plan.the-variants as table
 use Rattle.report.specs.declared.Reported.{Reported}
 use Rattle.report.specs.declared.Reported.the-variants as answer
 use Rattle.text.specs.Text.{word, _·_, texts}
@@ -46,11 +50,19 @@ unfoldable pub segmentReport : Outcome → List ℕ
 segmentReport (Read H) = word "P-NET segment\n" · mastersOf (segmentOf H)
 segmentReport (Not n p) = refusalText n p
 
+unfoldable pub segmentAccepts : SegmentPlan → Bool
+segmentAccepts (segment.Accepted masters streams) = true
+segmentAccepts (segment.Refused n p) = false
+
 -- ---- PROFIBUS
 
-unfoldable pub ringReport : Plan → List ℕ
+unfoldable pub ringReport : RingPlan → List ℕ
 ringReport (ring.Target rotation stream) = ringText rotation stream
 ringReport (ring.Refused n p) = refusalText n p
+
+unfoldable pub ringAccepts : RingPlan → Bool
+ringAccepts (ring.Target rotation stream) = true
+ringAccepts (ring.Refused n p) = false
 
 -- ---- WorldFIP
 
@@ -74,6 +86,10 @@ unfoldable pub tableReport : Outcome → List ℕ
 tableReport (Read S) = tableBy (verdict (planChecks S 4096)) (trafficOf S)
 tableReport (Not n p) = refusalText n p
 
+unfoldable pub tableAccepts : TablePlan → Bool
+tableAccepts (table.Accepted microcycle slots rows) = true
+tableAccepts (table.Refused n p) = false
+
 -- ---- Any sheet
 
 -- the kind of the record that stands at the first byte; 0 where none does
@@ -90,12 +106,22 @@ firstKind s = kindOf (foundAt s 0)
 -- reports that alike
 unfoldable pub reportOf : List ℕ → List ℕ
 reportOf s =
-    cond (eqb (firstKind s) 3) (ringReport (planOf (reading s)))
+    cond (eqb (firstKind s) 3) (ringReport (ringPlan (reading s)))
     (cond (eqb (firstKind s) 5) (tableReport (reading s)) (segmentReport (planned s 32 32 32)))
 
--- the answer for a lent run of so many bytes: how many the report takes, or no room for every report
+-- the sheet is accepted: by that planner
+unfoldable pub accepts : List ℕ → Bool
+accepts s =
+    cond (eqb (firstKind s) 3) (ringAccepts (ringPlan (reading s)))
+    (cond (eqb (firstKind s) 5) (tableAccepts (tablePlan (reading s) 4096)) (segmentAccepts (segmentPlan (planned s 32 32 32))))
+
+-- a report of n bytes, of a sheet that is accepted or refused
+abbrev pub told : Bool → ℕ → Reported
+told accepted n = cond accepted (answer.Accepted n) (answer.Refused n)
+
+-- the answer for a lent run of so many bytes: whether the sheet is accepted, and how many the report takes; or no room for every report
 unfoldable pub answerOf : List ℕ → ℕ → Reported
-answerOf s room = cond (ltb room mostText) answer.NoRoom (answer.Written (length (reportOf s)))
+answerOf s room = cond (ltb room mostText) answer.NoRoom (told (accepts s) (length (reportOf s)))
 
 -- the lent run then: the report, and behind it what stood there
 unfoldable pub runOf : List ℕ → List ℕ → List ℕ

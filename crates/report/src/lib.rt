@@ -7,16 +7,20 @@ use phrases::put_refusal;
 use text::put_word;
 use units::Micros;
 ghost use mathlib.Core.Path.{_≡_};
+ghost use mathlib.Core.Bool.{false};
 ghost use Prim.Native.Nat.{_≤_};
 ghost use lib.ListN.{length};
 ghost use Rattle.sheet.specs.Lengths.{enough};
 ghost use Rattle.sheet.specs.Whole.{reading};
 ghost use Rattle.profibus.specs.Planned.{planOf as ringPlan};
 ghost use Rattle.units.specs.Units.{us};
-ghost use Rattle.pnet.specs.Planned.{planned};
+ghost use Rattle.pnet.specs.Planned.{planned, planOf as segmentPlan};
+ghost use Rattle.worldfip.specs.Answer.{planOf as tablePlan};
 ghost use Rattle.text.specs.Text.{Zeros, Wrote, item, texts};
+ghost use Rattle.phrases.specs.Phrases.{refusalText};
 ghost use Rattle.report.specs.Arrays.{masterAt, segmentText};
-ghost use Rattle.report.specs.Whole.{mostText, segmentReport, ringReport, rowAt, tableText, tableReport, firstKind, reportOf, answerOf, runOf};
+ghost use Rattle.report.specs.Stored.{Reports};
+ghost use Rattle.report.specs.Whole.{mostText, segmentReport, segmentAccepts, ringReport, ringAccepts, rowAt, tableText, tableReport, tableAccepts, firstKind, reportOf, accepts, answerOf, runOf};
 
 // The first bytes of a sheet decide its report: a buffer of so many serves, however long the sheet is.
 pub const ENOUGH: usize = 9_614;
@@ -24,9 +28,11 @@ pub const ENOUGH: usize = 9_614;
 // No report is longer.
 pub const MOST_TEXT: usize = 1_613_930;
 
-// What writing a report answers: how many bytes it takes, or that the lent run is shorter than some report may be.
+// What writing a report answers: how many bytes it takes, for a sheet that is accepted and for one that is refused; or that the lent
+// run is shorter than some report may be.
 pub enum Reported {
-    Written(usize),
+    Accepted(usize),
+    Refused(usize),
     NoRoom,
 }
 
@@ -73,9 +79,16 @@ fn put_segment(out: &mut [u8], bound: &[u32], refined: &[u32], rounds: &[u32], n
     put_masters(out, lines, bound, refined, rounds, n)
 }
 
+// Of a refused sheet, its refusal is the whole report.
+fn refuse(out: &mut [u8], no: u8, place: usize) -> Reported
+    ensures { λ r. ⌜ Reports (now (out .entry)) (refusalText no place) false (now (out .exit)) r ⌝ }
+{
+    Reported::Refused(put_refusal(out, 0, no, place as u64))
+}
+
 // 32 places hold every segment, so 13 never shows.
-fn segment_report(s: &[u8], out: &mut [u8]) -> usize
-    ensures { λ r. ⌜ Wrote (now (out .entry)) 0 (segmentReport (planned (now (s .entry)) 32 32 32)) (now (out .exit)) r ⌝ }
+fn segment_report(s: &[u8], out: &mut [u8]) -> Reported
+    ensures { λ r. ⌜ Reports (now (out .entry)) (segmentReport (planned (now (s .entry)) 32 32 32)) (segmentAccepts (segmentPlan (planned (now (s .entry)) 32 32 32))) (now (out .exit)) r ⌝ }
 {
     let mut bound = [0u32; 32];
     let mut refined = [0u32; 32];
@@ -84,17 +97,22 @@ fn segment_report(s: &[u8], out: &mut [u8]) -> usize
         pnet::Plan::Accepted {
             masters,
             streams: _,
-        } => put_segment(out, &bound, &refined, &rounds, masters),
-        pnet::Plan::Refused { no, place } => put_refusal(out, 0, no, place as u64),
+        } => Reported::Accepted(put_segment(out, &bound, &refined, &rounds, masters)),
+        pnet::Plan::Refused { no, place } => refuse(out, no, place),
     }
 }
 
-fn ring_report(s: &[u8], out: &mut [u8]) -> usize
-    ensures { λ r. ⌜ Wrote (now (out .entry)) 0 (ringReport (ringPlan (reading (now (s .entry))))) (now (out .exit)) r ⌝ }
+fn ring_report(s: &[u8], out: &mut [u8]) -> Reported
+    ensures { λ r. ⌜ Reports (now (out .entry)) (ringReport (ringPlan (reading (now (s .entry))))) (ringAccepts (ringPlan (reading (now (s .entry))))) (now (out .exit)) r ⌝ }
 {
     match profibus::plan(s) {
-        profibus::Plan::Target { rotation, stream } => put_ring(out, 0, rotation, stream as u64),
-        profibus::Plan::Refused { no, place } => put_refusal(out, 0, no, place as u64),
+        profibus::Plan::Target { rotation, stream } => Reported::Accepted(put_ring(
+            out,
+            0,
+            rotation,
+            stream as u64,
+        )),
+        profibus::Plan::Refused { no, place } => refuse(out, no, place),
     }
 }
 
@@ -134,8 +152,8 @@ fn put_table(
 }
 
 // 4,096 places hold every table, so 13 never shows.
-fn table_report(s: &[u8], out: &mut [u8]) -> usize
-    ensures { λ r. ⌜ Wrote (now (out .entry)) 0 (tableReport (reading (now (s .entry)))) (now (out .exit)) r ⌝ }
+fn table_report(s: &[u8], out: &mut [u8]) -> Reported
+    ensures { λ r. ⌜ Reports (now (out .entry)) (tableReport (reading (now (s .entry)))) (tableAccepts (tablePlan (reading (now (s .entry))) 4096)) (now (out .exit)) r ⌝ }
 {
     let mut table = [0u64; 4096];
     match worldfip::plan(s, &mut table) {
@@ -145,16 +163,16 @@ fn table_report(s: &[u8], out: &mut [u8]) -> usize
             rows,
         } => {
             let names = worldfip::identifiers(s);
-            put_table(out, microcycle, slots, rows, &table, &names)
+            Reported::Accepted(put_table(out, microcycle, slots, rows, &table, &names))
         }
-        worldfip::Plan::Refused { no, place } => put_refusal(out, 0, no, place as u64),
+        worldfip::Plan::Refused { no, place } => refuse(out, no, place),
     }
 }
 
 // The report of a sheet whose first record has this kind: it picks the planner.
-fn put_report(s: &[u8], first: u8, out: &mut [u8]) -> usize
+fn put_report(s: &[u8], first: u8, out: &mut [u8]) -> Reported
     requires { ⌜ first ≡ firstKind (now s) ⌝ }
-    ensures { λ r. ⌜ Wrote (now (out .entry)) 0 (reportOf (now (s .entry))) (now (out .exit)) r ⌝ }
+    ensures { λ r. ⌜ Reports (now (out .entry)) (reportOf (now (s .entry))) (accepts (now (s .entry))) (now (out .exit)) r ⌝ }
 {
     if first == 3 {
         return ring_report(s, out);
@@ -183,5 +201,5 @@ pub fn report(s: &[u8], out: &mut [u8]) -> Reported
     if out.len() < MOST_TEXT {
         return Reported::NoRoom;
     }
-    Reported::Written(put_report(s, first_kind(s), out))
+    put_report(s, first_kind(s), out)
 }

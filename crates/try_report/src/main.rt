@@ -11,7 +11,7 @@ fn show(name: &[u8], s: &[u8]) {
     say(b"\n");
     let mut text = report::text_buffer();
     match report::report(s, &mut text) {
-        Reported::Written(n) => say(&text[..n]),
+        Reported::Accepted(n) | Reported::Refused(n) => say(&text[..n]),
         Reported::NoRoom => say(b"no room\n"),
     }
 }

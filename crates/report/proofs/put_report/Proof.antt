@@ -6,26 +6,28 @@ use borrow.Author.Needs.{needs}
 use borrow.Author.Tests.{eq-eqb, ne-eqb}
 use denote.Ref.{now}
 use Rattle.sheet.specs.Whole.{reading}
-use Rattle.pnet.specs.Planned.{planned}
-use Rattle.report.specs.Whole.{segmentReport, ringReport, tableReport, firstKind, reportOf}
-use Rattle.profibus.specs.Planned.{planOf}
+use Rattle.pnet.specs.Planned.{planned, planOf as segmentPlan}
+use Rattle.profibus.specs.Planned.{planOf as ringPlan}
+use Rattle.worldfip.specs.Answer.{planOf as tablePlan}
+use Rattle.report.specs.Whole.{segmentReport, segmentAccepts, ringReport, ringAccepts, tableReport, tableAccepts, firstKind, reportOf, accepts}
 use Rattle.report.proofs.put_report.Statement.{statement}
 use Rattle.report.proofs.put_report.Tie as tie
 
 -- ---- The report by that kind
 
 module _ (s : List ℕ) where
-  profibus : firstKind s ≡ 3 → reportOf s ≡ ringReport (planOf (reading s))
-  unfolding reportOf
-  profibus e = simp (eq-eqb (firstKind s) 3 e)
+  profibus : firstKind s ≡ 3 → (reportOf s ≡ ringReport (ringPlan (reading s))) × (accepts s ≡ ringAccepts (ringPlan (reading s)))
+  unfolding reportOf accepts
+  profibus e = (simp (eq-eqb (firstKind s) 3 e), simp (eq-eqb (firstKind s) 3 e))
 
-  worldfip : (firstKind s ≡ 3 → ⊥) → firstKind s ≡ 5 → reportOf s ≡ tableReport (reading s)
-  unfolding reportOf
-  worldfip n e = simp (ne-eqb (firstKind s) 3 n, eq-eqb (firstKind s) 5 e)
+  worldfip : (firstKind s ≡ 3 → ⊥) → firstKind s ≡ 5 → (reportOf s ≡ tableReport (reading s)) × (accepts s ≡ tableAccepts (tablePlan (reading s) 4096))
+  unfolding reportOf accepts
+  worldfip n e = (simp (ne-eqb (firstKind s) 3 n, eq-eqb (firstKind s) 5 e), simp (ne-eqb (firstKind s) 3 n, eq-eqb (firstKind s) 5 e))
 
-  pnet : (firstKind s ≡ 3 → ⊥) → (firstKind s ≡ 5 → ⊥) → reportOf s ≡ segmentReport (planned s 32 32 32)
-  unfolding reportOf
-  pnet n m = simp (ne-eqb (firstKind s) 3 n, ne-eqb (firstKind s) 5 m)
+  pnet : (firstKind s ≡ 3 → ⊥) → (firstKind s ≡ 5 → ⊥)
+      → (reportOf s ≡ segmentReport (planned s 32 32 32)) × (accepts s ≡ segmentAccepts (segmentPlan (planned s 32 32 32)))
+  unfolding reportOf accepts
+  pnet n m = (simp (ne-eqb (firstKind s) 3 n, ne-eqb (firstKind s) 5 m), simp (ne-eqb (firstKind s) 3 n, ne-eqb (firstKind s) 5 m))
 
 -- ---- The needs
 
@@ -36,7 +38,10 @@ same-length : tie.Need-same-length
 same-length c = search needs
 
 returns : tie.Need-returns
-returns c = rw (profibus (now (c .before .before .before .before .before .before .before .args .s)) (sym (c .before .before .before .before .before .before .before .pre) ∙ c .before .before .before .before .if1 .taken)) (c .before .before .ring-report .ensures)
+returns c =
+    let start = c .before .before .before .before .before .before .before in
+    let f = profibus (now (start .args .s)) (sym (start .pre) ∙ c .before .before .before .before .if1 .taken) in
+    rw (f .0, f .1) (c .before .before .ring-report .ensures)
 
 table-report-requires : tie.Need-table-report-requires
 table-report-requires c κs = search needs
@@ -45,7 +50,10 @@ same-length-2 : tie.Need-same-length-2
 same-length-2 c = search needs
 
 returns-2 : tie.Need-returns-2
-returns-2 c = rw (worldfip (now (c .before .before .before .before .before .before .before .before .args .s)) (λ e. c .before .before .before .before .before .if1 .left (c .before .before .before .before .before .before .before .before .pre ∙ e)) (sym (c .before .before .before .before .before .before .before .before .pre) ∙ c .before .before .before .before .if2 .taken)) (c .before .before .table-report .ensures)
+returns-2 c =
+    let start = c .before .before .before .before .before .before .before .before in
+    let f = worldfip (now (start .args .s)) (λ e. c .before .before .before .before .before .if1 .left (start .pre ∙ e)) (sym (start .pre) ∙ c .before .before .before .before .if2 .taken) in
+    rw (f .0, f .1) (c .before .before .table-report .ensures)
 
 segment-report-requires : tie.Need-segment-report-requires
 segment-report-requires c κs = search needs
@@ -54,7 +62,10 @@ same-length-3 : tie.Need-same-length-3
 same-length-3 c = search needs
 
 returns-3 : tie.Need-returns-3
-returns-3 c = rw (pnet (now (c .before .before .before .before .before .before .before .before .args .s)) (λ e. c .before .before .before .before .before .if1 .left (c .before .before .before .before .before .before .before .before .pre ∙ e)) (λ e. c .before .before .before .before .if2 .left (c .before .before .before .before .before .before .before .before .pre ∙ e))) (c .before .before .segment-report .ensures)
+returns-3 c =
+    let start = c .before .before .before .before .before .before .before .before in
+    let f = pnet (now (start .args .s)) (λ e. c .before .before .before .before .before .if1 .left (start .pre ∙ e)) (λ e. c .before .before .before .before .if2 .left (start .pre ∙ e)) in
+    rw (f .0, f .1) (c .before .before .segment-report .ensures)
 
 pub put-report-spec : {M : Type 1} → statement M
 put-report-spec =

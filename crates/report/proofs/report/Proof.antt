@@ -1,13 +1,11 @@
 -- `report::report` writes the whole report of any bytes, or nothing where a report might not fit. Assumes nothing.
-use mathlib.Core.Path.{ap}
 use native.Mathlib.Omega.{arith}
 use borrow.Author.Needs.{needs}
 use borrow.Author.Tests.{lt-ltb, le-ltb}
 use denote.Ref.{now}
 use Rattle.report.specs.Whole.{mostText, answerOf, runOf}
-use Rattle.report.specs.declared.Reported.the-variants as answer
 use Rattle.report.proofs.Longest.{no-report-longer}
-use Rattle.text.proofs.Writing.{wrote-front}
+use Rattle.report.proofs.Stored.{reports-front}
 use Rattle.report.proofs.report.Statement.{statement}
 use Rattle.report.proofs.report.Tie as tie
 
@@ -28,8 +26,9 @@ returns-2 : tie.Need-returns-2
 unfolding answerOf runOf
 returns-2 c =
     let s = now (c .before .before .before .before .before .before .before .before .args .s) in
-    let w = wrote-front (c .before .before .put-report .ensures) (omega (arith, no-report-longer s, c .before .before .before .before .before .if1 .left)) in
-    (simp (le-ltb _ mostText (c .before .before .before .before .before .if1 .left)) (ap answer.Written (w .0)), simp (le-ltb _ mostText (c .before .before .before .before .before .if1 .left)) (w .1))
+    let room = c .before .before .before .before .before .if1 .left in
+    let w = reports-front (c .before .before .put-report .ensures) (omega (arith, no-report-longer s, room)) in
+    (simp (le-ltb _ mostText room) (w .0), simp (le-ltb _ mostText room) (w .1))
 
 pub report-spec : {M : Type 1} → statement M
 report-spec =

@@ -1,12 +1,15 @@
 -- `report::segment_report` stores the report of a P-NET sheet. Assumes nothing.
-use mathlib.Core.Path.{sym, _∙_}
+use mathlib.Core.Path.{sym, ap, _∙_}
 use mathlib.Core.List.{List}
+use mathlib.Core.Bool.{true}
 use Prim.Native.Nat.{ℕ}
 use native.Mathlib.Omega.{arith}
 use borrow.Author.Needs.{needs}
 use denote.Ref.{now}
 use lib.ListN.{replicate}
+use Rattle.report.specs.Whole.{segmentAccepts}
 use Rattle.report.proofs.Segments.{segment-of-runs, segment-refused}
+use Rattle.report.proofs.Stored.{reports}
 use Rattle.report.proofs.segment_report.Statement.{statement}
 use Rattle.report.proofs.segment_report.Tie as tie
 
@@ -47,21 +50,28 @@ put-segment-requires c κs =
 enum-known-no : tie.Need-enum-known-no
 enum-known-no c = search needs
 
-put-refusal-requires : tie.Need-put-refusal-requires
-put-refusal-requires c κs = search needs
+refuse-requires : tie.Need-refuse-requires
+refuse-requires c κs = search needs
 
 same-length : tie.Need-same-length
 same-length c = search needs
 
 returns : tie.Need-returns
-returns c = rw (← segment-of-runs (now (c .before .before .before .before .before .before .before .before .before .before .before .before .before .before .before .before .before .before .before .args .s)) _ _ _ _ _ zeros zeros zeros (sym (c .before .before .before .before .before .before .before .before .masters .given .1) ∙ c .before .before .before .before .before .before .before .before .before .before .before .before .before .plan .ensures .0) (c .before .before .before .before .before .before .before .before .before .before .before .before .before .plan .ensures .1 .0) (c .before .before .before .before .before .before .before .before .before .before .before .before .before .plan .ensures .1 .1 .0) (c .before .before .before .before .before .before .before .before .before .before .before .before .before .plan .ensures .1 .1 .1) .1) (c .before .before .put-segment .ensures)
+unfolding segmentAccepts
+returns c =
+    let e = sym (c .before .before .before .before .before .before .before .before .masters .given .1) ∙ c .before .before .before .before .before .before .before .before .before .before .before .before .before .plan .ensures .0 in
+    let f = segment-of-runs (now (c .before .before .before .before .before .before .before .before .before .before .before .before .before .before .before .before .before .before .before .args .s)) _ _ _ _ _ zeros zeros zeros e (c .before .before .before .before .before .before .before .before .before .before .before .before .before .plan .ensures .1 .0) (c .before .before .before .before .before .before .before .before .before .before .before .before .before .plan .ensures .1 .1 .0) (c .before .before .before .before .before .before .before .before .before .before .before .before .before .plan .ensures .1 .1 .1) in
+    reports true (ap segmentAccepts e) (f .1) (c .before .before .put-segment .ensures)
 
 same-length-2 : tie.Need-same-length-2
 same-length-2 c = search needs
 
 returns-2 : tie.Need-returns-2
-returns-2 c = rw (segment-refused _ _ _ (sym (c .before .before .before .before .before .no .given .1) ∙ c .before .before .before .before .before .before .before .before .before .before .plan .ensures .0)) (c .before .before .put-refusal .ensures)
+unfolding segmentAccepts
+returns-2 c =
+    let e = sym (c .before .before .before .before .before .no .given .1) ∙ c .before .before .before .before .before .before .before .before .before .before .plan .ensures .0 in
+    rw (segment-refused _ _ _ e, ← e) (c .before .before .refuse .ensures)
 
 pub segment-report-spec : {M : Type 1} → statement M
 segment-report-spec =
-    tie.close (tie.spec slice-aggregate-plan slice-aggregate-plan-2 slice-aggregate-plan-3 plan-requires enum-known-masters slice-aggregate-put-segment slice-aggregate-put-segment-2 slice-aggregate-put-segment-3 put-segment-requires enum-known-no put-refusal-requires same-length returns same-length-2 returns-2)
+    tie.close (tie.spec slice-aggregate-plan slice-aggregate-plan-2 slice-aggregate-plan-3 plan-requires enum-known-masters slice-aggregate-put-segment slice-aggregate-put-segment-2 slice-aggregate-put-segment-3 put-segment-requires enum-known-no refuse-requires same-length returns same-length-2 returns-2)

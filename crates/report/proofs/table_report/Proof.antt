@@ -1,10 +1,13 @@
 -- `report::table_report` stores the report of a WorldFIP sheet. Assumes nothing.
-use mathlib.Core.Path.{refl, sym, _∙_}
+use mathlib.Core.Path.{refl, sym, ap, _∙_}
 use mathlib.Core.List.{List}
+use mathlib.Core.Bool.{true}
 use Prim.Native.Nat.{ℕ}
 use native.Mathlib.Omega.{arith}
 use borrow.Author.Needs.{needs}
 use lib.ListN.{replicate}
+use Rattle.report.specs.Whole.{tableAccepts}
+use Rattle.report.proofs.Stored.{reports}
 use Rattle.report.proofs.Tables.{table-of-run, table-refused}
 use Rattle.report.proofs.table_report.Statement.{statement}
 use Rattle.report.proofs.table_report.Tie as tie
@@ -36,21 +39,28 @@ put-table-requires c κs =
 enum-known-no : tie.Need-enum-known-no
 enum-known-no c = search needs
 
-put-refusal-requires : tie.Need-put-refusal-requires
-put-refusal-requires c κs = search needs
+refuse-requires : tie.Need-refuse-requires
+refuse-requires c κs = search needs
 
 same-length : tie.Need-same-length
 same-length c = search needs
 
 returns : tie.Need-returns
-returns c = rw (← table-of-run _ _ _ _ _ _ zeros refl (sym (c .before .before .before .before .before .before .before .before .microcycle .given .1) ∙ c .before .before .before .before .before .before .before .before .before .before .before .plan .ensures .0) (c .before .before .before .before .before .before .before .before .before .before .before .plan .ensures .1) (c .before .before .before .before .before .before .identifiers .ensures) .1) (c .before .before .put-table .ensures)
+unfolding tableAccepts
+returns c =
+    let e = sym (c .before .before .before .before .before .before .before .before .microcycle .given .1) ∙ c .before .before .before .before .before .before .before .before .before .before .before .plan .ensures .0 in
+    let f = table-of-run _ _ _ _ _ _ zeros refl e (c .before .before .before .before .before .before .before .before .before .before .before .plan .ensures .1) (c .before .before .before .before .before .before .identifiers .ensures) in
+    reports true (ap tableAccepts e) (f .1) (c .before .before .put-table .ensures)
 
 same-length-2 : tie.Need-same-length-2
 same-length-2 c = search needs
 
 returns-2 : tie.Need-returns-2
-returns-2 c = rw (table-refused _ _ _ (sym (c .before .before .before .before .before .no .given .1) ∙ c .before .before .before .before .before .before .before .before .plan .ensures .0)) (c .before .before .put-refusal .ensures)
+unfolding tableAccepts
+returns-2 c =
+    let e = sym (c .before .before .before .before .before .no .given .1) ∙ c .before .before .before .before .before .before .before .before .plan .ensures .0 in
+    rw (table-refused _ _ _ e, ← e) (c .before .before .refuse .ensures)
 
 pub table-report-spec : {M : Type 1} → statement M
 table-report-spec =
-    tie.close (tie.spec slice-aggregate-plan plan-requires enum-known-microcycle identifiers-requires slice-aggregate-put-table put-table-requires enum-known-no put-refusal-requires same-length returns same-length-2 returns-2)
+    tie.close (tie.spec slice-aggregate-plan plan-requires enum-known-microcycle identifiers-requires slice-aggregate-put-table put-table-requires enum-known-no refuse-requires same-length returns same-length-2 returns-2)
