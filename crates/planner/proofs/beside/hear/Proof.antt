@@ -2,20 +2,23 @@
 use Prim.Native.Nat.{ℕ, _+_, _-_, _^_, _≤_}
 use mathlib.Core.Path.{_≡_, sym, _∙_}
 use native.Mathlib.Omega.{arith}
-use borrow.Author.Needs.{needs}
 use lib.ListN.{length, take, length-replicate}
 use lib.Seq.{length-take-le}
 use Rattle.tally.proofs.Split.{refused-inside}
+use borrow.Author.Needs.{needs}
 use Rattle.planner.proofs.beside.hear.Statement.{statement}
 use Rattle.planner.proofs.beside.hear.Tie as tie
 
 abbrev Inv-loop : tie.InvT-loop
-Inv-loop fd name streams masters bound left₀ since₀ answers₀ largest₀ above₀ piece₀ before₀ t18 left since answers largest above piece before =
+Inv-loop fd name streams masters bound spacing left₀ since₀ answers₀ largest₀ above₀ asked₀ watch₀ piece₀ before₀ t21 left since answers largest above asked watch piece before =
     (before ≤ 2 ^ 63 + 65534) × (length piece ≡ 65534)
 
 abbrev μ-loop : tie.MeasureT-loop
-μ-loop fd name streams masters bound left₀ since₀ answers₀ largest₀ above₀ piece₀ before₀ t18 left since answers largest above piece before =
+μ-loop fd name streams masters bound spacing left₀ since₀ answers₀ largest₀ above₀ asked₀ watch₀ piece₀ before₀ t21 left since answers largest above asked watch piece before =
     2 ^ 63 + 65534 - before
+
+start-requires : tie.Need-start-requires Inv-loop μ-loop
+start-requires c κs = search needs
 
 loop-holds : tie.Need-loop-holds Inv-loop μ-loop
 loop-holds c = (omega arith, length-replicate {0} {A = ℕ} 65534 0)
@@ -68,6 +71,15 @@ returns-2 c = search needs
 enum-told : tie.Need-enum-told Inv-loop μ-loop
 enum-told c = search needs
 
+array-share-prefix-piece-2 : tie.Need-array-share-prefix-piece-2 Inv-loop μ-loop
+array-share-prefix-piece-2 c = within (c .before .before .before .before .before .before .before .before .before .before .before)
+
+slice-aggregate-follow : tie.Need-slice-aggregate-follow Inv-loop μ-loop
+slice-aggregate-follow c = sym (length-take-le _ _ (within (c .before .before .before .before .before .before .before .before .before .before .before .before)))
+
+follow-requires : tie.Need-follow-requires Inv-loop μ-loop
+follow-requires c κs = search needs
+
 write-capture-requires : tie.Need-write-capture-requires Inv-loop μ-loop
 write-capture-requires c κs = search needs
 
@@ -81,7 +93,7 @@ loop-less : tie.Need-loop-less Inv-loop μ-loop
 loop-less c = omega arith
 
 loop-again : tie.Need-loop-again Inv-loop μ-loop
-loop-again c = (omega arith, long (c .before .before .before .before .before .before .before .before .before .before .before .before))
+loop-again c = (omega arith, long (c .before .before .before .before .before .before .before .before .before .before .before .before .before .before .before))
 
 slice-aggregate-complain : tie.Need-slice-aggregate-complain Inv-loop μ-loop
 slice-aggregate-complain c = search needs
@@ -98,6 +110,7 @@ hear-spec =
     (tie.spec
     Inv-loop
     μ-loop
+    start-requires
     loop-holds
     slice-aggregate-read-all
     read-all-requires
@@ -111,6 +124,9 @@ hear-spec =
     write-capture-refusal-requires
     returns-2
     enum-told
+    array-share-prefix-piece-2
+    slice-aggregate-follow
+    follow-requires
     write-capture-requires
     returns-3
     add-before
