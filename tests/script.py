@@ -135,6 +135,7 @@ def builds(tree):
     yield "says how far it is", "plan: proved 1 of 2: common (1 s)\nplan: proved 2 of 2: planner (2 s)\n" in err
     yield "a built tree", tree.run("a.sheet") == ("words:a.sheet\n", "", 0) and tree.checks() == 1
     yield "no word reads standard input", tree.run(given="bytes\n") == ("words:\nbytes\n", "", 0)
+    yield "a command is handed on", tree.run("--path", "9", "-x") == ("words:--path 9 -x\n", "", 0)
     yield "-- is handed on", tree.run("--", "-a.sheet") == ("words:-- -a.sheet\n", "", 0)
     ends = at_once(tree, 6)
     yield "six at once", ends == [("words:a.sheet\n", "", 0)] * 6 and tree.checks() == 1
