@@ -194,7 +194,10 @@ def failures(tree):
     yield "standard output closed", closed.returncode == 3 and len(closed.stderr.splitlines()) == 1
     without = dict(tree.environment, PATH="/usr/bin:/bin")
     done = subprocess.run(words, stdout=subprocess.PIPE, stderr=subprocess.PIPE, env=without, text=True, check=False)
-    yield "no kit on the path", done.returncode == 2 and done.stdout == "" and "plan: " in done.stderr
+    yield "no kit on the path", done.returncode == 2 and done.stdout == "" and done.stderr.startswith("plan: ")
+    words[1] = "--version"
+    done = subprocess.run(words, stdout=subprocess.PIPE, stderr=subprocess.PIPE, env=without, text=True, check=False)
+    yield "no version of a kit", done.returncode == 2 and done.stdout == "" and done.stderr.startswith("plan: ")
 
 
 def main():
