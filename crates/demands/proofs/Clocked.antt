@@ -21,7 +21,7 @@ use Rattle.capture_watch.specs.Ages.{clock, broken, asked, early, soon, whose, 
 use Rattle.capture_watch.specs.Timed.{Timed, UpTo}
 use Rattle.capture_watch.specs.Timed.Timed.{one as begin, next}
 use Rattle.capture_watch.specs.Timed.UpTo.{here, later}
-use Rattle.capture_watch.proofs.True.{not-broken, asks-not, true-age, true-gap}
+use Rattle.capture_watch.proofs.True.{not-broken, true-clock, asks-not, true-age, true-gap}
 use Rattle.demands.specs.Logged.{logOf, instantsOf, first, Close, none, one, and}
 use Rattle.demands.proofs.Matching.{Is, matches, not-late}
 
@@ -64,6 +64,12 @@ pub unbroken : {z t : ℕ} {ts : List ℕ} {es : List Event} → Recorded z t ts
 unfolding broken
 unbroken nothing = refl
 unbroken (up-to r past) = not-broken r
+
+-- the clock is past the run's start by 1 at most
+pub clock-within : {z t : ℕ} {ts : List ℕ} {es : List Event} → Recorded z t ts es → clock es ≤ 1 + t
+unfolding clock
+clock-within nothing = omega arith
+clock-within (up-to r past) = omega (arith, true-clock r)
 
 -- ---- The last request of a stream
 
@@ -146,25 +152,27 @@ whose-none (also x p) = rw (x, whose-none p)
 
 -- the record e says that a request of stream i comes at t, and all before it came d ago or more
 in-due-time : {z f i t d : ℕ} {came : List Request} {e : Event} {es : List Event} → Timed z (e ∷ es) f t → Last z f i came es
-    → Apart d i (request i t ∷ came) → not (eqb (asked es i) 0) && ltb (clock (e ∷ es) - asked es i) d ≡ false
-in-due-time r (never n y) apart = rw y
-in-due-time {i = i} {d = d} {e = e} {es = es} r (last {a} j m q l) apart =
-    rw (le-ltb (clock (e ∷ es) - asked es i) d (omega (arith, true-gap q l e r, apart-latest apart refl a j))) (and-false (not (eqb (asked es i) 0)))
+    → Apart d i (request i t ∷ came) → (T : ℕ) → T ≤ d → not (eqb (asked es i) 0) && ltb (clock (e ∷ es) - asked es i) T ≡ false
+in-due-time r (never n y) apart T le = rw y
+in-due-time {i = i} {e = e} {es = es} r (last {a} j m q l) apart T le =
+    rw (le-ltb (clock (e ∷ es) - asked es i) T (omega (arith, true-gap q l e r, apart-latest apart refl a j))) (and-false (not (eqb (asked es i) 0)))
 
-pub timely : {S : Segment} {t : ℕ} {y : Token} {q : Queues} {came : List Request} {went : List Answer} (z : ℕ) (run : Run S t y q came went)
-    → Close (instantsOf run) → ((k : ℕ) → Spaced S k came) → Timely (λ i. S .stream i .spacing) (logOf z run)
-unfolding logOf instantsOf early
-timely z (start a b c) close spaced = nothing-yet
-timely z (complete run p) close spaced = also refl (timely z run (close-before close) spaced)
-timely {S = S} z (arrive {m = m} {i = i} run o d) close spaced =
-    let before = close-before close in
-    let past = recorded z run before in
-    also (in-due-time (timed (recorded-next refl past close)) (last-begun past (last-request z run before i)) (spaced m i d))
-    (timely z run before (λ k j b. apart-before (spaced k j b)))
-timely z (travel e run) close spaced = timely z run close spaced
-timely z (work e run) close spaced = timely z run close spaced
-timely z (serve e x c run p a b d f g o) close spaced = timely z run close spaced
-timely z (skip e run p a b) close spaced = timely z run close spaced
+-- where each stream of the segment keeps T or more
+module _ {S : Segment} (T : ℕ → ℕ) (least : (k i : ℕ) → Belongs S k i → T i ≤ S .stream i .spacing) where
+  pub timely : {t : ℕ} {y : Token} {q : Queues} {came : List Request} {went : List Answer} (z : ℕ) (run : Run S t y q came went) → Close (instantsOf run)
+      → ((k : ℕ) → Spaced S k came) → Timely T (logOf z run)
+  unfolding logOf instantsOf early
+  timely z (start a b c) close spaced = nothing-yet
+  timely z (complete run p) close spaced = also refl (timely z run (close-before close) spaced)
+  timely z (arrive {m = m} {i = i} run o d) close spaced =
+      let before = close-before close in
+      let past = recorded z run before in
+      also (in-due-time (timed (recorded-next refl past close)) (last-begun past (last-request z run before i)) (spaced m i d) (T i) (least m i d))
+      (timely z run before (λ k j b. apart-before (spaced k j b)))
+  timely z (travel e run) close spaced = timely z run close spaced
+  timely z (work e run) close spaced = timely z run close spaced
+  timely z (serve e x c run p a b d f g o) close spaced = timely z run close spaced
+  timely z (skip e run p a b) close spaced = timely z run close spaced
 
 -- ---- Requests that are open
 

@@ -7,6 +7,7 @@ use Prim.Native.Nat.{ℕ, _+_, _-_}
 use mathlib.Core.Path.{_≡_}
 use mathlib.Core.Bool.{false}
 use mathlib.Core.List.{List, _∷_}
+use native.Mathlib.Omega.{arith}
 use Rattle.segment.specs.Segment.{Segment, bound}
 use Rattle.pnet_run.specs.Run.{Belongs, Request, Answer, Queues, Token, Run}
 use Rattle.pnet_run.specs.Promise.{Spaced, Accepted}
@@ -30,10 +31,10 @@ module _ (S : Segment) {now : ℕ} {token : Token} {queues : Queues} {came : Lis
   module _ (spaced : (k : ℕ) → Spaced S k came) where
     -- the count of requests that came too soon is 0, so no stream is named
     pub no-request-too-soon : soon (λ i. S .stream i .spacing) (logOf z run) ≡ 0
-    no-request-too-soon = soon-none (timely z run close spaced)
+    no-request-too-soon = soon-none (timely (λ i. S .stream i .spacing) (λ m i own. omega arith) z run close spaced)
 
     pub no-stream-too-soon : whose (λ i. S .stream i .spacing) (logOf z run) ≡ 0
-    no-stream-too-soon = whose-none (timely z run close spaced)
+    no-stream-too-soon = whose-none (timely (λ i. S .stream i .spacing) (λ m i own. omega arith) z run close spaced)
 
   -- The segment is accepted, master k keeps its spacing, and stream i is one of its own. Nothing is supposed of the other masters.
   module _ (accepted : Accepted S) (k : ℕ) (spaced : Spaced S k came) (i : ℕ) (own : Belongs S k i) where
