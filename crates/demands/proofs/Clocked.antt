@@ -65,7 +65,7 @@ unfolding broken
 unbroken nothing = refl
 unbroken (up-to r past) = not-broken r
 
--- the clock is past the run's start by 1 at most
+-- the clock is at most 1 and what has passed of the run
 pub clock-within : {z t : ℕ} {ts : List ℕ} {es : List Event} → Recorded z t ts es → clock es ≤ 1 + t
 unfolding clock
 clock-within nothing = omega arith
@@ -157,7 +157,7 @@ in-due-time r (never n y) apart T le = rw y
 in-due-time {i = i} {e = e} {es = es} r (last {a} j m q l) apart T le =
     rw (le-ltb (clock (e ∷ es) - asked es i) T (omega (arith, true-gap q l e r, apart-latest apart refl a j))) (and-false (not (eqb (asked es i) 0)))
 
--- where each stream of the segment keeps T or more
+-- where T i is at most the spacing of stream i, for each of the segment
 module _ {S : Segment} (T : ℕ → ℕ) (least : (k i : ℕ) → Belongs S k i → T i ≤ S .stream i .spacing) where
   pub timely : {t : ℕ} {y : Token} {q : Queues} {came : List Request} {went : List Answer} (z : ℕ) (run : Run S t y q came went) → Close (instantsOf run)
       → ((k : ℕ) → Spaced S k came) → Timely T (logOf z run)
