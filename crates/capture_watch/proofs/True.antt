@@ -44,7 +44,7 @@ not-broken (next {e} t l n is) = rw (not-broken t, passed e t l n is) (lt-leb (2
 
 -- ---- Ages and gaps
 
-asks-not : (e : Event) (i : ℕ) → (e .kind ≡ 16 → e .stream ≡ i → ⊥) → asks e i ≡ false
+pub asks-not : (e : Event) (i : ℕ) → (e .kind ≡ 16 → e .stream ≡ i → ⊥) → asks e i ≡ false
 unfolding asks
 asks-not e i other = split (eqb (e .kind) 16 && eqb (e .stream) i) refl
   where

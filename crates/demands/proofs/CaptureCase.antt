@@ -1,6 +1,6 @@
 -- A capture on the page's worked segment, byte by byte: one request of stream 1, whose answer takes 210 bp, while the counter runs over to zero.
--- So nothing that Captured, CapturedBytes and Watched suppose is empty. Assumes nothing.
-use Prim.Native.Nat.{ℕ}
+-- So nothing that Captured, CapturedBytes, Watched and WatchedBytes suppose is empty. Assumes nothing.
+use Prim.Native.Nat.{ℕ, _/_}
 use mathlib.Core.Path.{_≡_, refl, ap}
 use mathlib.Core.Bool.{true, false}
 use mathlib.Core.List.{List, [], _∷_, List·Memᴰ, List·Memᴰ·not-nil, List·Memᴰ·eq-of-singleton}
@@ -13,16 +13,19 @@ use Rattle.segment.specs.Segment.{segmentOf, streamAt, bound}
 use Rattle.pnet_run.specs.Run.{Belongs, Request, request, answer, put, join, toward, on-way, next, Run, start, complete, arrive, serve}
 use Rattle.pnet_run.specs.Promise.{none, and, Spaced}
 use Rattle.log.specs.Log.{stampAt, fresh, largest, asks, answers, around, left, since, shown}
-use Rattle.log.specs.Records.{eventAt, eventsIn, heard}
+use Rattle.log.specs.Records.{size, eventAt, eventsIn, heard}
+use Rattle.limits.specs.Bounded.{bounded, spacingOf, streamRun}
 use Rattle.capture.specs.Compared.{compared}
 use Rattle.capture.specs.Refusals.{Room}
 use Rattle.capture_watch.specs.Ages.{step, clock, asked, soon, beyond}
+use Rattle.capture_watch.specs.Follow.{most, began, seen, followed, metIn}
 use Rattle.demands.specs.Logged.{logOf, instantsOf, Close, one, and as near}
 use Rattle.demands.proofs.Demand3.{accepted-as-demanded}
 use Rattle.demands.proofs.PageCase.{sheet, bytes, lent, page, accepts}
 use Rattle.demands.proofs.Captured.{the-capture-passes}
 use Rattle.demands.proofs.CapturedBytes.{the-capture-is-accepted}
 use Rattle.demands.proofs.Watched.{no-request-too-soon, no-request-open-beyond-the-bound}
+use Rattle.demands.proofs.WatchedBytes.{zeros, no-request-counts-as-too-soon}
 
 -- the token is at master 1 when its stream 1 asks: 7 bp reaction, 203 bp message
 unfoldable pub run : Run page 210 (toward (next (page .masters) 1) 40) (put (join (λ y. []) 1 (request 1 0)) 1 []) (request 1 0 ∷ [])
@@ -77,6 +80,13 @@ shows-211 = refl
 
 pub none-too-soon : soon (λ i. page .stream i .spacing) (logOf 4294967196 run) ≡ 0
 none-too-soon = no-request-too-soon page run 4294967196 close spaced
+
+-- the same from its bytes, with runs of zeros lent for bounds and spacings
+pub none-counts-as-too-soon : followed (streamRun (bounded bytes most) spacingOf zeros) (seen began zeros) (metIn capture (length capture / size)) .watch .soon ≡ 0
+unfolding capture
+none-counts-as-too-soon =
+    no-request-counts-as-too-soon bytes lent lent lent sheet accepts run 4294967196 spaced close (omega arith) capture 2 (omega arith) refl capture-is-the-log
+    zeros zeros
 
 -- stream 2 asks with stream 1, and still waits when that one has its answer
 unfoldable pub both : Run page 210 (toward (next (page .masters) 1) 40) (put (join (join (λ y. []) 1 (request 1 0)) 1 (request 2 0)) 1 (request 2 0 ∷ []))

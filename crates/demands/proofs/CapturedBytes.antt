@@ -28,6 +28,13 @@ use Rattle.demands.specs.Logged.{logOf}
 use Rattle.demands.proofs.Demand3.{accepted-as-demanded}
 use Rattle.demands.proofs.Captured.{no-answer-above-the-bound, each-largest-within-the-bound, the-capture-passes}
 
+-- what a run that is lent for a figure of each stream holds at the place of stream i
+pub at-its-place : {given : Outcome} {H : Sheet} → given ≡ Read H → (i : ℕ) → 1 ≤ i → i ≤ length (H .streams) → (figure : Segment → ℕ → ℕ) (old : List ℕ)
+    → getD (streamRun given figure old) (i - 1) 0 ≡ figure (segmentOf H) i
+at-its-place {H = H} is i from to figure old =
+    let e : i - 1 + 1 ≡ i = omega arith in
+    rw is (filled-at (atPlace (figure (segmentOf H))) (length (H .streams)) (i - 1) old (omega arith) ∙ ap (figure (segmentOf H)) e)
+
 -- the bytes s, and the planner's three lent runs; it accepts the sheet H that the bytes say
 module _ (s bounds refined rounds : List ℕ) (H : Sheet) (accepts : planned s (length bounds) (length refined) (length rounds) ≡ Read H)
     -- a run of its bus that found the tester's counter at z, in which every master keeps its spacing
@@ -66,17 +73,11 @@ module _ (s bounds refined rounds : List ℕ) (H : Sheet) (accepts : planned s (
     unfolding segmentOf
     own = record { from-one = from; to-last = to; own = refl }
 
-    -- what a lent run holds at its place
-    at-its-place : (figure : Segment → ℕ → ℕ) (old : List ℕ) → getD (streamRun answer figure old) (i - 1) 0 ≡ figure (segmentOf H) i
-    at-its-place figure old =
-        let e : i - 1 + 1 ≡ i = omega arith in
-        rw the-capture-is-accepted (filled-at (atPlace (figure (segmentOf H))) (length (H .streams)) (i - 1) old (omega arith) ∙ ap (figure (segmentOf H)) e)
-
     -- the count of answers above the bound is 0
     pub the-count-above-the-bound-is-0 : getD (streamRun answer (aboveOf c) aboves) (i - 1) 0 ≡ 0
     unfolding aboveOf boundOf
     the-count-above-the-bound-is-0 =
-        at-its-place (aboveOf c) aboves
+        at-its-place the-capture-is-accepted i from to (aboveOf c) aboves
         ∙ (ap (λ (es : List Event). above fresh (boundOf (segmentOf H) i) es i) all-events
         ∙ no-answer-above-the-bound (segmentOf H) as-demanded run z (segmentOf H .stream i .master) (spaced (segmentOf H .stream i .master)) i own)
 
@@ -84,5 +85,5 @@ module _ (s bounds refined rounds : List ℕ) (H : Sheet) (accepts : planned s (
     pub the-largest-is-within-the-bound : getD (streamRun answer (largestOf c) largests) (i - 1) 0 ≤ bound (segmentOf H) (segmentOf H .stream i .master)
     unfolding largestOf
     the-largest-is-within-the-bound =
-        let e = at-its-place (largestOf c) largests ∙ ap (λ (es : List Event). largest fresh es i) all-events in
+        let e = at-its-place the-capture-is-accepted i from to (largestOf c) largests ∙ ap (λ (es : List Event). largest fresh es i) all-events in
         omega (arith, e, each-largest-within-the-bound (segmentOf H) as-demanded run z (segmentOf H .stream i .master) (spaced (segmentOf H .stream i .master)) i own)

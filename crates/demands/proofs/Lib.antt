@@ -10,5 +10,6 @@ pub mod Captured
 pub mod CapturedBytes
 pub mod Clocked
 pub mod Watched
+pub mod WatchedBytes
 pub mod CaptureCase
 pub mod Relayed

@@ -7,32 +7,34 @@ use Prim.Native.Nat.{ℕ, _+_, _-_}
 use mathlib.Core.Path.{_≡_}
 use mathlib.Core.Bool.{false}
 use mathlib.Core.List.{List, _∷_}
+use native.Mathlib.Omega.{arith}
 use Rattle.segment.specs.Segment.{Segment, bound}
 use Rattle.pnet_run.specs.Run.{Belongs, Request, Answer, Queues, Token, Run}
 use Rattle.pnet_run.specs.Promise.{Spaced, Accepted}
 use Rattle.capture_watch.specs.Ages.{clock, broken, soon, whose, beyond}
+use Rattle.capture_watch.proofs.True.{true-clock}
 use Rattle.demands.specs.Logged.{logOf, instantsOf, first, Close}
-use Rattle.demands.proofs.Clocked.{timed, unbroken, shown-by-the-clock, timely, soon-none, whose-none, open-within}
+use Rattle.demands.proofs.Clocked.{recorded, timed, unbroken, timely, soon-none, whose-none, open-within}
 
 -- a run of any segment S, the counter at its start, and its records' instants
 module _ (S : Segment) {now : ℕ} {token : Token} {queues : Queues} {came : List Request} {went : List Answer} (run : Run S now token queues came went) (z : ℕ)
     (close : Close (instantsOf run)) where
   -- no two successive records show as out of order, or as 2^31 bp apart
   pub no-gap-counts : broken (logOf z run) ≡ false
-  no-gap-counts = unbroken (timed z run close)
+  no-gap-counts = unbroken (recorded z run close)
 
   -- the clock is 1 and what has truly passed from the first record to the latest
   pub the-clock-is-true : (latest : ℕ) (before : List ℕ) → instantsOf run ≡ latest ∷ before → clock (logOf z run) ≡ 1 + (latest - first (latest ∷ before))
-  the-clock-is-true latest before made = shown-by-the-clock (rw made at (timed z run close))
+  the-clock-is-true latest before made = true-clock (timed (rw made at (recorded z run close)))
 
   -- Every master keeps its spacing.
   module _ (spaced : (k : ℕ) → Spaced S k came) where
     -- the count of requests that came too soon is 0, so no stream is named
     pub no-request-too-soon : soon (λ i. S .stream i .spacing) (logOf z run) ≡ 0
-    no-request-too-soon = soon-none (timely z run close spaced)
+    no-request-too-soon = soon-none (timely (λ i. S .stream i .spacing) (λ m i own. omega arith) z run close spaced)
 
     pub no-stream-too-soon : whose (λ i. S .stream i .spacing) (logOf z run) ≡ 0
-    no-stream-too-soon = whose-none (timely z run close spaced)
+    no-stream-too-soon = whose-none (timely (λ i. S .stream i .spacing) (λ m i own. omega arith) z run close spaced)
 
   -- The segment is accepted, master k keeps its spacing, and stream i is one of its own. Nothing is supposed of the other masters.
   module _ (accepted : Accepted S) (k : ℕ) (spaced : Spaced S k came) (i : ℕ) (own : Belongs S k i) where

@@ -1,0 +1,148 @@
+-- Page 02, 'Ask 1', beside docs/DECISIONS.md, 'What a capture's bounds rest on', from the bytes of a sheet and of a capture: where a capture is
+-- the log of a fault-free run of the model on an accepted sheet whose masters keep their spacing, and its successive records are less than
+-- 2^31 bp apart, following it counts no request as too soon and no two records as too far apart, and finds no request open beyond its bound.
+-- So of such a capture no line of the report says any of these. `planned` is what the planner answers, `bounded` and `streamRun` are what the
+-- sheet gives to lay a capture beside, `followed` is what is kept of a capture, and `leftAfter` and `overdueRun` are the runs of open requests
+-- and of those open for too long: all are words of contracts. Assumes nothing.
+use Prim.Native.Nat.{ℕ, _+_, _-_, _*_, _/_, _^_, _≤_, _<_}
+use mathlib.Core.Path.{_≡_, refl, ap, _∙_}
+use mathlib.Core.Bool.{false}
+use mathlib.Core.List.{List}
+use native.Mathlib.Omega.{arith}
+use lib.ListN.{length, getD, replicate, length-replicate}
+use Rattle.common.specs.Checks.Verdict.{Passed}
+use Rattle.common.proofs.Runs.{zero-at}
+use Rattle.sheet.specs.Sheets.{Sheet}
+use Rattle.sheet.specs.Whole.Outcome.{Read}
+use Rattle.segment.specs.Segment.{segmentOf}
+use Rattle.pnet.specs.Planned.{planned}
+use Rattle.pnet.proofs.Refusals.{accepted-exactly, pass-first}
+use Rattle.pnet_run.specs.Run.{Belongs, Request, Answer, Queues, Token, Run}
+use Rattle.pnet_run.specs.Promise.{Spaced, Accepted}
+use Rattle.log.specs.Log.{fresh, left}
+use Rattle.log.specs.Records.{size, eventsIn, heard}
+use Rattle.limits.specs.Bounded.{bounded, boundOf, spacingOf, streamRun}
+use Rattle.limits.proofs.Bounded.{bounded-read}
+use Rattle.tally.specs.Pieces.{leftAfter}
+use Rattle.capture.specs.Compared.{events}
+use Rattle.capture.proofs.Told.{left-whole}
+use Rattle.capture_watch.specs.Ages.{clock, beyond}
+use Rattle.capture_watch.specs.Follow.{most, began, Seen, seen, followed, metIn, overdueRun}
+use Rattle.capture_watch.proofs.Means.{Keeps, overdue-means}
+use Rattle.capture_watch.proofs.Passed.{passed-count, passed-means}
+use Rattle.demands.specs.Logged.{logOf, instantsOf, Close}
+use Rattle.demands.proofs.Demand3.{accepted-as-demanded}
+use Rattle.demands.proofs.Captured.{the-capture-passes}
+use Rattle.demands.proofs.CapturedBytes.{at-its-place}
+use Rattle.demands.proofs.Clocked.{recorded, clock-within, Timely, timely, soon-none, whose-none}
+use Rattle.demands.proofs.Watched.{no-gap-counts, no-request-open-beyond-the-bound}
+
+-- 800 places that hold nothing yet
+unfoldable pub zeros : List ℕ
+zeros = replicate most 0
+
+zeros-long : length zeros ≡ most
+unfolding zeros
+zeros-long = length-replicate {A = ℕ} most 0
+
+zeros-each : (i : ℕ) → i < most → getD zeros i 0 ≡ 0
+unfolding zeros
+zeros-each i l = zero-at most i
+
+-- the bytes s, and the planner's three lent runs; it accepts the sheet H that the bytes say
+module _ (s bounds refined rounds : List ℕ) (H : Sheet) (accepts : planned s (length bounds) (length refined) (length rounds) ≡ Read H)
+    -- a run of its bus that found the tester's counter at z, in which every master keeps its spacing
+    {now : ℕ} {token : Token} {queues : Queues} {came : List Request} {went : List Answer} (run : Run (segmentOf H) now token queues came went) (z : ℕ)
+    (spaced : (k : ℕ) → Spaced (segmentOf H) k came)
+    -- its successive records are less than 2^31 bp apart, and it lasts for less than 2^64 - 1 bp
+    (close : Close (instantsOf run)) (lasts : now + 1 < 2 ^ 64)
+    -- the bytes c, fewer than 2^64, have n records, those of the run's log
+    (c : List ℕ) (n : ℕ) (few : length c < 2 ^ 64) (long : length c ≡ size * n) (logged : eventsIn c n ≡ logOf z run)
+    -- the runs that are lent for each stream's bound and spacing
+    (limits spacings : List ℕ) where
+  -- what these hold then
+  abbrev pub R : List ℕ
+  R = streamRun (bounded s most) boundOf limits
+
+  abbrev pub T : List ℕ
+  T = streamRun (bounded s most) spacingOf spacings
+
+  -- what is kept of the capture behind its last record
+  abbrev pub kept : Seen
+  kept = followed T (seen began zeros) (metIn c (length c / size))
+
+  -- 1 or 0 requests of each stream that are open then
+  abbrev pub lefts : List ℕ
+  lefts = leftAfter c (length (H .streams)) zeros zeros
+
+  -- ---- The sheet
+
+  as-demanded : Accepted (segmentOf H)
+  as-demanded = accepted-as-demanded s bounds refined rounds H accepts
+
+  streams-few : length (H .streams) ≤ most
+  unfolding segmentOf
+  streams-few = as-demanded .declared .number-to
+
+  -- a capture is laid beside it
+  pub the-sheet-is-taken : bounded s most ≡ Read H
+  unfolding segmentOf
+  the-sheet-is-taken =
+      let p = accepted-exactly s (length bounds) (length refined) (length rounds) H .0 accepts in
+      bounded-read s most H (p .on-bus .reads) (p .on-bus .pnet) streams-few (pass-first (segmentOf H) (p .passes))
+
+  -- ---- The records
+
+  passes : heard c (length (H .streams)) fresh ≡ Passed
+  unfolding segmentOf
+  passes = the-capture-passes (segmentOf H) as-demanded run z spaced c n long logged
+
+  all-records : eventsIn c (length c / size) ≡ logOf z run
+  all-records = let e : length c / size ≡ n = omega arith in ap (eventsIn c) e ∙ logged
+
+  short : clock (eventsIn c (length c / size)) < 2 ^ 64
+  short = rw all-records (omega (arith, clock-within (recorded z run close)))
+
+  keeps : Keeps T (eventsIn c (length c / size)) kept
+  keeps = passed-means c (length (H .streams)) passes streams-few T zeros zeros-long zeros-each few short
+
+  left-at : (i : ℕ) → i < most → getD lefts i 0 ≡ left fresh (eventsIn c (length c / size)) (i + 1)
+  unfolding zeros events
+  left-at i l =
+      left-whole c (length (H .streams)) streams-few few passes i l
+      ∙ ap (λ (j : ℕ). left fresh (eventsIn c j) (i + 1)) (passed-count c (length (H .streams)) passes)
+
+  in-time : Timely (λ i. getD T (i - 1) 0) (logOf z run)
+  unfolding segmentOf
+  in-time =
+      timely (λ i. getD T (i - 1) 0) (λ k i own. omega (arith, at-its-place the-sheet-is-taken i (own .from-one) (own .to-last) spacingOf spacings)) z run
+      close spaced
+
+  -- ---- What is shown
+
+  -- the count of requests that came too soon is 0, so no stream is named
+  pub no-request-counts-as-too-soon : kept .watch .soon ≡ 0
+  no-request-counts-as-too-soon = keeps .soon-is ∙ rw all-records (soon-none in-time)
+
+  pub no-stream-is-named-as-too-soon : kept .watch .whose ≡ 0
+  no-stream-is-named-as-too-soon = keeps .whose-is ∙ rw all-records (whose-none in-time)
+
+  -- no two successive records count as out of order or 2^31 bp apart
+  pub ages-and-gaps-are-known : kept .watch .broken ≡ false
+  ages-and-gaps-are-known = keeps .broken-is ∙ rw all-records (no-gap-counts (segmentOf H) run z close)
+
+  -- of each stream
+  module _ (i : ℕ) (from : 1 ≤ i) (to : i ≤ length (H .streams)) where
+    within-its-bound : (figure : ℕ) → figure ≡ boundOf (segmentOf H) i → beyond figure (logOf z run) i ≡ false
+    unfolding boundOf segmentOf
+    within-its-bound figure is =
+        let k = segmentOf H .stream i .master in
+        let own : Belongs (segmentOf H) k i = record { from-one = from; to-last = to; own = refl } in
+        rw is (no-request-open-beyond-the-bound (segmentOf H) run z close as-demanded k (spaced k) i own)
+
+    -- no request counts as open for longer than the bound
+    pub no-request-counts-as-open-too-long : getD (overdueRun (kept .watch .clock) R lefts (kept .asked)) (i - 1) 0 ≡ 0
+    no-request-counts-as-open-too-long =
+        let e : i - 1 + 1 ≡ i = omega arith in
+        overdue-means keeps short R lefts left-at (i - 1) (omega (arith, streams-few))
+        ∙ rw (all-records, e, within-its-bound _ (at-its-place the-sheet-is-taken i from to boundOf limits)) refl
