@@ -1,9 +1,9 @@
--- `kept` is safe and ends. Assumes nothing.
+-- `try_plan::kept` is safe and ends: m counts to the length of the run. Assumes nothing.
 use borrow.Author.Needs.{needs}
 use Prim.Native.Nat.{_-_, _≤_}
 use lib.ListN.{length}
-use Rattle.try_worldfip.proofs.kept.Statement.{statement}
-use Rattle.try_worldfip.proofs.kept.Tie as tie
+use Rattle.try_plan.proofs.kept.Statement.{statement}
+use Rattle.try_plan.proofs.kept.Tie as tie
 
 abbrev Inv-loop : tie.InvT-loop
 Inv-loop rows k₀ m₀ k m = m ≤ length rows

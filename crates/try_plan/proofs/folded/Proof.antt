@@ -1,9 +1,9 @@
--- `folded` is safe and ends: x is a remainder. Assumes nothing.
+-- `try_plan::folded` is safe and ends: x is a remainder. Assumes nothing.
 use borrow.Author.Needs.{needs}
 use Prim.Native.Nat.{_-_, _≤_, _<_}
 use lib.ListN.{length}
-use Rattle.try_worldfip.proofs.folded.Statement.{statement}
-use Rattle.try_worldfip.proofs.folded.Tie as tie
+use Rattle.try_plan.proofs.folded.Statement.{statement}
+use Rattle.try_plan.proofs.folded.Tie as tie
 
 abbrev Inv-loop : tie.InvT-loop
 Inv-loop rows x₀ m₀ x m = (m ≤ length rows) × (x < 4294967291)

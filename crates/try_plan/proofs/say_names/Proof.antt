@@ -1,14 +1,20 @@
--- `say_names` is safe and ends. Assumes nothing.
+-- `try_plan::say_names` is safe and ends: r counts to 8. Assumes nothing.
 use borrow.Author.Needs.{needs}
 use Prim.Native.Nat.{_-_, _≤_}
-use Rattle.try_worldfip.proofs.say_names.Statement.{statement}
-use Rattle.try_worldfip.proofs.say_names.Tie as tie
+use Rattle.try_plan.proofs.say_names.Statement.{statement}
+use Rattle.try_plan.proofs.say_names.Tie as tie
 
 abbrev Inv-loop : tie.InvT-loop
 Inv-loop names r₀ r = r ≤ 8
 
 abbrev μ-loop : tie.MeasureT-loop
 μ-loop names r₀ r = 8 - r
+
+slice-aggregate-say : tie.Need-slice-aggregate-say Inv-loop μ-loop
+slice-aggregate-say c = search needs
+
+say-requires : tie.Need-say-requires Inv-loop μ-loop
+say-requires c κs = search needs
 
 loop-holds : tie.Need-loop-holds Inv-loop μ-loop
 loop-holds c = search needs
@@ -40,6 +46,8 @@ say-names-spec =
     (tie.spec
     Inv-loop
     μ-loop
+    slice-aggregate-say
+    say-requires
     loop-holds
     mul-say-name
     element-copy-out-say-name

@@ -1,15 +1,18 @@
--- `say_run` is safe and ends: i counts to the run's length. Assumes nothing.
+-- `try_plan::say_run` is safe and ends: i counts to the run's length. Assumes nothing.
 use Prim.Native.Nat.{_≤_, _-_}
 use borrow.Author.Needs.{needs}
 use lib.ListN.{length}
-use Rattle.try_pnet.proofs.say_run.Statement.{statement}
-use Rattle.try_pnet.proofs.say_run.Tie as tie
+use Rattle.try_plan.proofs.say_run.Statement.{statement}
+use Rattle.try_plan.proofs.say_run.Tie as tie
 
 abbrev Inv-loop : tie.InvT-loop
-Inv-loop run i₀ i = i ≤ length run
+Inv-loop name run i₀ i = i ≤ length run
 
 abbrev μ-loop : tie.MeasureT-loop
-μ-loop run i₀ i = length run - i
+μ-loop name run i₀ i = length run - i
+
+say-requires : tie.Need-say-requires Inv-loop μ-loop
+say-requires c κs = search needs
 
 loop-holds : tie.Need-loop-holds Inv-loop μ-loop
 loop-holds c = search needs
@@ -41,6 +44,7 @@ say-run-spec =
     (tie.spec
     Inv-loop
     μ-loop
+    say-requires
     loop-holds
     mul-say-figure
     shared-slice-read-say-figure

@@ -1,9 +1,9 @@
--- `say_rows` is safe and ends. Assumes nothing.
+-- `try_plan::say_rows` is safe and ends: m counts to the length of the run. Assumes nothing.
 use borrow.Author.Needs.{needs}
 use Prim.Native.Nat.{_-_, _≤_}
 use lib.ListN.{length}
-use Rattle.try_worldfip.proofs.say_rows.Statement.{statement}
-use Rattle.try_worldfip.proofs.say_rows.Tie as tie
+use Rattle.try_plan.proofs.say_rows.Statement.{statement}
+use Rattle.try_plan.proofs.say_rows.Tie as tie
 
 abbrev Inv-loop : tie.InvT-loop
 Inv-loop rows m₀ m = m ≤ length rows
