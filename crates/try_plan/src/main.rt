@@ -47,11 +47,15 @@ fn say_run(name: &[u8], run: &[u32]) {
     }
 }
 
-fn plan_pnet(s: &[u8], bound: &mut [u32], refined: &mut [u32], rounds: &mut [u32]) {
-    say_pnet(pnet::plan(s, bound, refined, rounds));
+fn say_runs(bound: &[u32], refined: &[u32], rounds: &[u32]) {
     say_run(b"; R in bp", bound);
     say_run(b"; W in bp", refined);
     say_run(b"; rounds", rounds);
+}
+
+fn plan_pnet(s: &[u8], bound: &mut [u32], refined: &mut [u32], rounds: &mut [u32]) {
+    say_pnet(pnet::plan(s, bound, refined, rounds));
+    say_runs(bound, refined, rounds);
 }
 
 // The length of a run, 12 at most.
