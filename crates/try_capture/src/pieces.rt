@@ -65,6 +65,7 @@ fn follow_by(c: &[u8], size: usize, spacing: &[u32; 800], asked: &mut [u64; 800]
     w
 }
 
+// What the clock says of it.
 fn try_watch(
     c: &[u8],
     size: usize,
@@ -81,6 +82,7 @@ fn try_watch(
     say_run(b"; overdue", n, &late);
 }
 
+// Its figures, beside the bounds of a sheet that is accepted.
 fn try_takes(c: &[u8], size: usize, n: usize, bound: &[u32; 800], spacing: &[u32; 800]) {
     let mut left = [0u8; 800];
     let mut since = [0u32; 800];
@@ -104,6 +106,7 @@ fn try_takes(c: &[u8], size: usize, n: usize, bound: &[u32; 800], spacing: &[u32
     }
 }
 
+// The sheet's refusal, or what the capture shows beside it.
 pub(crate) fn try_pieces(s: &[u8], c: &[u8], size: usize) {
     let mut masters = [0u8; 800];
     let mut bound = [0u32; 800];

@@ -20,6 +20,7 @@ fn run(k: u8) {
     say(b"\n");
 }
 
+// Each master in its turn is the one that the token has just left.
 pub(crate) fn runs() {
     run(1);
     run(2);
