@@ -213,6 +213,15 @@ def edges(rng):
         yield "stream %d of 800" % stream, full, event(REQUEST, stream, 0)
     yield "800 streams", full, b"".join(good_events(rng, bounds, 4_000))
 
+    # ten masters, 80 streams each, at the slowest: those behind the one that the token has just left answer first, 247 bp apart, that one last,
+    # and then each one's next stream does, so that its last answer takes exactly its bound
+    even = sheets.pnet_sheet(10, [(1 + i // 80, 200, 1_000_000, 1_000_000) for i in range(800)])
+    for left, start, early in ((1, 0, 0), (1, COUNTER - 1, 0), (10, COUNTER - 296, 0), (10, 0, 1)):
+        requests = [event(REQUEST, i, start - early) for i in range(1, 801)]
+        order = [80 * ((left + i) % 10) + i // 10 + 1 for i in range(800)]
+        answers = [event(ANSWER, stream, start + 247 * i) for i, stream in enumerate(order, start=1)]
+        yield "M%02d asks %d early, from %d" % (left, early, start), even, b"".join(requests + answers)
+
     # around the ends of pieces
     per_piece = PIECE // EVENT_LENGTH
     long = good_events(rng, bounds, 2 * per_piece + 3)

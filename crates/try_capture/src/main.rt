@@ -1,32 +1,20 @@
 // Lays captures beside sheets, page 02 'Ask 1'. A line of standard input is a case: a label, a colon, the sheet, a bar and the capture,
-// both in hexadecimal digits, and where the lent runs do not have 6 places each, a semicolon and their four lengths. Every place of
-// a run holds 170 before. Then captures of a simulated run of the bus, at its slowest, that reaches the bound.
+// both in hexadecimal digits; and where it is not 7 of each, a semicolon, the places of the four lent runs and the bytes of a
+// piece. A line without a bar is a title. The last captures are logs of runs of the bus at its slowest, which reach the bound; then
+// such runs are simulated, to lay their instants beside the logs.
 mod cases;
+mod lines;
 mod pieces;
 mod simulated;
-mod told;
 mod words;
 
-use cases::try_lines;
 use libc::STDIN_FILENO;
-use simulated::bus_of;
-use simulated::run;
+use lines::try_lines;
 use simulated::runs;
-use words::say;
 
 fn main() {
     let mut buf = io::large_buffer();
     let n = io::read_full(STDIN_FILENO, &mut buf);
     try_lines(&buf[..n]);
-    // Page 01, 'Sheets worked by hand'.
-    runs(
-        b"# A run of 4 masters, two streams each, C 203.",
-        bus_of(4, 2, 8, 203),
-    );
-    say(b"# A run of 10 masters, 80 streams each, C 200.\n");
-    let ten = bus_of(10, 80, 800, 200);
-    run(ten, 1, 0, 0);
-    run(ten, 1, 4294967295, 0);
-    run(ten, 10, 4294967000, 0);
-    run(ten, 10, 0, 1);
+    runs();
 }

@@ -1,30 +1,25 @@
 // The same capture, taken in pieces.
-use crate::told::Told;
-use crate::told::flat;
-use crate::told::same_answer;
+use crate::words::say_figures;
+use crate::words::say_plan;
+use crate::words::say_refused;
+use crate::words::say_run;
+use crate::words::say_watch;
+use capture_watch::Watch;
 use tally::Taken;
 ghost use Prim.Native.Nat.{_≤_, _<_};
 
-// Where the piece that begins at a place ends.
+// Where the piece that begins at a place ends: it has at least one byte.
 fn end_of(len: usize, at: usize, size: usize) -> usize
-    requires { ⌜ (at < len) × (0 < size) ⌝ }
+    requires { ⌜ at < len ⌝ }
     ensures { λ r. ⌜ (at < r) × (r ≤ len) ⌝ }
 {
+    if size == 0 {
+        return at + 1;
+    }
     if len - at < size { len } else { at + size }
 }
 
-// A refusal's place in the capture, from that in the piece which begins at a place.
-fn behind(t: Taken, at: usize) -> Taken {
-    match t {
-        Taken::All => Taken::All,
-        Taken::Refused { no, place } => Taken::Refused {
-            no,
-            place: std::num::wrapping_add_usize(at, place),
-        },
-    }
-}
-
-// Takes a capture in pieces of this size.
+// Takes a capture in pieces of this size, and says a refusal, with its place in the capture; whether all is taken.
 fn take_by(
     c: &[u8],
     size: usize,
@@ -35,9 +30,7 @@ fn take_by(
     answers: &mut [u64; 800],
     largest: &mut [u32; 800],
     above: &mut [u64; 800],
-) -> Taken
-    requires { ⌜ 0 < size ⌝ }
-{
+) -> bool {
     let mut at: usize = 0;
     while at < c.len() {
         let end = end_of(c.len(), at, size);
@@ -51,131 +44,76 @@ fn take_by(
             largest,
             above,
         );
-        let Taken::All = taken else {
-            return behind(taken, at);
-        };
+        if let Taken::Refused { no, place } = taken {
+            say_refused(no, std::num::wrapping_add_usize(at, place));
+            return false;
+        }
         at = end;
     }
-    Taken::All
+    true
 }
 
-// As `capture::compare` does, but in pieces.
-fn by_pieces(
-    s: &[u8],
-    c: &[u8],
-    room: usize,
-    size: usize,
-    answers: &mut [u64; 800],
-    largest: &mut [u32; 800],
-    above: &mut [u64; 800],
-    left: &mut [u8; 800],
-) -> Told
-    requires { ⌜ 0 < size ⌝ }
-{
-    let mut masters = [0u8; 800];
-    let mut bound = [0u32; 800];
-    let mut spacing = [0u32; 800];
-    let mut since = [0u32; 800];
-    let sheet = flat(limits::bounds(s, room, &mut masters, &mut bound, &mut spacing));
-    if sheet.no != 0 {
-        return sheet;
+// Follows it in the same pieces.
+fn follow_by(c: &[u8], size: usize, spacing: &[u32; 800], asked: &mut [u64; 800]) -> Watch {
+    let mut w = capture_watch::start();
+    let mut at: usize = 0;
+    while at < c.len() {
+        let end = end_of(c.len(), at, size);
+        w = capture_watch::follow(&c[at..end], w, spacing, asked);
+        at = end;
     }
-    let n = sheet.streams;
-    match take_by(
+    w
+}
+
+// What the clock says of it.
+fn try_watch(
+    c: &[u8],
+    size: usize,
+    n: usize,
+    bound: &[u32; 800],
+    spacing: &[u32; 800],
+    left: &[u8; 800],
+) {
+    let mut asked = [0u64; 800];
+    let mut late = [170u64; 800];
+    let w = follow_by(c, size, spacing, &mut asked);
+    capture_watch::overdue(w, bound, left, &asked, &mut late);
+    say_watch(w);
+    say_run(b"; overdue", n, &late);
+}
+
+// Its figures, beside the bounds of a sheet that is accepted.
+fn try_takes(c: &[u8], size: usize, n: usize, bound: &[u32; 800], spacing: &[u32; 800]) {
+    let mut left = [0u8; 800];
+    let mut since = [0u32; 800];
+    let mut answers = [0u64; 800];
+    let mut largest = [0u32; 800];
+    let mut above = [0u64; 800];
+    let all = take_by(
         c,
         size,
         n,
-        &bound,
-        left,
+        bound,
+        &mut left,
         &mut since,
-        answers,
-        largest,
-        above,
-    ) {
-        Taken::All => sheet,
-        Taken::Refused { no, place } => Told {
-            no,
-            place,
-            streams: 0,
-        },
+        &mut answers,
+        &mut largest,
+        &mut above,
+    );
+    if all {
+        say_figures(n, 0, &answers, &largest, &above, &left);
+        try_watch(c, size, n, bound, spacing, &left);
     }
 }
 
-fn same_runs(
-    n: usize,
-    a: &[u64; 800],
-    b: &[u32; 800],
-    c: &[u64; 800],
-    d: &[u8; 800],
-    e: &[u64; 800],
-    f: &[u32; 800],
-    g: &[u64; 800],
-    h: &[u8; 800],
-) -> bool {
-    let mut i: usize = 0;
-    while i < 800 {
-        if i < n {
-            if (a[i] != e[i]) | (b[i] != f[i]) | (c[i] != g[i]) | (d[i] != h[i]) {
-                return false;
-            }
-        }
-        i += 1;
+// The sheet's refusal, or what the capture shows beside it.
+pub(crate) fn try_pieces(s: &[u8], c: &[u8], size: usize) {
+    let mut masters = [0u8; 800];
+    let mut bound = [0u32; 800];
+    let mut spacing = [0u32; 800];
+    let plan = limits::bounds(s, 800, &mut masters, &mut bound, &mut spacing);
+    let n = say_plan(plan);
+    if n != 0 {
+        try_takes(c, size, n, &bound, &spacing);
     }
-    true
-}
-
-// Pieces of this size give the same answer and the same figures.
-fn same_by(
-    s: &[u8],
-    c: &[u8],
-    room: usize,
-    size: usize,
-    told: Told,
-    answers: &[u64; 800],
-    largest: &[u32; 800],
-    above: &[u64; 800],
-    left: &[u8; 800],
-) -> bool
-    requires { ⌜ 0 < size ⌝ }
-{
-    let mut a = [0u64; 800];
-    let mut b = [0u32; 800];
-    let mut d = [0u64; 800];
-    let mut e = [0u8; 800];
-    let other = by_pieces(s, c, room, size, &mut a, &mut b, &mut d, &mut e);
-    if !same_answer(told, other) {
-        return false;
-    }
-    let n = told.streams;
-    same_runs(n, answers, largest, above, left, &a, &b, &d, &e)
-}
-
-// So do pieces of one record each, of two, of three, up to so many.
-pub(crate) fn same_in_pieces(
-    s: &[u8],
-    c: &[u8],
-    room: usize,
-    most: usize,
-    told: Told,
-    answers: &[u64; 800],
-    largest: &[u32; 800],
-    above: &[u64; 800],
-    left: &[u8; 800],
-) -> bool
-    requires { ⌜ most < 10000 ⌝ }
-{
-    let mut records: usize = 0;
-    while records < most {
-        records += 1;
-        if !same_by(s, c, room, 7 * records, told, answers, largest, above, left) {
-            return false;
-        }
-    }
-    true
-}
-
-pub(crate) fn shorter(a: usize, b: usize) -> usize
-    ensures { λ r. ⌜ (r ≤ a) × (r ≤ b) ⌝ }
-{
-    if a < b { a } else { b }
 }

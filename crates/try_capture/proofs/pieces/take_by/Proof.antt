@@ -29,17 +29,20 @@ part-take-end c = search needs
 take-requires : tie.Need-take-requires Inv-loop μ-loop
 take-requires c κs = search needs
 
-enum-told : tie.Need-enum-told Inv-loop μ-loop
-enum-told c = search needs
+enum-known-taken : tie.Need-enum-known-taken Inv-loop μ-loop
+enum-known-taken c = search needs
 
-enum-told-2 : tie.Need-enum-told-2 Inv-loop μ-loop
-enum-told-2 c = search needs
+wrapping-add-usize-requires : tie.Need-wrapping-add-usize-requires Inv-loop μ-loop
+wrapping-add-usize-requires c κs = search needs
 
-behind-requires : tie.Need-behind-requires Inv-loop μ-loop
-behind-requires c κs = search needs
+say-refused-requires : tie.Need-say-refused-requires Inv-loop μ-loop
+say-refused-requires c κs = search needs
 
 returns : tie.Need-returns Inv-loop μ-loop
 returns c = search needs
+
+enum-told : tie.Need-enum-told Inv-loop μ-loop
+enum-told c = search needs
 
 loop-less : tie.Need-loop-less Inv-loop μ-loop
 loop-less c = search needs
@@ -62,10 +65,11 @@ take-by-spec =
     part-take-start
     part-take-end
     take-requires
-    enum-told
-    enum-told-2
-    behind-requires
+    enum-known-taken
+    wrapping-add-usize-requires
+    say-refused-requires
     returns
+    enum-told
     loop-less
     loop-again
     returns-2)

@@ -1,9 +1,9 @@
--- `try_capture::cases::find` is safe and ends. Assumes nothing.
+-- `try_capture::lines::find` is safe and ends. Assumes nothing.
 use Prim.Native.Nat.{_≤_, _-_}
 use lib.ListN.{length}
 use borrow.Author.Needs.{needs}
-use Rattle.try_capture.proofs.cases.find.Statement.{statement}
-use Rattle.try_capture.proofs.cases.find.Tie as tie
+use Rattle.try_capture.proofs.lines.find.Statement.{statement}
+use Rattle.try_capture.proofs.lines.find.Tie as tie
 
 abbrev Inv-loop : tie.InvT-loop
 Inv-loop line from mark i₀ i = (from ≤ i) × (i ≤ length line)

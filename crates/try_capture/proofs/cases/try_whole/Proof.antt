@@ -1,10 +1,11 @@
--- `try_capture::cases::try_case` is safe and ends. Assumes nothing.
+-- `try_capture::cases::try_whole` is safe and ends. Assumes nothing.
 use borrow.Author.Needs.{needs}
 use native.Mathlib.Omega.{arith}
 use lib.ListN.{length-take}
-use borrow.Author.Needs.{needs}
-use Rattle.try_capture.proofs.cases.try_case.Statement.{statement}
-use Rattle.try_capture.proofs.cases.try_case.Tie as tie
+use native.Mathlib.Omega.{arith}
+use lib.ListN.{length-take}
+use Rattle.try_capture.proofs.cases.try_whole.Statement.{statement}
+use Rattle.try_capture.proofs.cases.try_whole.Tie as tie
 
 array-borrow-prefix-answers : tie.Need-array-borrow-prefix-answers
 array-borrow-prefix-answers c = search needs
@@ -33,38 +34,17 @@ slice-aggregate-compare-4 c = simp length-take (omega arith)
 compare-requires : tie.Need-compare-requires
 compare-requires c κs = search needs
 
-flat-requires : tie.Need-flat-requires
-flat-requires c κs = search needs
+say-plan-requires : tie.Need-say-plan-requires
+say-plan-requires c κs = search needs
 
-say-answer-requires : tie.Need-say-answer-requires
-say-answer-requires c κs = search needs
-
-shorter-requires : tie.Need-shorter-requires
-shorter-requires c κs = search needs
-
-shorter-requires-2 : tie.Need-shorter-requires-2
-shorter-requires-2 c κs = search needs
-
-shorter-requires-3 : tie.Need-shorter-requires-3
-shorter-requires-3 c κs = search needs
-
-same-in-pieces-requires : tie.Need-same-in-pieces-requires
-same-in-pieces-requires c κs = search needs
-
-slice-aggregate-say-either : tie.Need-slice-aggregate-say-either
-slice-aggregate-say-either c = search needs
-
-slice-aggregate-say-either-2 : tie.Need-slice-aggregate-say-either-2
-slice-aggregate-say-either-2 c = search needs
-
-say-either-requires : tie.Need-say-either-requires
-say-either-requires c κs = search needs
+say-figures-requires : tie.Need-say-figures-requires
+say-figures-requires c κs = search needs
 
 returns : tie.Need-returns
 returns c = search needs
 
-pub try-case-spec : {M : Type 1} → statement M
-try-case-spec =
+pub try-whole-spec : {M : Type 1} → statement M
+try-whole-spec =
     tie.close
     (tie.spec
     array-borrow-prefix-answers
@@ -76,13 +56,6 @@ try-case-spec =
     array-borrow-prefix-left
     slice-aggregate-compare-4
     compare-requires
-    flat-requires
-    say-answer-requires
-    shorter-requires
-    shorter-requires-2
-    shorter-requires-3
-    same-in-pieces-requires
-    slice-aggregate-say-either
-    slice-aggregate-say-either-2
-    say-either-requires
+    say-plan-requires
+    say-figures-requires
     returns)

@@ -1,11 +1,11 @@
--- `try_capture::cases::try_lines` is safe and ends. Assumes nothing.
+-- `try_capture::lines::try_lines` is safe and ends. Assumes nothing.
 use Prim.Native.Nat.{_≤_, _-_}
 use lib.ListN.{length}
 use mathlib.Core.Logic.{⊎-elim}
 use native.Mathlib.Omega.{arith}
 use borrow.Author.Needs.{needs}
-use Rattle.try_capture.proofs.cases.try_lines.Statement.{statement}
-use Rattle.try_capture.proofs.cases.try_lines.Tie as tie
+use Rattle.try_capture.proofs.lines.try_lines.Statement.{statement}
+use Rattle.try_capture.proofs.lines.try_lines.Tie as tie
 
 abbrev Inv-loop : tie.InvT-loop
 Inv-loop text start₀ i₀ start i = (start ≤ i) × (i ≤ length text)

@@ -1,24 +1,11 @@
--- `try_capture::cases::try_line` is safe and ends. Assumes nothing.
+-- `try_capture::lines::try_line` is safe and ends. Assumes nothing.
 use borrow.Author.Needs.{needs}
 use native.Mathlib.Omega.{arith}
 use lib.ListN.{length-take}
-use Rattle.try_capture.proofs.cases.try_line.Statement.{statement}
-use Rattle.try_capture.proofs.cases.try_line.Tie as tie
-
-is-title-requires : tie.Need-is-title-requires
-is-title-requires c κs = search needs
-
-say-requires : tie.Need-say-requires
-say-requires c κs = search needs
-
-slice-aggregate-say : tie.Need-slice-aggregate-say
-slice-aggregate-say c = search needs
-
-say-requires-2 : tie.Need-say-requires-2
-say-requires-2 c κs = search needs
-
-returns : tie.Need-returns
-returns c = search needs
+use native.Mathlib.Omega.{arith}
+use lib.ListN.{length-take}
+use Rattle.try_capture.proofs.lines.try_line.Statement.{statement}
+use Rattle.try_capture.proofs.lines.try_line.Tie as tie
 
 find-requires : tie.Need-find-requires
 find-requires c κs = search needs
@@ -29,11 +16,11 @@ find-requires-2 c κs = search needs
 find-requires-3 : tie.Need-find-requires-3
 find-requires-3 c κs = search needs
 
-slice-aggregate-say-2 : tie.Need-slice-aggregate-say-2
-slice-aggregate-say-2 c = simp length-take (omega arith)
+slice-aggregate-say : tie.Need-slice-aggregate-say
+slice-aggregate-say c = simp length-take (omega arith)
 
-say-requires-3 : tie.Need-say-requires-3
-say-requires-3 c κs = search needs
+say-requires : tie.Need-say-requires
+say-requires c κs = search needs
 
 sub-try-parts : tie.Need-sub-try-parts
 sub-try-parts c = search needs
@@ -65,23 +52,24 @@ part-try-parts-end-3 c = search needs
 try-parts-requires : tie.Need-try-parts-requires
 try-parts-requires c κs = search needs
 
-returns-2 : tie.Need-returns-2
-returns-2 c = search needs
+slice-aggregate-say-2 : tie.Need-slice-aggregate-say-2
+slice-aggregate-say-2 c = search needs
+
+say-requires-2 : tie.Need-say-requires-2
+say-requires-2 c κs = search needs
+
+returns : tie.Need-returns
+returns c = search needs
 
 pub try-line-spec : {M : Type 1} → statement M
 try-line-spec =
     tie.close
     (tie.spec
-    is-title-requires
-    say-requires
-    slice-aggregate-say
-    say-requires-2
-    returns
     find-requires
     find-requires-2
     find-requires-3
-    slice-aggregate-say-2
-    say-requires-3
+    slice-aggregate-say
+    say-requires
     sub-try-parts
     part-try-parts-start
     part-try-parts-end
@@ -92,4 +80,6 @@ try-line-spec =
     part-try-parts-start-3
     part-try-parts-end-3
     try-parts-requires
-    returns-2)
+    slice-aggregate-say-2
+    say-requires-2
+    returns)
