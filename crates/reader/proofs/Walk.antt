@@ -1,14 +1,14 @@
 -- Page 01, 'Sheet records': where a reader's steps lead, and how many of them move. Assumes nothing.
 use mathlib.Core.Path.{_≡_, refl, sym, ap, _∙_}
-use mathlib.Core.Bool.{Bool, true, false, _&&_, true≢false}
+use mathlib.Core.Bool.{Bool, true, false, not, _&&_, true≢false}
 use mathlib.Core.List.{List}
 use Prim.Native.Nat.{ℕ, zero, suc, _+_, _≤_, _<_}
 use native.Mathlib.Numerals.{add-one}
 use native.Mathlib.Omega.{arith}
 use native.Mathlib.Decide.{decLe, ℕ-discrete}
-use borrow.Author.Tests.{leb-true, eqb-false, eq-eqb, ne-eqb}
+use borrow.Author.Tests.{leb-true, le-leb, eqb-false, eq-eqb, ne-eqb}
 use lib.ListN.{length, getD}
-use lib.Dec.{leb}
+use lib.Dec.{leb, eqb}
 use Rattle.common.proofs.Firsts.{found-first, found-none}
 use Rattle.format.specs.Kinds.{known, sizeOf, decode, whole}
 use Rattle.reader.specs.declared.Found.{Found}
@@ -25,7 +25,7 @@ module _ (s : List ℕ) where
 
     -- just behind the record, where one stands whole; elsewhere it stays
     data Steps : Type 0 where
-      over : at + sizeOf (getD s at 0) ≤ length s → stepFrom s at ≡ at + sizeOf (getD s at 0) → Steps
+      over : known (getD s at 0) ≡ true → at + sizeOf (getD s at 0) ≤ length s → stepFrom s at ≡ at + sizeOf (getD s at 0) → Steps
       stays : stepFrom s at ≡ at → Steps
 
     steps : Steps
@@ -35,7 +35,7 @@ module _ (s : List ℕ) where
         split : Dec (length s ≤ at) → (k : Bool) → known (getD s at 0) ≡ k → Dec (at + sizeOf (getD s at 0) ≤ length s) → Steps
         split (yes h) k e d = stays (ap by (found-end s at h))
         split (no h) false e d = stays (ap by (found-unknown s at (omega (arith, h)) e))
-        split (no h) true e (yes l) = over l (ap by (found-whole s at (omega (arith, h)) e l))
+        split (no h) true e (yes l) = over e l (ap by (found-whole s at (omega (arith, h)) e l))
         split (no h) true e (no l) = stays (ap by (found-over s at (omega (arith, h)) e (omega (arith, l))))
 
     -- never back
@@ -43,7 +43,7 @@ module _ (s : List ℕ) where
     step-on = split steps
       where
         split : Steps → at ≤ stepFrom s at
-        split (over l e) = omega (arith, e)
+        split (over k l e) = omega (arith, e)
         split (stays e) = omega (arith, e)
 
     -- nor beyond the end
@@ -51,7 +51,7 @@ module _ (s : List ℕ) where
     step-within h = split steps
       where
         split : Steps → stepFrom s at ≤ length s
-        split (over l e) = omega (arith, l, e)
+        split (over k l e) = omega (arith, l, e)
         split (stays e) = omega (arith, h, e)
 
     module _ (w : whole s at ≡ true) where
@@ -79,6 +79,19 @@ module _ (s : List ℕ) where
   unfolding placeAfter
   place-within zero = omega arith
   place-within (suc i) = step-within (placeAfter s i) (place-within i)
+
+  -- a step stays exactly where no record of a known kind stands whole
+  pub stays-unless-whole : (i : ℕ) → staysAfter s i ≡ not (whole s (placeAfter s i))
+  unfolding staysAfter placeAfter whole sizeOf
+  stays-unless-whole i = split (whole s (placeAfter s i)) refl (steps (placeAfter s i))
+    where
+      at : ℕ
+      at = placeAfter s i
+
+      split : (b : Bool) → whole s at ≡ b → Steps at → eqb (stepFrom s at) at ≡ not (whole s at)
+      split true w t = ne-eqb (stepFrom s at) at (λ q. omega (arith, q, steps-over at w)) ∙ ap not (sym w)
+      split false w (stays e) = eq-eqb (stepFrom s at) at e ∙ ap not (sym w)
+      split false w (over k l e) = absurd (true≢false (sym (simp (k, le-leb (at + sizeOf (getD s at 0)) (length s) l)) ∙ w))
 
   -- the first n steps move
   abbrev pub Moves : ℕ → Type 0

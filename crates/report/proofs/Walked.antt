@@ -7,7 +7,6 @@ use Prim.Native.Nat.{ℕ, zero, suc, _+_, _≤_, _<_}
 use native.Mathlib.Omega.{arith}
 use borrow.Author.Tests.{le-leb, eq-eqb, ne-eqb}
 use lib.ListN.{length, getD}
-use Rattle.format.specs.declared.Record.{Record}
 use Rattle.format.specs.Kinds.{sizeOf, decode, whole, nothing}
 use Rattle.reader.specs.Walk.{foundAt, stepFrom, placeAfter, staysAfter, count}
 use Rattle.reader.specs.declared.Found.the-variants as found

@@ -1,7 +1,7 @@
 -- `reader::step_from` meets its contract: a walk of its MIR, by hand. A `Reader` is made in a local of the slice and the number, `step` is called on it, and the number is read from the `Reader` that it returns. All that the proof knows of `step` is that it meets its contract.
 -- In a local of a body MIR erases the lifetime of the struct's type, so the values are shown to have the type at `erased`: what the struct owns does not say the lifetime's name.
 -- Assumes nothing.
-use mathlib.Core.Path.{_≡_, refl, ap, _∙_}
+use mathlib.Core.Path.{_≡_, refl, ap}
 use Prim.Native.Nat.{ℕ, _<_, _^_}
 use mathlib.Core.List.{List, [], _∷_}
 use lib.ListN.{length}
