@@ -23,38 +23,42 @@ module _ (s : List ℕ) (at : ℕ) where
     unfolding foundAt byteChecks verdict
     found-unknown e = simp (lt-ltb at (length s) inside, e)
 
-    module _ (right : known (getD s at 0) ≡ true) (m : Met) (is : m ≡ metAt s at) where
-      -- where the record ends beyond the sheet, nothing was met and the place stays
-      cut : length s < at + sizeOf (getD s at 0) → (m .next ≡ at) × (foundAt s at ≡ found.Refused 1 at)
-      unfolding foundAt byteChecks verdict metAt whole
-      cut h = (
-        ap (λ (x : Met). x .next) is ∙ simp (right, lt-leb _ _ h),
-        simp (lt-ltb at (length s) inside, right, lt-ltb (length s) (at + sizeOf (getD s at 0)) h),
-      )
+    module _ (right : known (getD s at 0) ≡ true) where
+      -- the record ends beyond the sheet
+      pub found-over : length s < at + sizeOf (getD s at 0) → foundAt s at ≡ found.Refused 1 at
+      unfolding foundAt byteChecks verdict
+      found-over h = simp (lt-ltb at (length s) inside, right, lt-ltb (length s) (at + sizeOf (getD s at 0)) h)
 
-      ends : at + sizeOf (getD s at 0) ≤ length s → (m ≡ record { found = decode s at; next = at + sizeOf (getD s at 0) })
-          × (foundAt s at ≡ found.One (decode s at) (at + sizeOf (getD s at 0)))
-      unfolding foundAt byteChecks verdict metAt whole
-      ends h = (
-        is ∙ simp (right, le-leb _ _ h),
-        simp (lt-ltb at (length s) inside, right, le-ltb (length s) (at + sizeOf (getD s at 0)) h),
-      )
+      -- it stands whole
+      pub found-whole : at + sizeOf (getD s at 0) ≤ length s → foundAt s at ≡ found.One (decode s at) (at + sizeOf (getD s at 0))
+      unfolding foundAt byteChecks verdict
+      found-whole h = simp (lt-ltb at (length s) inside, right, le-ltb (length s) (at + sizeOf (getD s at 0)) h)
 
-      -- a record has a byte at least
-      moves : at < at + sizeOf (getD s at 0)
-      unfolding sizeOf
-      moves = omega arith
+      module _ (m : Met) (is : m ≡ metAt s at) where
+        -- where it ends beyond the sheet, nothing was met and the place stays
+        met-over : length s < at + sizeOf (getD s at 0) → m .next ≡ at
+        unfolding metAt whole
+        met-over h = ap (λ (x : Met). x .next) is ∙ simp (right, lt-leb _ _ h)
 
-      pub found-cut : m .next ≡ at → foundAt s at ≡ found.Refused 1 at
-      found-cut e = go (decLe (at + sizeOf (getD s at 0)) (length s))
-        where
-          go : Dec (at + sizeOf (getD s at 0) ≤ length s) → foundAt s at ≡ found.Refused 1 at
-          go (yes h) = absurd (omega (arith, moves, e, ap (λ (x : Met). x .next) (ends h .0)))
-          go (no h) = cut (omega (arith, h)) .1
+        met-whole : at + sizeOf (getD s at 0) ≤ length s → m ≡ record { found = decode s at; next = at + sizeOf (getD s at 0) }
+        unfolding metAt whole
+        met-whole h = is ∙ simp (right, le-leb _ _ h)
 
-      pub found-one : (m .next ≡ at → ⊥) → foundAt s at ≡ found.One (m .found) (m .next)
-      found-one e = go (decLe (at + sizeOf (getD s at 0)) (length s))
-        where
-          go : Dec (at + sizeOf (getD s at 0) ≤ length s) → foundAt s at ≡ found.One (m .found) (m .next)
-          go (yes h) = let g = ends h in cc
-          go (no h) = absurd (e (cut (omega (arith, h)) .0))
+        -- a record has a byte at least
+        moves : at < at + sizeOf (getD s at 0)
+        unfolding sizeOf
+        moves = omega arith
+
+        pub found-cut : m .next ≡ at → foundAt s at ≡ found.Refused 1 at
+        found-cut e = go (decLe (at + sizeOf (getD s at 0)) (length s))
+          where
+            go : Dec (at + sizeOf (getD s at 0) ≤ length s) → foundAt s at ≡ found.Refused 1 at
+            go (yes h) = absurd (omega (arith, moves, e, ap (λ (x : Met). x .next) (met-whole h)))
+            go (no h) = found-over (omega (arith, h))
+
+        pub found-one : (m .next ≡ at → ⊥) → foundAt s at ≡ found.One (m .found) (m .next)
+        found-one e = go (decLe (at + sizeOf (getD s at 0)) (length s))
+          where
+            go : Dec (at + sizeOf (getD s at 0) ≤ length s) → foundAt s at ≡ found.One (m .found) (m .next)
+            go (yes h) = let f = found-whole h in let g = met-whole h in cc
+            go (no h) = absurd (e (met-over (omega (arith, h))))

@@ -1,1 +1,3 @@
 pub mod Cases
+pub mod Examples
+pub mod Walk

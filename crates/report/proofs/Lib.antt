@@ -7,3 +7,4 @@ pub mod Segments
 pub mod Stored
 pub mod Tables
 pub mod Third
+pub mod Walked

@@ -1,6 +1,8 @@
-// Reports of sheets worked by hand, of pages 01 and 02 and the cases that are easy to get wrong, each behind a line that names it.
+// Reports of sheets worked by hand, of pages 01 and 02 and the cases that are easy to get wrong, each behind a line that names it; then how
+// many records a reader walks over.
 use libc::STDOUT_FILENO;
 use report::Reported;
+use text::put_counted;
 
 fn say(text: &[u8]) {
     io::write_all(STDOUT_FILENO, text);
@@ -102,9 +104,38 @@ fn bytes() {
     );
 }
 
+fn walk(name: &[u8], s: &[u8]) {
+    say(name);
+    let mut line = [0; 32];
+    let n = put_counted(&mut line, 0, b"\n", reader::count(s) as u64, b" records\n");
+    say(&line[..n]);
+}
+
+fn walks() {
+    walk(b"# walked: empty", b"");
+    walk(b"# walked: the first record alone", b"\x01\x02");
+    walk(
+        b"# walked: two variables behind theirs",
+        b"\x05\x00\x00\x01\x90\x06\x00\x11\x00\x00\x03\xe8\x06\x00\x12\x00\x00\x07\xd0",
+    );
+    walk(
+        b"# walked: the second of them cut short",
+        b"\x05\x00\x00\x01\x90\x06\x00\x11\x00\x00\x03\xe8\x06\x00\x12\x00\x00\x07",
+    );
+    walk(
+        b"# walked: an unknown kind between them",
+        b"\x05\x00\x00\x01\x90\x06\x00\x11\x00\x00\x03\xe8\x63\x06\x00\x12\x00\x00\x07\xd0",
+    );
+    walk(
+        b"# walked: another bus's stream is a whole record, though the sheet is refused",
+        b"\x05\x00\x00\x01\x90\x02\x00\x00\x00\x00\x00\x00\x00\x00\x00\x00\x00",
+    );
+}
+
 fn main() {
     segments();
     rings();
     tables();
     bytes();
+    walks();
 }
