@@ -10,8 +10,8 @@ use lib.Count.{ones, ones-le}
 use lib.Pow.{pow-pos, pow-lt}
 use Rattle.common.proofs.FromZero.{sum-change}
 use Rattle.bits.specs.Sets.{bit, lowest, left, served}
-use Rattle.bits.proofs.Members.{bit-none, bit-xor, bit-above, bit-below, same-members, ones-sum, no-ones, Lowest}
-use Rattle.bits.proofs.Picks.{left-more, lowest-is, out-same, out-other}
+use Rattle.bits.proofs.Members.{bit-none, bit-xor, bit-above, bit-below, same-members, ones-sum, no-ones}
+use Rattle.bits.proofs.Picks.{left-more, lowest-is, lowest-picks, out-same, out-other, served-all}
 
 low-lt : (w x : ℕ) → x % 2 ^ w < 2 ^ w
 low-lt w x = mod-lt x (pow-pos w)
@@ -96,6 +96,11 @@ module _ (s x q : ℕ) (is : q ≡ 2 ^ s) where
   pub row-fits : ones (bitAnd x (q - 1)) ≤ s
   row-fits = rw (is, and-mask) (ones-le s (x % 2 ^ s) (low-lt s x))
 
+  -- all are below s
+  pub row-all : x < 2 ^ 64 → bitAnd x (q - 1) ≡ x → bitAnd x (q - 1) ≡ served lowest s x
+  row-all l e = e ∙ served-all 64 lowest (lowest-picks 64 (omega arith)) s x l (rw e at row-fits)
+
+  -- y is what is left
   pub row-served : x < 2 ^ 64 → (y : ℕ) → y ≡ left lowest (s - ones (bitAnd x (q - 1))) (bitXor x (bitAnd x (q - 1))) → bitXor x y ≡ served lowest s x
   unfolding served
   row-served l y rest =

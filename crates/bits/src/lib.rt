@@ -50,6 +50,9 @@ pub fn row_of(x: u64, s: u32) -> u64
         return x;
     }
     let row = x & (shifted(s) - 1);
+    if row == x {
+        return row;
+    }
     let free = s - u64::count_ones(row);
     x ^ leave(x ^ row, free)
 }
