@@ -1,3 +1,4 @@
 pub mod Divides
 pub mod Members
 pub mod Picks
+pub mod Row

@@ -1,13 +1,13 @@
 -- Laws of sets as numbers, member by member. Assumes nothing.
 use mathlib.Core.Path.{_≡_, refl, sym, ap, ap₂, _∙_}
 use mathlib.Core.Bool.{Bool, true, false}
-use Prim.Native.Nat.{ℕ, zero, suc, _+_, _*_, _/_, _%_, _^_, _≤_, _<_, max, min}
+use Prim.Native.Nat.{ℕ, zero, suc, _+_, _-_, _*_, _/_, _%_, _^_, _≤_, _<_, max, min}
 use native.Mathlib.Nat.{pow-suc, div-one, div-eq-of-lt, div-div-eq-div-mul, mul-comm, one-mul, mod-eq-of-lt}
 use native.Mathlib.Omega.{arith}
 use native.Mathlib.Decide.{ℕ-discrete}
 use lib.Bits.{bitOr, bitAnd, bitXor, differ, or-lt, or-shr, and-shr, xor-shr, or-step, and-step, xor-step}
 use lib.Count.{trailingZeros, under, ones, ones-step}
-use lib.Pow.{pow-pos, pow-mono, pow-lt}
+use lib.Pow.{pow-pos, pow-mono, pow-lt, field, mod-mod-pow}
 use borrow.Author.Tests.{lt-ltb, le-ltb}
 use Rattle.common.specs.Sums.{when, sum}
 use Rattle.common.proofs.FromZero.{sum-front, sum-same, sum-each}
@@ -90,6 +90,17 @@ unfolding bit
 bit-above n x r h l =
     let g : x < 2 ^ r = omega (arith, pow-mono {i = n} {j = r} l) in
     rw (div-eq-of-lt g)
+
+-- the members below w, as the code masks them
+pub bit-below : (x w r : ℕ) → r < w → bit (x % 2 ^ w) r ≡ bit x r
+unfolding bit
+bit-below x w r l = ap (λ (n : ℕ). x % 2 ^ n / 2 ^ r % 2) from ∙ ap (λ (n : ℕ). n % 2) (field x (j + 1) r) ∙ mod-mod-pow (x / 2 ^ r) j 1
+  where
+    j : ℕ
+    j = w - 1 - r
+
+    from : w ≡ j + 1 + r
+    from = omega arith
 
 half-below : (n x : ℕ) → x < 2 ^ suc n → x / 2 < 2 ^ n
 half-below n x h = omega arith

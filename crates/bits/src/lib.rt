@@ -41,15 +41,20 @@ fn leave(x: u64, s: u32) -> u64
     p
 }
 
-// A row of s slots: the s lowest members of x. Where all have room there is nothing to pick.
+// A row of s slots: the s lowest members of x. Each rank below s has a slot in any row, so those are taken at once; the ones of the row so far,
+// counted against the slots, say how many are free for the lowest of the others.
 pub fn row_of(x: u64, s: u32) -> u64
     ensures { λ r. ⌜ r ≡ served lowest s x ⌝ }
 {
-    if u64::count_ones(x) <= s {
-        x
-    } else {
-        x ^ leave(x, s)
+    if 64 <= s {
+        return x;
     }
+    let row = x & (shifted(s) - 1);
+    if row == x {
+        return row;
+    }
+    let free = s - u64::count_ones(row);
+    x ^ leave(x ^ row, free)
 }
 
 // The highest common factor: each step takes a remainder that falls.
