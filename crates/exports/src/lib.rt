@@ -34,11 +34,13 @@ pub extern "C" fn planner_pnet(
     rounds: &mut [u32],
     place: &mut u64,
 ) -> u64
-    ensures { λ r. ⌜ r ≡ pnetNumber (Planned.planOf (Planned.planned (now (s .entry)) (length (now (bound .entry))) (length (now (refined .entry))) (length (now (rounds .entry))))) ⌝ }
-    ensures { λ _. ⌜ now (place .exit) ≡ pnetPlace (Planned.planOf (Planned.planned (now (s .entry)) (length (now (bound .entry))) (length (now (refined .entry))) (length (now (rounds .entry))))) ⌝ }
-    ensures { λ _. ⌜ now (bound .exit) ≡ Planned.runOf (Planned.planned (now (s .entry)) (length (now (bound .entry))) (length (now (refined .entry))) (length (now (rounds .entry)))) Segment.bound (now (bound .entry)) ⌝ }
-    ensures { λ _. ⌜ now (refined .exit) ≡ Planned.runOf (Planned.planned (now (s .entry)) (length (now (bound .entry))) (length (now (refined .entry))) (length (now (rounds .entry)))) Refined.refined (now (refined .entry)) ⌝ }
-    ensures { λ _. ⌜ now (rounds .exit) ≡ Planned.runOf (Planned.planned (now (s .entry)) (length (now (bound .entry))) (length (now (refined .entry))) (length (now (rounds .entry)))) Refined.rounds (now (rounds .entry)) ⌝ }
+    ensures { λ r.
+        let outcome = Planned.planned (now (s .entry)) (length (now (bound .entry))) (length (now (refined .entry))) (length (now (rounds .entry))) in
+        ⌜ (r ≡ pnetNumber (Planned.planOf outcome))
+        × (now (place .exit) ≡ pnetPlace (Planned.planOf outcome))
+        × (now (bound .exit) ≡ Planned.runOf outcome Segment.bound (now (bound .entry)))
+        × (now (refined .exit) ≡ Planned.runOf outcome Refined.refined (now (refined .entry)))
+        × (now (rounds .exit) ≡ Planned.runOf outcome Refined.rounds (now (rounds .entry))) ⌝ }
 {
     match pnet::plan(s, bound, refined, rounds) {
         pnet::Plan::Accepted {
@@ -89,12 +91,14 @@ pub extern "C" fn planner_capture(
     left: &mut [u8],
     place: &mut u64,
 ) -> u64
-    ensures { λ r. ⌜ r ≡ captureNumber (Planned.planOf (compared (now (s .entry)) (now (c .entry)) (length (now (answers .entry))) (length (now (largest .entry))) (length (now (above .entry))) (length (now (left .entry))))) ⌝ }
-    ensures { λ _. ⌜ now (place .exit) ≡ pnetPlace (Planned.planOf (compared (now (s .entry)) (now (c .entry)) (length (now (answers .entry))) (length (now (largest .entry))) (length (now (above .entry))) (length (now (left .entry))))) ⌝ }
-    ensures { λ _. ⌜ now (answers .exit) ≡ streamRun (compared (now (s .entry)) (now (c .entry)) (length (now (answers .entry))) (length (now (largest .entry))) (length (now (above .entry))) (length (now (left .entry)))) (answeredOf (now (c .entry))) (now (answers .entry)) ⌝ }
-    ensures { λ _. ⌜ now (largest .exit) ≡ streamRun (compared (now (s .entry)) (now (c .entry)) (length (now (answers .entry))) (length (now (largest .entry))) (length (now (above .entry))) (length (now (left .entry)))) (largestOf (now (c .entry))) (now (largest .entry)) ⌝ }
-    ensures { λ _. ⌜ now (above .exit) ≡ streamRun (compared (now (s .entry)) (now (c .entry)) (length (now (answers .entry))) (length (now (largest .entry))) (length (now (above .entry))) (length (now (left .entry)))) (aboveOf (now (c .entry))) (now (above .entry)) ⌝ }
-    ensures { λ _. ⌜ now (left .exit) ≡ streamRun (compared (now (s .entry)) (now (c .entry)) (length (now (answers .entry))) (length (now (largest .entry))) (length (now (above .entry))) (length (now (left .entry)))) (leftOf (now (c .entry))) (now (left .entry)) ⌝ }
+    ensures { λ r.
+        let outcome = compared (now (s .entry)) (now (c .entry)) (length (now (answers .entry))) (length (now (largest .entry))) (length (now (above .entry))) (length (now (left .entry))) in
+        ⌜ (r ≡ captureNumber (Planned.planOf outcome))
+        × (now (place .exit) ≡ pnetPlace (Planned.planOf outcome))
+        × (now (answers .exit) ≡ streamRun outcome (answeredOf (now (c .entry))) (now (answers .entry)))
+        × (now (largest .exit) ≡ streamRun outcome (largestOf (now (c .entry))) (now (largest .entry)))
+        × (now (above .exit) ≡ streamRun outcome (aboveOf (now (c .entry))) (now (above .entry)))
+        × (now (left .exit) ≡ streamRun outcome (leftOf (now (c .entry))) (now (left .entry))) ⌝ }
 {
     match capture::compare(s, c, answers, largest, above, left) {
         pnet::Plan::Accepted {

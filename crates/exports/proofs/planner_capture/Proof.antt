@@ -42,7 +42,7 @@ returns : tie.Need-returns
 returns c =
     let known = c .before .before .before .before .before .before .before .before .before .before .before .before .before .compare .ensures in
     let answer = sym (c .before .before .before .streams .given .1) ∙ known .0 in
-    (c .told .ensures .0 ∙ ap captureNumber answer, (c .told .ensures .1 ∙ ap pnetPlace answer, known .1))
+    (c .told .ensures .0 ∙ ap captureNumber answer, c .told .ensures .1 ∙ ap pnetPlace answer, known .1, known .2, known .3, known .4)
 
 same-length-5 : tie.Need-same-length-5
 same-length-5 c = search needs
@@ -60,7 +60,7 @@ returns-2 : tie.Need-returns-2
 returns-2 c =
     let known = c .before .before .before .before .before .before .before .before .before .before .before .before .before .compare .ensures in
     let answer = sym (c .before .before .before .no .given .1) ∙ known .0 in
-    (c .told2 .ensures .0 ∙ ap captureNumber answer, (c .told2 .ensures .1 ∙ ap pnetPlace answer, known .1))
+    (c .told2 .ensures .0 ∙ ap captureNumber answer, c .told2 .ensures .1 ∙ ap pnetPlace answer, known .1, known .2, known .3, known .4)
 
 pub planner-capture-spec : {M : Type 1} → statement M
 planner-capture-spec =
