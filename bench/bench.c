@@ -1,5 +1,5 @@
 /*
- * The time of one plan, the proved planners beside the plain C ones, on sheets and captures made here.
+ * The time of one plan, the proved planners beside the plain C ones, on sheets and captures made here; and whether the two answer alike.
  *
  * Both are compiled for x86-64 by the same compiler at -O3 and called in the same process. Each figure is the best of
  * many batches, so that a pause of the machine counts for nothing. No buffer is cleared between plans.
@@ -15,23 +15,27 @@ struct timespec {
 };
 int clock_gettime(int clock, struct timespec *now);
 
-/* the proved planners, from the crate `exports`: a count, or 2^32 and the refusal's number */
+/* the proved planners, from the crate `exports`: a figure, or 2^32 and the refusal's number; *place is always set, to the refusal's
+   place, else to 0, or to the stream that limits a ring */
 uint64_t planner_pnet(const uint8_t *s, size_t n, uint32_t *bound, size_t bn, uint32_t *refined, size_t rn,
-                      uint32_t *rounds, size_t cn);
-uint64_t planner_profibus(const uint8_t *s, size_t n);
-uint64_t planner_worldfip(const uint8_t *s, size_t n, uint64_t *rows, size_t rn);
+                      uint32_t *rounds, size_t cn, uint64_t *place);
+uint64_t planner_profibus(const uint8_t *s, size_t n, uint64_t *place);
+uint64_t planner_worldfip(const uint8_t *s, size_t n, uint64_t *rows, size_t rn, uint64_t *place);
 uint64_t planner_capture(const uint8_t *s, size_t n, const uint8_t *c, size_t m, uint64_t *answers, size_t an,
-                         uint32_t *largest, size_t ln, uint64_t *above, size_t bn, uint8_t *left, size_t on);
+                         uint32_t *largest, size_t ln, uint64_t *above, size_t bn, uint8_t *left, size_t on,
+                         uint64_t *place);
 
 static uint8_t sheet[16384];
 static size_t length;
 static uint32_t ours[3][32], theirs[3][32];
 static uint64_t our_rows[4096], their_rows[4096];
+static uint64_t our_place, their_place;
 
 enum { LONG = 150000, SHORT = 1460 }; /* records: about 1 MB and 10 KB */
 
 static uint8_t capture[7 * LONG];
 static uint32_t records; /* 0 while there is no capture */
+static size_t captured;  /* its bytes */
 /* what a capture shows of each stream */
 static struct shown {
     uint64_t answers[800], above[800];
@@ -129,59 +133,66 @@ static void capture_of(uint32_t streams, uint32_t count)
         waiting[i] ^= 1;
         clock += records % 4096 == 0 ? 1u << 30 : 120 + (uint32_t)(draw >> 56);
     }
+    captured = 7 * (size_t)records;
+}
+
+/* what a proved planner answered, as the plain ones do: 0 or the refusal's number */
+static int number_of(uint64_t answer)
+{
+    return (int)(answer >> 32 ? answer - (1ull << 32) : 0);
 }
 
 static int our_pnet(void)
 {
-    uint64_t r = planner_pnet(sheet, length, ours[0], 32, ours[1], 32, ours[2], 32);
-    return (int)(r >> 32 ? r - (1ull << 32) : 0);
+    return number_of(planner_pnet(sheet, length, ours[0], 32, ours[1], 32, ours[2], 32, &our_place));
 }
 
 static int their_pnet(void)
 {
-    uint64_t place;
-    return plain_pnet(sheet, length, theirs[0], 32, theirs[1], 32, theirs[2], 32, &place);
+    their_place = 0;
+    return plain_pnet(sheet, length, theirs[0], 32, theirs[1], 32, theirs[2], 32, &their_place);
 }
 
 static int our_profibus(void)
 {
-    uint64_t r = planner_profibus(sheet, length);
-    ours[0][0] = (uint32_t)r;
-    return (int)(r >> 32 ? r - (1ull << 32) : 0);
+    uint64_t answer = planner_profibus(sheet, length, &our_place);
+    if (answer >> 32 == 0)
+        ours[0][0] = (uint32_t)answer;
+    return number_of(answer);
 }
 
 static int their_profibus(void)
 {
-    uint64_t place;
     uint32_t stream;
-    return plain_profibus(sheet, length, &theirs[0][0], &stream, &place);
+    int refusal = plain_profibus(sheet, length, &theirs[0][0], &stream, &their_place);
+    if (refusal == 0)
+        their_place = stream;
+    return refusal;
 }
 
 static int our_worldfip(void)
 {
-    uint64_t r = planner_worldfip(sheet, length, our_rows, 4096);
-    return (int)(r >> 32 ? r - (1ull << 32) : 0);
+    return number_of(planner_worldfip(sheet, length, our_rows, 4096, &our_place));
 }
 
 static int their_worldfip(void)
 {
-    uint64_t place;
     uint32_t count;
-    return plain_worldfip(sheet, length, their_rows, 4096, &count, &place);
+    their_place = 0;
+    return plain_worldfip(sheet, length, their_rows, 4096, &count, &their_place);
 }
 
 static int our_capture(void)
 {
-    uint64_t r = planner_capture(sheet, length, capture, 7 * (size_t)records, we_saw.answers, 800, we_saw.largest, 800,
-                                 we_saw.above, 800, we_saw.left, 800);
-    return (int)(r >> 32 ? r - (1ull << 32) : 0);
+    return number_of(planner_capture(sheet, length, capture, captured, we_saw.answers, 800, we_saw.largest, 800,
+                                     we_saw.above, 800, we_saw.left, 800, &our_place));
 }
 
 static int their_capture(void)
 {
-    uint64_t place;
-    return plain_capture(sheet, length, capture, 7 * (size_t)records, they_saw.answers, 800, they_saw.largest, 800,
-                         they_saw.above, 800, they_saw.left, 800, &place);
+    their_place = 0;
+    return plain_capture(sheet, length, capture, captured, they_saw.answers, 800, they_saw.largest, 800,
+                         they_saw.above, 800, they_saw.left, 800, &their_place);
 }
 
 static double now(void)
@@ -241,10 +252,41 @@ static int agree(void)
 
 static int wrong;
 
+/* whether the two answer alike: the refusal's number, its place, and all results */
+static int alike(int (*proved)(void), int (*plain)(void), int *refusal)
+{
+    our_place = ~0ull; /* no place: what is not set is seen */
+    *refusal = plain();
+    return proved() == *refusal && our_place == their_place && agree();
+}
+
+/* Both on bytes that are cut and changed at each place: most of that is refused, each kind of refusal at many places. */
+static void spoiled(const char *name, uint8_t *bytes, size_t *size, int (*proved)(void), int (*plain)(void))
+{
+    static const uint8_t change[3] = {0, 1, 0x80}; /* 0: cut there */
+    size_t whole = *size;
+    long asked = 0, refused = 0, differ = 0;
+
+    for (size_t at = 0; at < whole; at++)
+        for (int i = 0; i < 3; i++) {
+            int refusal;
+
+            *size = i == 0 ? at : whole;
+            bytes[at] ^= change[i];
+            differ += !alike(proved, plain, &refusal);
+            bytes[at] ^= change[i];
+            refused += refusal != 0;
+            asked++;
+        }
+    *size = whole;
+    printf("%-44s %12ld asked %9ld refused %8ld differ\n", name, asked, refused, differ);
+    wrong |= differ != 0;
+}
+
 static void line(const char *name, int (*proved)(void), int (*plain)(void))
 {
-    int refusal = plain();
-    if (proved() != refusal || !agree()) {
+    int refusal;
+    if (!alike(proved, plain, &refusal)) {
         printf("%-44s the two differ\n", name);
         wrong = 1;
         return;
@@ -318,5 +360,17 @@ int main(void)
     line("10 KB, 20 masters, 800 streams", our_capture, their_capture);
     capture_of(800, LONG);
     line("1 MB, 20 masters, 800 streams", our_capture, their_capture);
+
+    printf("\n%s\n", "cut and changed at each byte: numbers, places and results");
+    pnet_sheet(10, 100, 100000);
+    spoiled("P-NET, 100 streams, 10 masters", sheet, &length, our_pnet, their_pnet);
+    profibus_sheet(10, 100);
+    spoiled("PROFIBUS, 10 masters, 100 streams", sheet, &length, our_profibus, their_profibus);
+    worldfip_sheet(16, 256, 8);
+    spoiled("WorldFIP, 16 variables, 256 rows", sheet, &length, our_worldfip, their_worldfip);
+    pnet_sheet(2, 3, 100000);
+    capture_of(3, 300);
+    spoiled("a sheet beside a capture", sheet, &length, our_capture, their_capture);
+    spoiled("a capture of 300 records", capture, &captured, our_capture, their_capture);
     return wrong;
 }

@@ -62,11 +62,14 @@ fn compare_to(
     left: &mut [u8],
 ) -> Plan
     requires { ⌜ (streams ≤ most) × (streams ≤ length (now answers)) × (streams ≤ length (now largest)) × (streams ≤ length (now above)) × (streams ≤ length (now left)) ⌝ }
-    ensures { λ r. ⌜ r ≡ planBy (heard (now (c .entry)) streams fresh) masters streams ⌝ }
-    ensures { λ _. ⌜ now (answers .exit) ≡ runBy (heard (now (c .entry)) streams fresh) (λ i. Log.answered (events (now (c .entry))) (i + 1)) streams (now (answers .entry)) ⌝ }
-    ensures { λ _. ⌜ now (largest .exit) ≡ runBy (heard (now (c .entry)) streams fresh) (λ i. Log.largest fresh (events (now (c .entry))) (i + 1)) streams (now (largest .entry)) ⌝ }
-    ensures { λ _. ⌜ now (above .exit) ≡ runBy (heard (now (c .entry)) streams fresh) (λ i. Log.above fresh (getD (now (bound .entry)) i 0) (events (now (c .entry))) (i + 1)) streams (now (above .entry)) ⌝ }
-    ensures { λ _. ⌜ now (left .exit) ≡ runBy (heard (now (c .entry)) streams fresh) (λ i. Log.left fresh (events (now (c .entry))) (i + 1)) streams (now (left .entry)) ⌝ }
+    ensures { λ r.
+        let told = heard (now (c .entry)) streams fresh in
+        let all = events (now (c .entry)) in
+        ⌜ (r ≡ planBy told masters streams)
+        × (now (answers .exit) ≡ runBy told (λ i. Log.answered all (i + 1)) streams (now (answers .entry)))
+        × (now (largest .exit) ≡ runBy told (λ i. Log.largest fresh all (i + 1)) streams (now (largest .entry)))
+        × (now (above .exit) ≡ runBy told (λ i. Log.above fresh (getD (now (bound .entry)) i 0) all (i + 1)) streams (now (above .entry)))
+        × (now (left .exit) ≡ runBy told (λ i. Log.left fresh all (i + 1)) streams (now (left .entry))) ⌝ }
 {
     let mut own_left = [0u8; MOST];
     let mut since = [0u32; MOST];
@@ -112,11 +115,13 @@ pub fn compare(
     above: &mut [u64],
     left: &mut [u8],
 ) -> Plan
-    ensures { λ r. ⌜ r ≡ planOf (compared (now (s .entry)) (now (c .entry)) (length (now (answers .entry))) (length (now (largest .entry))) (length (now (above .entry))) (length (now (left .entry)))) ⌝ }
-    ensures { λ _. ⌜ now (answers .exit) ≡ streamRun (compared (now (s .entry)) (now (c .entry)) (length (now (answers .entry))) (length (now (largest .entry))) (length (now (above .entry))) (length (now (left .entry)))) (answeredOf (now (c .entry))) (now (answers .entry)) ⌝ }
-    ensures { λ _. ⌜ now (largest .exit) ≡ streamRun (compared (now (s .entry)) (now (c .entry)) (length (now (answers .entry))) (length (now (largest .entry))) (length (now (above .entry))) (length (now (left .entry)))) (largestOf (now (c .entry))) (now (largest .entry)) ⌝ }
-    ensures { λ _. ⌜ now (above .exit) ≡ streamRun (compared (now (s .entry)) (now (c .entry)) (length (now (answers .entry))) (length (now (largest .entry))) (length (now (above .entry))) (length (now (left .entry)))) (aboveOf (now (c .entry))) (now (above .entry)) ⌝ }
-    ensures { λ _. ⌜ now (left .exit) ≡ streamRun (compared (now (s .entry)) (now (c .entry)) (length (now (answers .entry))) (length (now (largest .entry))) (length (now (above .entry))) (length (now (left .entry)))) (leftOf (now (c .entry))) (now (left .entry)) ⌝ }
+    ensures { λ r.
+        let outcome = compared (now (s .entry)) (now (c .entry)) (length (now (answers .entry))) (length (now (largest .entry))) (length (now (above .entry))) (length (now (left .entry))) in
+        ⌜ (r ≡ planOf outcome)
+        × (now (answers .exit) ≡ streamRun outcome (answeredOf (now (c .entry))) (now (answers .entry)))
+        × (now (largest .exit) ≡ streamRun outcome (largestOf (now (c .entry))) (now (largest .entry)))
+        × (now (above .exit) ≡ streamRun outcome (aboveOf (now (c .entry))) (now (above .entry)))
+        × (now (left .exit) ≡ streamRun outcome (leftOf (now (c .entry))) (now (left .entry))) ⌝ }
 {
     let room = shorter(
         answers.len(),

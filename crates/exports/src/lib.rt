@@ -1,5 +1,6 @@
-// The planners under plain names, for programs in other languages to link. Each answers one number: a figure where the sheet is
-// accepted, else 2^32 and the refusal's number.
+// The planners under plain names, for programs in other languages to link. Each answers one number, a figure where the sheet is
+// accepted, else 2^32 and the refusal's number; and a place, in a cell that is lent for it and always set: the refusal's, else 0, or the
+// stream that limits a ring.
 ghost use mathlib.Core.Path.{_≡_};
 ghost use lib.ListN.{length};
 ghost use Rattle.sheet.specs.Whole.{reading};
@@ -11,8 +12,18 @@ ghost use Rattle.worldfip.specs.Answer;
 ghost use Rattle.capture.specs.Compared.{compared, answeredOf, largestOf, aboveOf, leftOf};
 ghost use Rattle.limits.specs.Bounded.{streamRun};
 ghost use Rattle.exports.specs.Numbers.{pnetNumber, profibusNumber, worldfipNumber, captureNumber};
+ghost use Rattle.exports.specs.Numbers.{pnetPlace, profibusPlace, worldfipPlace};
 
 const REFUSED: u64 = 4294967296;
+
+// Answers a number, and sets the cell for the place.
+fn told(number: u64, at: usize, place: &mut u64) -> u64
+    ensures { λ r. ⌜ r ≡ number ⌝ }
+    ensures { λ _. ⌜ now (place .exit) ≡ at ⌝ }
+{
+    *place = at as u64;
+    number
+}
 
 // The masters of a P-NET segment; R, W and rounds go to the three runs.
 #[no_mangle]
@@ -21,39 +32,42 @@ pub extern "C" fn planner_pnet(
     bound: &mut [u32],
     refined: &mut [u32],
     rounds: &mut [u32],
+    place: &mut u64,
 ) -> u64
-    ensures { λ r. ⌜ r ≡ pnetNumber (Planned.planOf (Planned.planned (now (s .entry)) (length (now (bound .entry))) (length (now (refined .entry))) (length (now (rounds .entry))))) ⌝ }
-    ensures { λ _. ⌜ now (bound .exit) ≡ Planned.runOf (Planned.planned (now (s .entry)) (length (now (bound .entry))) (length (now (refined .entry))) (length (now (rounds .entry)))) Segment.bound (now (bound .entry)) ⌝ }
-    ensures { λ _. ⌜ now (refined .exit) ≡ Planned.runOf (Planned.planned (now (s .entry)) (length (now (bound .entry))) (length (now (refined .entry))) (length (now (rounds .entry)))) Refined.refined (now (refined .entry)) ⌝ }
-    ensures { λ _. ⌜ now (rounds .exit) ≡ Planned.runOf (Planned.planned (now (s .entry)) (length (now (bound .entry))) (length (now (refined .entry))) (length (now (rounds .entry)))) Refined.rounds (now (rounds .entry)) ⌝ }
+    ensures { λ r.
+        let outcome = Planned.planned (now (s .entry)) (length (now (bound .entry))) (length (now (refined .entry))) (length (now (rounds .entry))) in
+        ⌜ (r ≡ pnetNumber (Planned.planOf outcome))
+        × (now (place .exit) ≡ pnetPlace (Planned.planOf outcome))
+        × (now (bound .exit) ≡ Planned.runOf outcome Segment.bound (now (bound .entry)))
+        × (now (refined .exit) ≡ Planned.runOf outcome Refined.refined (now (refined .entry)))
+        × (now (rounds .exit) ≡ Planned.runOf outcome Refined.rounds (now (rounds .entry))) ⌝ }
 {
     match pnet::plan(s, bound, refined, rounds) {
         pnet::Plan::Accepted {
             masters,
             streams: _,
-        } => masters as u64,
-        pnet::Plan::Refused { no, place: _ } => REFUSED + no as u64,
+        } => told(masters as u64, 0, place),
+        pnet::Plan::Refused { no, place: at } => told(REFUSED + no as u64, at, place),
     }
 }
 
-// TTR of a PROFIBUS ring, in bp of that ring.
+// TTR of a PROFIBUS ring, in bp of that ring, and the stream that limits it in the place of a refusal's.
 #[no_mangle]
-pub extern "C" fn planner_profibus(s: &[u8]) -> u64
+pub extern "C" fn planner_profibus(s: &[u8], place: &mut u64) -> u64
     ensures { λ r. ⌜ r ≡ profibusNumber (Ring.planOf (reading (now (s .entry)))) ⌝ }
+    ensures { λ _. ⌜ now (place .exit) ≡ profibusPlace (Ring.planOf (reading (now (s .entry)))) ⌝ }
 {
     match profibus::plan(s) {
-        profibus::Plan::Target {
-            rotation,
-            stream: _,
-        } => rotation.0 as u64,
-        profibus::Plan::Refused { no, place: _ } => REFUSED + no as u64,
+        profibus::Plan::Target { rotation, stream } => told(rotation.0 as u64, stream, place),
+        profibus::Plan::Refused { no, place: at } => told(REFUSED + no as u64, at, place),
     }
 }
 
 // The rows of a WorldFIP table, which go to the run.
 #[no_mangle]
-pub extern "C" fn planner_worldfip(s: &[u8], rows: &mut [u64]) -> u64
+pub extern "C" fn planner_worldfip(s: &[u8], rows: &mut [u64], place: &mut u64) -> u64
     ensures { λ r. ⌜ r ≡ worldfipNumber (Answer.planOf (reading (now (s .entry))) (length (now (rows .entry)))) ⌝ }
+    ensures { λ _. ⌜ now (place .exit) ≡ worldfipPlace (Answer.planOf (reading (now (s .entry))) (length (now (rows .entry)))) ⌝ }
     ensures { λ _. ⌜ now (rows .exit) ≡ Answer.runOf (reading (now (s .entry))) (now (rows .entry)) ⌝ }
 {
     match worldfip::plan(s, rows) {
@@ -61,8 +75,8 @@ pub extern "C" fn planner_worldfip(s: &[u8], rows: &mut [u64]) -> u64
             microcycle: _,
             slots: _,
             rows: count,
-        } => count as u64,
-        worldfip::Plan::Refused { no, place: _ } => REFUSED + no as u64,
+        } => told(count as u64, 0, place),
+        worldfip::Plan::Refused { no, place: at } => told(REFUSED + no as u64, at, place),
     }
 }
 
@@ -75,18 +89,22 @@ pub extern "C" fn planner_capture(
     largest: &mut [u32],
     above: &mut [u64],
     left: &mut [u8],
+    place: &mut u64,
 ) -> u64
-    ensures { λ r. ⌜ r ≡ captureNumber (Planned.planOf (compared (now (s .entry)) (now (c .entry)) (length (now (answers .entry))) (length (now (largest .entry))) (length (now (above .entry))) (length (now (left .entry))))) ⌝ }
-    ensures { λ _. ⌜ now (answers .exit) ≡ streamRun (compared (now (s .entry)) (now (c .entry)) (length (now (answers .entry))) (length (now (largest .entry))) (length (now (above .entry))) (length (now (left .entry)))) (answeredOf (now (c .entry))) (now (answers .entry)) ⌝ }
-    ensures { λ _. ⌜ now (largest .exit) ≡ streamRun (compared (now (s .entry)) (now (c .entry)) (length (now (answers .entry))) (length (now (largest .entry))) (length (now (above .entry))) (length (now (left .entry)))) (largestOf (now (c .entry))) (now (largest .entry)) ⌝ }
-    ensures { λ _. ⌜ now (above .exit) ≡ streamRun (compared (now (s .entry)) (now (c .entry)) (length (now (answers .entry))) (length (now (largest .entry))) (length (now (above .entry))) (length (now (left .entry)))) (aboveOf (now (c .entry))) (now (above .entry)) ⌝ }
-    ensures { λ _. ⌜ now (left .exit) ≡ streamRun (compared (now (s .entry)) (now (c .entry)) (length (now (answers .entry))) (length (now (largest .entry))) (length (now (above .entry))) (length (now (left .entry)))) (leftOf (now (c .entry))) (now (left .entry)) ⌝ }
+    ensures { λ r.
+        let outcome = compared (now (s .entry)) (now (c .entry)) (length (now (answers .entry))) (length (now (largest .entry))) (length (now (above .entry))) (length (now (left .entry))) in
+        ⌜ (r ≡ captureNumber (Planned.planOf outcome))
+        × (now (place .exit) ≡ pnetPlace (Planned.planOf outcome))
+        × (now (answers .exit) ≡ streamRun outcome (answeredOf (now (c .entry))) (now (answers .entry)))
+        × (now (largest .exit) ≡ streamRun outcome (largestOf (now (c .entry))) (now (largest .entry)))
+        × (now (above .exit) ≡ streamRun outcome (aboveOf (now (c .entry))) (now (above .entry)))
+        × (now (left .exit) ≡ streamRun outcome (leftOf (now (c .entry))) (now (left .entry))) ⌝ }
 {
     match capture::compare(s, c, answers, largest, above, left) {
         pnet::Plan::Accepted {
             masters: _,
             streams,
-        } => streams as u64,
-        pnet::Plan::Refused { no, place: _ } => REFUSED + no as u64,
+        } => told(streams as u64, 0, place),
+        pnet::Plan::Refused { no, place: at } => told(REFUSED + no as u64, at, place),
     }
 }

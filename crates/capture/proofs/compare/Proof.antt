@@ -50,7 +50,7 @@ returns c =
     let a = c .before .before .before .before .before .before .before .before .before .before .before .before .before .before .before .before .args in
     let o = told-refused _ (x .0 .0) (x .0 .1 .0) (sym (c .before .before .before .bounds .ensures .0) ∙ x .1) in
     let z = compared-refused (now (a .s)) (now (a .c)) (c .before .before .before .before .before .before .before .shorter3 .result) _ _ _ _ (room (c .before .before .before .before .before .before .before)) (x .0 .0) (x .0 .1 .0) o in
-    (rw z refl, (rw z refl, (rw z refl, (rw z refl, rw z refl))))
+    (rw z refl, rw z refl, rw z refl, rw z refl, rw z refl)
 
 same-length : tie.Need-same-length
 same-length c = search needs
@@ -73,16 +73,10 @@ returns-2 c =
     let run = run-compared (now (a .s)) (now (a .c)) (c .before .before .before .before .before .before .before .before .before .before .before .before .before .before .before .before .before .before .before .before .before .shorter3 .result) _ _ _ _ (room (c .before .before .before .before .before .before .before .before .before .before .before .before .before .before .before .before .before .before .before .before .before)) x in
     let bound = sheet-run x (now (a .c)) boundOf _ _ (c .before .before .before .before .before .before .before .before .before .before .before .before .before .before .before .before .before .bounds .ensures .1 .1 .0) in (
       k .0 ∙ plan-compared (now (a .s)) (now (a .c)) _ _ _ _ _ (room (c .before .before .before .before .before .before .before .before .before .before .before .before .before .before .before .before .before .before .before .before .before)) x,
-      (
-        k .1 .0 ∙ run (answeredOf (now (a .c))) _ _ (λ i l. refl),
-        (
-          k .1 .1 .0 ∙ run (largestOf (now (a .c))) _ _ (λ i l. refl),
-          (
-            k .1 .1 .1 .0 ∙ run (aboveOf (now (a .c))) _ _ (λ i l. ap (λ (R : ℕ). above fresh R (events (now (a .c))) (i + 1)) (bound i l)),
-            k .1 .1 .1 .1 ∙ run (leftOf (now (a .c))) _ _ (λ i l. refl),
-          ),
-        ),
-      ),
+      k .1 ∙ run (answeredOf (now (a .c))) _ _ (λ i l. refl),
+      k .2 ∙ run (largestOf (now (a .c))) _ _ (λ i l. refl),
+      k .3 ∙ run (aboveOf (now (a .c))) _ _ (λ i l. ap (λ (R : ℕ). above fresh R (events (now (a .c))) (i + 1)) (bound i l)),
+      k .4 ∙ run (leftOf (now (a .c))) _ _ (λ i l. refl),
     )
 
 pub compare-spec : {M : Type 1} → statement M

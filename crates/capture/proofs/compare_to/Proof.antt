@@ -24,7 +24,7 @@ returns c =
     let a = c .before .before .before .before .before .before .before .before .before .before .before .before .before .before .args in
     let x = c .before .taken .given in
     let h = whole-refused (now (a .c)) (a .streams) (c .before .before .before .before .before .before .before .before .before .before .before .before .before .before .pre .0) (x .0 .0) (x .0 .1 .0) (sym (c .before .before .before .take .ensures .0) ∙ x .1) in
-    (rw h refl, (rw h refl, (rw h refl, (rw h refl, rw h refl))))
+    (rw h refl, rw h refl, rw h refl, rw h refl, rw h refl)
 
 same-length : tie.Need-same-length
 same-length c = search needs
@@ -48,16 +48,10 @@ returns-2 c =
     let l = start .pre .0 in
     let m = start .good .0 .0 in (
       rw h refl,
-      (
-        handed (now (a .c)) (a .streams) _ _ _ _ _ h (k .0) (t .1 .1 .1 .0) (λ i x. answers-whole (now (a .c)) (a .streams) l m h i (omega arith)),
-        (
-          handed (now (a .c)) (a .streams) _ _ _ _ _ h (k .1 .0) (t .1 .1 .1 .1 .0) (λ i x. largest-whole (now (a .c)) (a .streams) l m h i (omega arith)),
-          (
-            handed (now (a .c)) (a .streams) _ _ _ _ _ h (k .1 .1 .0) (t .1 .1 .1 .1 .1) (λ i x. above-whole (now (a .c)) (a .streams) l m h i (omega arith) (now (a .bound))),
-            handed (now (a .c)) (a .streams) _ _ _ _ _ h (k .1 .1 .1) (t .1 .0) (λ i x. left-whole (now (a .c)) (a .streams) l m h i (omega arith)),
-          ),
-        ),
-      ),
+      handed (now (a .c)) (a .streams) _ _ _ _ _ h (k .0) (t .1 .1 .1 .0) (λ i x. answers-whole (now (a .c)) (a .streams) l m h i (omega arith)),
+      handed (now (a .c)) (a .streams) _ _ _ _ _ h (k .1 .0) (t .1 .1 .1 .1 .0) (λ i x. largest-whole (now (a .c)) (a .streams) l m h i (omega arith)),
+      handed (now (a .c)) (a .streams) _ _ _ _ _ h (k .1 .1 .0) (t .1 .1 .1 .1 .1) (λ i x. above-whole (now (a .c)) (a .streams) l m h i (omega arith) (now (a .bound))),
+      handed (now (a .c)) (a .streams) _ _ _ _ _ h (k .1 .1 .1) (t .1 .0) (λ i x. left-whole (now (a .c)) (a .streams) l m h i (omega arith)),
     )
 
 pub compare-to-spec : {M : Type 1} → statement M
