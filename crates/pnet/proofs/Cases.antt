@@ -88,16 +88,16 @@ module _ (s : List ℕ) (la lb lc : ℕ) where
 -- the answer r, and the runs a, b and c where x, y and z were lent
 abbrev pub Returned : List ℕ → List ℕ → List ℕ → List ℕ → Plan → List ℕ → List ℕ → List ℕ → Type 0
 Returned s x y z r a b c =
-    (r ≡ planOf (planned s (length x) (length y) (length z)))
-    × ((a ≡ runOf (planned s (length x) (length y) (length z)) bound x)
-    × ((b ≡ runOf (planned s (length x) (length y) (length z)) refined y)
-    × (c ≡ runOf (planned s (length x) (length y) (length z)) rounds z)))
+    let outcome = planned s (length x) (length y) (length z) in
+    (r ≡ planOf outcome) × (a ≡ runOf outcome bound x) × (b ≡ runOf outcome refined y) × (c ≡ runOf outcome rounds z)
 
 module _ (s x y z : List ℕ) where
   pub returned-refused : (n p : ℕ) → planned s (length x) (length y) (length z) ≡ Not n p → Returned s x y z (answer.Refused n p) x y z
   returned-refused n p e = (
     ap planOf (sym e),
-    (ap (λ (o : Outcome). runOf o bound x) (sym e), (ap (λ (o : Outcome). runOf o refined y) (sym e), ap (λ (o : Outcome). runOf o rounds z) (sym e))),
+    ap (λ (o : Outcome). runOf o bound x) (sym e),
+    ap (λ (o : Outcome). runOf o refined y) (sym e),
+    ap (λ (o : Outcome). runOf o rounds z) (sym e),
   )
 
   module _ (m : ℕ) (e : planned s (length x) (length y) (length z) ≡ Read (sheetIn s m)) (n : ℕ) (masters : n ≡ segmentIn s m .masters) where
@@ -111,7 +111,7 @@ module _ (s x y z : List ℕ) where
     unfolding segmentOf
     returned-read number a b c ea eb ec =
         let r : answer.Accepted n m ≡ planOf (Read (sheetIn s m)) = ap (λ (x : ℕ). answer.Accepted x m) masters ∙ ap (answer.Accepted (sheetIn s m .head .a)) number in
-        (r ∙ ap planOf (sym e), (run-read bound x a ea, (run-read refined y b eb, run-read rounds z c ec)))
+        (r ∙ ap planOf (sym e), run-read bound x a ea, run-read refined y b eb, run-read rounds z c ec)
 
 -- ---- Where the code ends with a segment's arrays
 

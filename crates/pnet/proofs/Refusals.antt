@@ -170,4 +170,4 @@ module _ (s : List ℕ) (la lb lc : ℕ) where
 
 pub outcomes-equal : (s x y z : List ℕ) (r r' : Plan) (a a' b b' c c' : List ℕ) → Returned s x y z r a b c → Returned s x y z r' a' b' c'
     → (r ≡ r') × (a ≡ a') × (b ≡ b') × (c ≡ c')
-outcomes-equal s x y z r r' a a' b b' c c' (er, (ea, (eb, ec))) (fr, (fa, (fb, fc))) = (er ∙ sym fr, ea ∙ sym fa, eb ∙ sym fb, ec ∙ sym fc)
+outcomes-equal s x y z r r' a a' b b' c c' (er, ea, eb, ec) (fr, fa, fb, fc) = (er ∙ sym fr, ea ∙ sym fa, eb ∙ sym fb, ec ∙ sym fc)

@@ -332,10 +332,12 @@ fn plan_segment(
 ) -> Plan
     requires { ⌜ Sheeted (now s) n streams first (now counts) (now longests) × (streams ≤ length (now spacings)) ⌝ }
     requires { ⌜ (n ≤ length (now bound)) × (n ≤ length (now refined)) × (n ≤ length (now rounds)) ⌝ }
-    ensures { λ r. ⌜ r ≡ planOf (planned (now (s .entry)) (length (now (bound .entry))) (length (now (refined .entry))) (length (now (rounds .entry)))) ⌝ }
-    ensures { λ r. ⌜ now (bound .exit) ≡ runOf (planned (now (s .entry)) (length (now (bound .entry))) (length (now (refined .entry))) (length (now (rounds .entry)))) Segment.bound (now (bound .entry)) ⌝ }
-    ensures { λ r. ⌜ now (refined .exit) ≡ runOf (planned (now (s .entry)) (length (now (bound .entry))) (length (now (refined .entry))) (length (now (rounds .entry)))) Refined.refined (now (refined .entry)) ⌝ }
-    ensures { λ r. ⌜ now (rounds .exit) ≡ runOf (planned (now (s .entry)) (length (now (bound .entry))) (length (now (refined .entry))) (length (now (rounds .entry)))) Refined.rounds (now (rounds .entry)) ⌝ }
+    ensures { λ r.
+        let outcome = planned (now (s .entry)) (length (now (bound .entry))) (length (now (refined .entry))) (length (now (rounds .entry))) in
+        ⌜ (r ≡ planOf outcome)
+        × (now (bound .exit) ≡ runOf outcome Segment.bound (now (bound .entry)))
+        × (now (refined .exit) ≡ runOf outcome Refined.refined (now (refined .entry)))
+        × (now (rounds .exit) ≡ runOf outcome Refined.rounds (now (rounds .entry))) ⌝ }
 {
     let mut holds = [0u32; 33];
     let mut ends = [0u32; 33];
@@ -375,10 +377,12 @@ fn plan_segment(
 
 // The plan of a sheet: R, W and rounds of masters 1..N into the first N places of the three runs, which keep what they had on a refusal.
 pub fn plan(s: &[u8], bound: &mut [u32], refined: &mut [u32], rounds: &mut [u32]) -> Plan
-    ensures { λ r. ⌜ r ≡ planOf (planned (now (s .entry)) (length (now (bound .entry))) (length (now (refined .entry))) (length (now (rounds .entry)))) ⌝ }
-    ensures { λ r. ⌜ now (bound .exit) ≡ runOf (planned (now (s .entry)) (length (now (bound .entry))) (length (now (refined .entry))) (length (now (rounds .entry)))) Segment.bound (now (bound .entry)) ⌝ }
-    ensures { λ r. ⌜ now (refined .exit) ≡ runOf (planned (now (s .entry)) (length (now (bound .entry))) (length (now (refined .entry))) (length (now (rounds .entry)))) Refined.refined (now (refined .entry)) ⌝ }
-    ensures { λ r. ⌜ now (rounds .exit) ≡ runOf (planned (now (s .entry)) (length (now (bound .entry))) (length (now (refined .entry))) (length (now (rounds .entry)))) Refined.rounds (now (rounds .entry)) ⌝ }
+    ensures { λ r.
+        let outcome = planned (now (s .entry)) (length (now (bound .entry))) (length (now (refined .entry))) (length (now (rounds .entry))) in
+        ⌜ (r ≡ planOf outcome)
+        × (now (bound .exit) ≡ runOf outcome Segment.bound (now (bound .entry)))
+        × (now (refined .exit) ≡ runOf outcome Refined.refined (now (refined .entry)))
+        × (now (rounds .exit) ≡ runOf outcome Refined.rounds (now (rounds .entry))) ⌝ }
 {
     let mut counts: [u8; 33] = [0; 33];
     let mut longests: [u32; 33] = [0; 33];

@@ -39,7 +39,7 @@ returns : tie.Need-returns
 returns c =
     let known = c .before .before .before .before .before .before .before .before .before .before .before .plan .ensures in
     let answer = sym (c .before .before .before .masters .given .1) ∙ known .0 in
-    (c .told .ensures .0 ∙ ap pnetNumber answer, c .told .ensures .1 ∙ ap pnetPlace answer, known .1 .0, known .1 .1 .0, known .1 .1 .1)
+    (c .told .ensures .0 ∙ ap pnetNumber answer, c .told .ensures .1 ∙ ap pnetPlace answer, known .1, known .2, known .3)
 
 same-length-4 : tie.Need-same-length-4
 same-length-4 c = search needs
@@ -54,7 +54,7 @@ returns-2 : tie.Need-returns-2
 returns-2 c =
     let known = c .before .before .before .before .before .before .before .before .before .before .before .plan .ensures in
     let answer = sym (c .before .before .before .no .given .1) ∙ known .0 in
-    (c .told2 .ensures .0 ∙ ap pnetNumber answer, c .told2 .ensures .1 ∙ ap pnetPlace answer, known .1 .0, known .1 .1 .0, known .1 .1 .1)
+    (c .told2 .ensures .0 ∙ ap pnetNumber answer, c .told2 .ensures .1 ∙ ap pnetPlace answer, known .1, known .2, known .3)
 
 pub planner-pnet-spec : {M : Type 1} → statement M
 planner-pnet-spec =

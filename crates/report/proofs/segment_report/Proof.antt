@@ -43,7 +43,7 @@ slice-aggregate-put-segment-3 c = search needs
 
 put-segment-requires : tie.Need-put-segment-requires
 put-segment-requires c κs =
-    let f = segment-of-runs (now (c .before .before .before .before .before .before .before .before .before .before .before .before .before .before .before .before .args .s)) _ _ _ _ _ zeros zeros zeros (sym (c .before .before .before .before .before .masters .given .1) ∙ c .before .before .before .before .before .before .before .before .before .before .plan .ensures .0) (c .before .before .before .before .before .before .before .before .before .before .plan .ensures .1 .0) (c .before .before .before .before .before .before .before .before .before .before .plan .ensures .1 .1 .0) (c .before .before .before .before .before .before .before .before .before .before .plan .ensures .1 .1 .1) in
+    let f = segment-of-runs (now (c .before .before .before .before .before .before .before .before .before .before .before .before .before .before .before .before .args .s)) _ _ _ _ _ zeros zeros zeros (sym (c .before .before .before .before .before .masters .given .1) ∙ c .before .before .before .before .before .before .before .before .before .before .plan .ensures .0) (c .before .before .before .before .before .before .before .before .before .before .plan .ensures .1) (c .before .before .before .before .before .before .before .before .before .before .plan .ensures .2) (c .before .before .before .before .before .before .before .before .before .before .plan .ensures .3) in
     let k = c .before .before .before .before .before .before .before .before .before .before .plan .kept in
     (omega (arith, f .0, k .1 .0), omega (arith, f .0, k .1 .1 .0), omega (arith, f .0, k .1 .1 .1 .0))
 
@@ -60,7 +60,7 @@ returns : tie.Need-returns
 unfolding segmentAccepts
 returns c =
     let e = sym (c .before .before .before .before .before .before .before .before .masters .given .1) ∙ c .before .before .before .before .before .before .before .before .before .before .before .before .before .plan .ensures .0 in
-    let f = segment-of-runs (now (c .before .before .before .before .before .before .before .before .before .before .before .before .before .before .before .before .before .before .before .args .s)) _ _ _ _ _ zeros zeros zeros e (c .before .before .before .before .before .before .before .before .before .before .before .before .before .plan .ensures .1 .0) (c .before .before .before .before .before .before .before .before .before .before .before .before .before .plan .ensures .1 .1 .0) (c .before .before .before .before .before .before .before .before .before .before .before .before .before .plan .ensures .1 .1 .1) in
+    let f = segment-of-runs (now (c .before .before .before .before .before .before .before .before .before .before .before .before .before .before .before .before .before .before .before .args .s)) _ _ _ _ _ zeros zeros zeros e (c .before .before .before .before .before .before .before .before .before .before .before .before .before .plan .ensures .1) (c .before .before .before .before .before .before .before .before .before .before .before .before .before .plan .ensures .2) (c .before .before .before .before .before .before .before .before .before .before .before .before .before .plan .ensures .3) in
     reports true (ap segmentAccepts e) (f .1) (c .before .before .put-segment .ensures)
 
 same-length-2 : tie.Need-same-length-2
