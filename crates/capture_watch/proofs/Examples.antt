@@ -4,9 +4,9 @@ use mathlib.Core.Path.{_≡_, refl}
 use mathlib.Core.Bool.{true, false}
 use mathlib.Core.List.{List, [], _∷_}
 use native.Mathlib.Omega.{arith}
-use Rattle.format.specs.Kinds.{within}
-use Rattle.log.specs.declared.Event.{Event}
-use Rattle.log.specs.Log.{asks, answers, stampAt, around, left}
+use Rattle.sheet_record.specs.Kinds.{within}
+use Rattle.capture_log.specs.declared.Event.{Event}
+use Rattle.capture_log.specs.Log.{asks, answers, stampAt, around, left}
 use Rattle.capture_watch.specs.Ages.{step, clock, far, broken, asked, early, soon, whose, beyond}
 use Rattle.capture_watch.specs.Follow.{began, ago, stepOf, tick, farOf, request, earlyOf, watchWith, seen, seenWith, followed}
 use Rattle.capture_watch.specs.Timed.{Timed}

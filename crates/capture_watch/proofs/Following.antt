@@ -9,10 +9,10 @@ use lib.ListN.{length, getD, set, length-set}
 use Rattle.common.specs.Runs.{tab}
 use Rattle.common.specs.Sums.{when}
 use Rattle.common.proofs.Runs.{Filling, filled-at, tab-places}
-use Rattle.format.proofs.Ranges.{Range, within-range}
-use Rattle.format.proofs.Tables.{both-true}
-use Rattle.log.specs.declared.Event.{Event}
-use Rattle.log.specs.Records.{size, metAt}
+use Rattle.sheet_record.proofs.Ranges.{Range, within-range}
+use Rattle.sheet_record.proofs.Tables.{both-true}
+use Rattle.capture_log.specs.declared.Event.{Event}
+use Rattle.capture_log.specs.Records.{size, metAt}
 use Rattle.capture_watch.specs.declared.Watch.{Watch}
 use Rattle.capture_watch.specs.Follow.{most, stepOf, tick, farOf, request, spot, earlyOf, watchWith, Seen, seen, seenWith, followed, metIn}
 

@@ -11,10 +11,10 @@ use lib.ListN.{length, getD, set}
 use lib.Seq.{getD-set-same, getD-set-other}
 use Rattle.common.specs.Sums.{when}
 use Rattle.common.proofs.Runs.{getD-tab}
-use Rattle.format.proofs.Ranges.{range-within}
-use Rattle.log.specs.declared.Event.{Event}
-use Rattle.log.specs.Log.{asks, around, fresh}
-use Rattle.log.specs.Log as Log
+use Rattle.sheet_record.proofs.Ranges.{range-within}
+use Rattle.capture_log.specs.declared.Event.{Event}
+use Rattle.capture_log.specs.Log.{asks, around, fresh}
+use Rattle.capture_log.specs.Log as Log
 use Rattle.capture_watch.specs.declared.Watch.{Watch}
 use Rattle.capture_watch.specs.Ages.{step, clock, far, broken, asked, early, soon, whose, beyond}
 use Rattle.capture_watch.specs.Follow.{most, began, ago, stepOf, tick, farOf, request, spot, earlyOf, watchWith, Seen, seen, seenWith, followed, overdueAt, overdueRun}

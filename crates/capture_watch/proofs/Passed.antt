@@ -7,11 +7,11 @@ use native.Mathlib.Omega.{arith}
 use lib.ListN.{length, getD}
 use Rattle.common.specs.Checks.Verdict.{Passed}
 use Rattle.common.specs.Sums.{up}
-use Rattle.log.specs.Log.{fresh}
-use Rattle.log.specs.Records.{size, eventsIn, records, heard}
-use Rattle.log.specs.Refusals.{Taken}
-use Rattle.log.proofs.Records.{met-whole}
-use Rattle.log.proofs.Refusals.{known-exactly, passed-exactly}
+use Rattle.capture_log.specs.Log.{fresh}
+use Rattle.capture_log.specs.Records.{size, eventsIn, records, heard}
+use Rattle.capture_log.specs.Refusals.{Taken}
+use Rattle.capture_log.proofs.Records.{met-whole}
+use Rattle.capture_log.proofs.Refusals.{known-exactly, passed-exactly}
 use Rattle.capture_watch.specs.Ages.{clock}
 use Rattle.capture_watch.specs.Follow.{most, began, seen, followed, metIn}
 use Rattle.capture_watch.specs.Timed.{Placed}

@@ -8,9 +8,9 @@ use native.Mathlib.Omega.{arith}
 use borrow.Author.Tests.{le-leb, lt-leb, leb-true, leb-false}
 use lib.Dec.{leb}
 use lib.ListN.{length, getD, length-append}
-use Rattle.log.specs.declared.Event.{Event}
-use Rattle.log.specs.Records.{size, eventAt, known, none, metAt}
-use Rattle.log.proofs.Joined.{event-front, event-behind}
+use Rattle.capture_log.specs.declared.Event.{Event}
+use Rattle.capture_log.specs.Records.{size, eventAt, known, none, metAt}
+use Rattle.capture_log.proofs.Joined.{event-front, event-behind}
 use Rattle.capture_watch.specs.Follow.{Seen, seenWith, followed, metIn}
 
 -- records behind others

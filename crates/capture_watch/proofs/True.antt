@@ -8,10 +8,10 @@ use mathlib.Core.List.{List, [], _∷_, _++_}
 use native.Mathlib.Omega.{arith}
 use borrow.Author.Tests.{le-leb, lt-leb, eq-eqb, eqb-true}
 use lib.Dec.{eqb}
-use Rattle.format.proofs.Tables.{both-true}
-use Rattle.log.specs.declared.Event.{Event}
-use Rattle.log.specs.Log.{asks, stampAt, around}
-use Rattle.log.proofs.Stamps.{true-response}
+use Rattle.sheet_record.proofs.Tables.{both-true}
+use Rattle.capture_log.specs.declared.Event.{Event}
+use Rattle.capture_log.specs.Log.{asks, stampAt, around}
+use Rattle.capture_log.proofs.Stamps.{true-response}
 use Rattle.capture_watch.specs.Ages.{clock, far, broken, asked}
 use Rattle.capture_watch.specs.Timed.{Timed, UpTo}
 use Rattle.capture_watch.specs.Timed.Timed.{one, next}

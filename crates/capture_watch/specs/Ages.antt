@@ -5,8 +5,8 @@ use mathlib.Core.Bool.{Bool, false, cond, not, _&&_, _||_}
 use mathlib.Core.List.{List, [], _∷_}
 use lib.Dec.{ltb, leb, eqb}
 use Rattle.common.specs.Sums.{when}
-use Rattle.log.specs.declared.Event.{Event}
-use Rattle.log.specs.Log.{asks, around, fresh, left}
+use Rattle.capture_log.specs.declared.Event.{Event}
+use Rattle.capture_log.specs.Log.{asks, around, fresh, left}
 
 -- ---- The clock
 

@@ -8,10 +8,10 @@ use lib.Dec.{ltb, leb, eqb}
 use lib.ListN.{getD, set}
 use Rattle.common.specs.Runs.{tab}
 use Rattle.common.specs.Sums.{when}
-use Rattle.format.specs.Kinds.{within}
-use Rattle.log.specs.declared.Event.{Event}
-use Rattle.log.specs.Log.{around}
-use Rattle.log.specs.Records.{size, metAt}
+use Rattle.sheet_record.specs.Kinds.{within}
+use Rattle.capture_log.specs.declared.Event.{Event}
+use Rattle.capture_log.specs.Log.{around}
+use Rattle.capture_log.specs.Records.{size, metAt}
 use Rattle.capture_watch.specs.declared.Watch.{Watch}
 
 -- no sheet has more streams

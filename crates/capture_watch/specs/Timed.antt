@@ -2,8 +2,8 @@
 use Prim.Native.Nat.{ℕ, _-_, _^_, _≤_, _<_}
 use mathlib.Core.List.{List, [], _∷_}
 use mathlib.Core.Path.{_≡_}
-use Rattle.log.specs.declared.Event.{Event}
-use Rattle.log.specs.Log.{stampAt}
+use Rattle.capture_log.specs.declared.Event.{Event}
+use Rattle.capture_log.specs.Log.{stampAt}
 use Rattle.capture_watch.specs.Follow.{most}
 
 -- every record's stream has a place

@@ -1,14 +1,14 @@
 // What a capture's bounds rest on: how long a request has been open, and how soon it came after its stream's previous one. A clock of 64
 // bits goes on where the tester's counter runs over; what is kept beside it is one place for each stream, the clock at its last request.
-use log::Event;
-use sheet::MOST;
+use capture_log::Event;
+use sheet_read::MOST;
 ghost use mathlib.Core.Path.{_≡_};
 ghost use mathlib.Core.Bool.{cond, not, _&&_};
 ghost use Prim.Native.Nat.{_+_, _/_, _%_, _^_};
 ghost use lib.Dec.{ltb, eqb};
 ghost use lib.ListN.{length};
 ghost use Rattle.common.specs.Sums.{when};
-ghost use Rattle.log.specs.Records.{size};
+ghost use Rattle.capture_log.specs.Records.{size};
 ghost use Rattle.capture_watch.specs.Follow;
 ghost use Rattle.capture_watch.specs.Follow.{most, ago, stepOf, tick, earlyOf, watchWith, seen, seenWith, followed, metIn, overdueRun};
 
@@ -42,7 +42,7 @@ fn step(w: Watch, stamp: u32) -> u32
     if w.clock == 0 {
         return 1;
     }
-    log::response(stamp, w.stamp)
+    capture_log::response(stamp, w.stamp)
 }
 
 // The clock at a record with this stamp.
@@ -136,10 +136,10 @@ fn follow_each(piece: &[u8], kept: Watch, spacing: &[u32], asked: &mut [u64]) ->
 {
     let mut w = kept;
     let mut at: usize = 0;
-    while log::SIZE <= piece.len() - at {
-        let e = log::event_at(piece, at);
+    while capture_log::SIZE <= piece.len() - at {
+        let e = capture_log::event_at(piece, at);
         w = follow_one(w, e, spacing, asked);
-        at += log::SIZE;
+        at += capture_log::SIZE;
     }
     w
 }

@@ -7,16 +7,16 @@ use mathlib.Core.List.{List, [], _∷_, List·Memᴰ, List·Memᴰ·not-nil, Lis
 use native.Mathlib.Omega.{arith}
 use lib.ListN.{length}
 use Rattle.common.specs.Checks.Verdict.{Passed}
-use Rattle.format.specs.Numbers.{be}
-use Rattle.sheet.specs.Whole.Outcome.{Read}
-use Rattle.segment.specs.Segment.{segmentOf, streamAt, bound}
+use Rattle.sheet_record.specs.Numbers.{be}
+use Rattle.sheet_read.specs.Whole.Outcome.{Read}
+use Rattle.pnet_rules.specs.Segment.{segmentOf, streamAt, bound}
 use Rattle.pnet_run.specs.Run.{Belongs, Request, request, answer, put, join, toward, on-way, next, Run, start, complete, arrive, serve}
 use Rattle.pnet_run.specs.Promise.{none, and, Spaced}
-use Rattle.log.specs.Log.{stampAt, fresh, largest, asks, answers, around, left, since, shown}
-use Rattle.log.specs.Records.{size, eventAt, eventsIn, heard}
-use Rattle.limits.specs.Bounded.{bounded, spacingOf, streamRun}
-use Rattle.capture.specs.Compared.{compared}
-use Rattle.capture.specs.Refusals.{Room}
+use Rattle.capture_log.specs.Log.{stampAt, fresh, largest, asks, answers, around, left, since, shown}
+use Rattle.capture_log.specs.Records.{size, eventAt, eventsIn, heard}
+use Rattle.pnet_bounds.specs.Bounded.{bounded, spacingOf, streamRun}
+use Rattle.capture_compare.specs.Compared.{compared}
+use Rattle.capture_compare.specs.Refusals.{Room}
 use Rattle.capture_watch.specs.Ages.{step, clock, asked, soon, beyond}
 use Rattle.capture_watch.specs.Follow.{most, began, seen, followed, metIn}
 use Rattle.demands.specs.Logged.{logOf, instantsOf, Close, one, and as near}

@@ -7,11 +7,11 @@ use mathlib.Core.Path.{_≡_}
 use mathlib.Core.List.{List}
 use lib.ListN.{length}
 use Rattle.common.specs.Checks.Verdict.{Passed}
-use Rattle.segment.specs.Segment.{Segment, bound}
+use Rattle.pnet_rules.specs.Segment.{Segment, bound}
 use Rattle.pnet_run.specs.Run.{Belongs, Request, Answer, Queues, Token, Run}
 use Rattle.pnet_run.specs.Promise.{Spaced, Accepted}
-use Rattle.log.specs.Log.{fresh, largest, above}
-use Rattle.log.specs.Records.{size, eventsIn, taken, heard}
+use Rattle.capture_log.specs.Log.{fresh, largest, above}
+use Rattle.capture_log.specs.Records.{size, eventsIn, taken, heard}
 use Rattle.demands.specs.Logged.{logOf}
 use Rattle.demands.proofs.Matching.{above-none, largest-most, all-within}
 use Rattle.demands.proofs.Passing.{all-pass, all-taken, none-refused}

@@ -8,22 +8,22 @@ use native.Mathlib.Omega.{arith}
 use lib.ListN.{length, getD}
 use Rattle.common.specs.Sums.{up}
 use Rattle.common.proofs.Runs.{filled-at}
-use Rattle.sheet.specs.Sheets.{Sheet}
-use Rattle.sheet.specs.Whole.{Outcome}
-use Rattle.sheet.specs.Whole.Outcome.{Read}
-use Rattle.segment.specs.Segment.{Segment, segmentOf, bound}
-use Rattle.pnet.specs.Planned.{planned, atPlace}
-use Rattle.pnet.proofs.Refusals as pnet
+use Rattle.sheet_read.specs.Sheets.{Sheet}
+use Rattle.sheet_read.specs.Whole.{Outcome}
+use Rattle.sheet_read.specs.Whole.Outcome.{Read}
+use Rattle.pnet_rules.specs.Segment.{Segment, segmentOf, bound}
+use Rattle.pnet_plan.specs.Planned.{planned, atPlace}
+use Rattle.pnet_plan.proofs.Refusals as pnet
 use Rattle.pnet_run.specs.Run.{Belongs, Request, Answer, Queues, Token, Run}
 use Rattle.pnet_run.specs.Promise.{Spaced, Accepted}
-use Rattle.log.specs.declared.Event.{Event}
-use Rattle.log.specs.Log.{fresh, largest, above}
-use Rattle.log.specs.Records.{size, eventsIn, records}
-use Rattle.log.proofs.Refusals.{passed-exactly}
-use Rattle.capture.specs.Compared.{compared, events, largestOf, aboveOf}
-use Rattle.limits.specs.Bounded.{boundOf, streamRun}
-use Rattle.capture.specs.Refusals.{Room}
-use Rattle.capture.proofs.Refusals.{accepted-exactly}
+use Rattle.capture_log.specs.declared.Event.{Event}
+use Rattle.capture_log.specs.Log.{fresh, largest, above}
+use Rattle.capture_log.specs.Records.{size, eventsIn, records}
+use Rattle.capture_log.proofs.Refusals.{passed-exactly}
+use Rattle.capture_compare.specs.Compared.{compared, events, largestOf, aboveOf}
+use Rattle.pnet_bounds.specs.Bounded.{boundOf, streamRun}
+use Rattle.capture_compare.specs.Refusals.{Room}
+use Rattle.capture_compare.proofs.Refusals.{accepted-exactly}
 use Rattle.demands.specs.Logged.{logOf}
 use Rattle.demands.proofs.Demand3.{accepted-as-demanded}
 use Rattle.demands.proofs.Captured.{no-answer-above-the-bound, each-largest-within-the-bound, the-capture-passes}

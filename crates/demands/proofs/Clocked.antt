@@ -10,13 +10,13 @@ use native.Mathlib.Decide.{ℕ-discrete}
 use native.Mathlib.Omega.{arith}
 use lib.Dec.{ltb, eqb}
 use borrow.Author.Tests.{le-ltb}
-use Rattle.segment.specs.Segment.{Segment, bound}
+use Rattle.pnet_rules.specs.Segment.{Segment, bound}
 use Rattle.pnet_run.specs.Run.{Belongs, Request, request, Answer, Queues, Token, Run, start, complete, arrive, travel, work, serve, skip}
 use Rattle.pnet_run.specs.Promise.{Apart, Spaced, Accepted}
 use Rattle.pnet_run.proofs.Past.{came-past, queue-came}
 use Rattle.pnet_run.proofs.Bound.{apart-before, apart-latest}
-use Rattle.log.specs.declared.Event.{Event}
-use Rattle.log.specs.Log.{stampAt, fresh, left}
+use Rattle.capture_log.specs.declared.Event.{Event}
+use Rattle.capture_log.specs.Log.{stampAt, fresh, left}
 use Rattle.capture_watch.specs.Ages.{clock, broken, asked, early, soon, whose, beyond}
 use Rattle.capture_watch.specs.Timed.{Timed, UpTo}
 use Rattle.capture_watch.specs.Timed.Timed.{one as begin, next}

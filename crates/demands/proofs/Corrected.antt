@@ -5,12 +5,12 @@ use mathlib.Core.Path.{_≡_}
 use mathlib.Core.List.{List}
 use native.Mathlib.Omega.{arith}
 use lib.ListN.{length}
-use Rattle.sheet.specs.Sheets.{Sheet}
-use Rattle.sheet.specs.Whole.Outcome.{Read}
-use Rattle.segment.specs.Segment.{segmentOf}
-use Rattle.segment.specs.Refined.{refined}
-use Rattle.segment.proofs.Figures.{refined-at-most-bound}
-use Rattle.pnet.specs.Planned.{planned}
+use Rattle.sheet_read.specs.Sheets.{Sheet}
+use Rattle.sheet_read.specs.Whole.Outcome.{Read}
+use Rattle.pnet_rules.specs.Segment.{segmentOf}
+use Rattle.pnet_rules.specs.Refined.{refined}
+use Rattle.pnet_rules.proofs.Figures.{refined-at-most-bound}
+use Rattle.pnet_plan.specs.Planned.{planned}
 use Rattle.pnet_run.specs.Run.{Request, Answer, Queues, Token, Run}
 use Rattle.pnet_run.specs.Promise.{Spaced, Answered}
 use Rattle.pnet_run.proofs.Demand.{each-request-is-answered-within-the-refined-figure}

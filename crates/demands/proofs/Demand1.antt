@@ -8,21 +8,21 @@ use native.Mathlib.Omega.{arith}
 use lib.ListN.{length, take}
 use Rattle.common.specs.Checks.{Verdict, verdict}
 use Rattle.common.specs.Checks.Verdict.{Passed, Refused}
-use Rattle.format.specs.declared.Record.{Record}
-use Rattle.writer.specs.declared.Put.the-variants as put
-use Rattle.writer.specs.Writing.{putAnswer, putBytes}
-use Rattle.writer.proofs.Writing.{refused-keeps}
-use Rattle.sheet.specs.Sheets.{Sheet}
-use Rattle.sheet.specs.Whole.{Outcome, reading, countsTold}
-use Rattle.sheet.specs.Whole.Outcome.{Read, Not}
-use Rattle.sheet.specs.Refusals.{Given}
-use Rattle.sheet.specs.Lengths.{enough}
-use Rattle.sheet.proofs.Refusals.{refused-exactly}
-use Rattle.sheet.proofs.Lengths.{reading-prefix}
-use Rattle.segment.specs.Segment.{Segment}
-use Rattle.pnet.specs.Planned.{planned, runOf}
-use Rattle.worldfip.specs.Answer as fip
-use Rattle.worldfip.specs.declared.answer.Plan.the-variants as plan
+use Rattle.sheet_record.specs.declared.Record.{Record}
+use Rattle.sheet_write.specs.declared.Put.the-variants as put
+use Rattle.sheet_write.specs.Writing.{putAnswer, putBytes}
+use Rattle.sheet_write.proofs.Writing.{refused-keeps}
+use Rattle.sheet_read.specs.Sheets.{Sheet}
+use Rattle.sheet_read.specs.Whole.{Outcome, reading, countsTold}
+use Rattle.sheet_read.specs.Whole.Outcome.{Read, Not}
+use Rattle.sheet_read.specs.Refusals.{Given}
+use Rattle.sheet_read.specs.Lengths.{enough}
+use Rattle.sheet_read.proofs.Refusals.{refused-exactly}
+use Rattle.sheet_read.proofs.Lengths.{reading-prefix}
+use Rattle.pnet_rules.specs.Segment.{Segment}
+use Rattle.pnet_plan.specs.Planned.{planned, runOf}
+use Rattle.worldfip_plan.specs.Answer as fip
+use Rattle.worldfip_plan.specs.declared.answer.Plan.the-variants as plan
 
 -- ---- 'Every byte sequence offered as a sheet gets an answer.'
 

@@ -5,32 +5,32 @@ use mathlib.Core.Path.{_≡_, refl}
 use mathlib.Core.List.{List}
 use mathlib.Core.Logic.{_↔_}
 use lib.ListN.{length, getD, take}
-use Rattle.format.specs.declared.Record.{Record}
-use Rattle.sheet.specs.Sheets.{Sheet, sheetOf}
-use Rattle.sheet.specs.Whole.{reading}
-use Rattle.sheet.specs.Whole.Outcome.{Read, Not}
-use Rattle.sheet.specs.Records.{recordsIn, Right, Writes}
-use Rattle.sheet.proofs.Known.{reading-read}
-use Rattle.sheet.proofs.Writes.{writes-read, read-writes}
-use Rattle.segment.specs.Segment.{Segment, count, turn, bound}
-use Rattle.segment.specs.Refined.{valueOf, right, rounds, refined}
-use Rattle.segment.proofs.Figures as figures
-use Rattle.pnet.specs.Planned.{planned}
-use Rattle.pnet.specs.Refusals as late
-use Rattle.pnet.proofs.Refusals as pnet
-use Rattle.ring.specs.Ring.{Ring}
-use Rattle.ring.specs.Target.{AllPass, Limited}
-use Rattle.ring.proofs.Answer as ring
-use Rattle.profibus.specs.Planned.{planOf, Answers}
-use Rattle.profibus.specs.declared.answer.Plan.{Plan}
-use Rattle.profibus.proofs.Answers as profibus
-use Rattle.table.specs.Table.{Table}
-use Rattle.table.specs.Traffic.{Traffic, Declared, rows, askedOf, rowOf, missOf}
-use Rattle.table.proofs.Promises as promises
-use Rattle.worldfip.specs.Answer as table
-use Rattle.worldfip.specs.Refusals as fip
-use Rattle.worldfip.specs.declared.answer.Plan as tablePlan
-use Rattle.worldfip.proofs.Refusals as worldfip
+use Rattle.sheet_record.specs.declared.Record.{Record}
+use Rattle.sheet_read.specs.Sheets.{Sheet, sheetOf}
+use Rattle.sheet_read.specs.Whole.{reading}
+use Rattle.sheet_read.specs.Whole.Outcome.{Read, Not}
+use Rattle.sheet_read.specs.Records.{recordsIn, Right, Writes}
+use Rattle.sheet_read.proofs.Known.{reading-read}
+use Rattle.sheet_read.proofs.Writes.{writes-read, read-writes}
+use Rattle.pnet_rules.specs.Segment.{Segment, count, turn, bound}
+use Rattle.pnet_rules.specs.Refined.{valueOf, right, rounds, refined}
+use Rattle.pnet_rules.proofs.Figures as figures
+use Rattle.pnet_plan.specs.Planned.{planned}
+use Rattle.pnet_plan.specs.Refusals as late
+use Rattle.pnet_plan.proofs.Refusals as pnet
+use Rattle.profibus_rules.specs.Ring.{Ring}
+use Rattle.profibus_rules.specs.Target.{AllPass, Limited}
+use Rattle.profibus_rules.proofs.Answer as ring
+use Rattle.profibus_plan.specs.Planned.{planOf, Answers}
+use Rattle.profibus_plan.specs.declared.answer.Plan.{Plan}
+use Rattle.profibus_plan.proofs.Answers as profibus
+use Rattle.worldfip_rules.specs.Table.{Table}
+use Rattle.worldfip_rules.specs.Traffic.{Traffic, Declared, rows, askedOf, rowOf, missOf}
+use Rattle.worldfip_rules.proofs.Promises as promises
+use Rattle.worldfip_plan.specs.Answer as table
+use Rattle.worldfip_plan.specs.Refusals as fip
+use Rattle.worldfip_plan.specs.declared.answer.Plan as tablePlan
+use Rattle.worldfip_plan.proofs.Refusals as worldfip
 
 -- ---- 'P-NET bounds and the least refined solution'
 

@@ -9,15 +9,15 @@ use native.Mathlib.Omega.{arith}
 use borrow.Author.Tests.{le-ltb}
 use lib.ListN.{length, getD}
 use Rattle.common.proofs.Runs.{filled-at}
-use Rattle.sheet.specs.Sheets.{Sheet}
-use Rattle.sheet.specs.Whole.Outcome.{Read}
-use Rattle.sheet.proofs.Known.{reading-read}
-use Rattle.segment.specs.Segment.{Segment, segmentOf, count, bound, late}
-use Rattle.segment.specs.Limits.{Declared}
-use Rattle.segment.proofs.Declares.{declared}
-use Rattle.pnet.specs.Planned.{planned, atPlace, runOf}
-use Rattle.pnet.specs.Refusals as refusals
-use Rattle.pnet.proofs.Refusals.{accepted-exactly}
+use Rattle.sheet_read.specs.Sheets.{Sheet}
+use Rattle.sheet_read.specs.Whole.Outcome.{Read}
+use Rattle.sheet_read.proofs.Known.{reading-read}
+use Rattle.pnet_rules.specs.Segment.{Segment, segmentOf, count, bound, late}
+use Rattle.pnet_rules.specs.Limits.{Declared}
+use Rattle.pnet_rules.proofs.Declares.{declared}
+use Rattle.pnet_plan.specs.Planned.{planned, atPlace, runOf}
+use Rattle.pnet_plan.specs.Refusals as refusals
+use Rattle.pnet_plan.proofs.Refusals.{accepted-exactly}
 use Rattle.pnet_run.specs.Run.{Request, Answer, Queues, Token, Run}
 use Rattle.pnet_run.specs.Promise.{Spaced, Answered, Safe, Reached, Accepted, Even}
 use Rattle.pnet_run.proofs.Demand.{accepted-if-none-is-late, each-request-is-answered-within-the-bound, some-run-takes-exactly-the-bound, no-lower-figure-would-be-true}

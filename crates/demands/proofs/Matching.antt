@@ -24,8 +24,8 @@ use native.Mathlib.Omega.{arith}
 use lib.Dec.{ltb, eqb}
 use borrow.Author.Tests.{eq-eqb, ne-eqb, eqb-true, le-ltb}
 use Rattle.common.specs.Sums.{when}
-use Rattle.format.proofs.Tables.{both-true}
-use Rattle.segment.specs.Segment.{Segment, hold, boundBy, bound}
+use Rattle.sheet_record.proofs.Tables.{both-true}
+use Rattle.pnet_rules.specs.Segment.{Segment, hold, boundBy, bound}
 use Rattle.pnet_run.specs.Run.{
   Belongs,
   Request,
@@ -52,9 +52,9 @@ use Rattle.pnet_run.proofs.Charges.{in-ring, hold-covers}
 use Rattle.pnet_run.proofs.Queues.{put-same, put-other, owned}
 use Rattle.pnet_run.proofs.Answering.{NotLate}
 use Rattle.pnet_run.proofs.Bound.{apart-before, waits-in-time, answered-by, first-differs, none-waits}
-use Rattle.log.specs.declared.Event.{Event}
-use Rattle.log.specs.Log.{asks, answers, stampAt, fresh, left, since, shown, largest, above}
-use Rattle.log.proofs.Stamps.{true-response}
+use Rattle.capture_log.specs.declared.Event.{Event}
+use Rattle.capture_log.specs.Log.{asks, answers, stampAt, fresh, left, since, shown, largest, above}
+use Rattle.capture_log.proofs.Stamps.{true-response}
 use Rattle.demands.specs.Logged.{logOf}
 
 -- ---- One more record

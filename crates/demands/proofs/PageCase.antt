@@ -12,16 +12,16 @@ use lib.Dec.{eqb}
 use lib.ListN.{length, getD}
 use Rattle.common.specs.Checks.{verdict}
 use Rattle.common.specs.Sums.{upto, firstOf}
-use Rattle.format.specs.declared.Record.{Record}
-use Rattle.format.specs.Kinds.{kinds, fieldsOf, widths, sizeOf, known, fieldAt, decode, encode, body, limit, within, ranged, inRange, nothing}
-use Rattle.format.specs.Numbers.{be, digits}
-use Rattle.format.proofs.Tables.{both-true}
-use Rattle.sheet.specs.Sheets.{Sheet, streamsOf, headOf, sheetOf, fits, countOf, mostInAll, hasMaster, overLimit, metBefore}
-use Rattle.sheet.specs.Whole.{placeOf, recordsOf, recordChecks, endChecks, judge, ended, readFrom, reading}
-use Rattle.sheet.specs.Whole.Outcome.{Read}
-use Rattle.sheet.specs.Records.{recordsIn, bytesOf}
-use Rattle.segment.specs.Segment.{Segment, segmentOf, streamAt, owns, count, longest, hold, turnBy, boundBy, bound, late}
-use Rattle.pnet.specs.Planned.{firstLate, planChecks, planned}
+use Rattle.sheet_record.specs.declared.Record.{Record}
+use Rattle.sheet_record.specs.Kinds.{kinds, fieldsOf, widths, sizeOf, known, fieldAt, decode, encode, body, limit, within, ranged, inRange, nothing}
+use Rattle.sheet_record.specs.Numbers.{be, digits}
+use Rattle.sheet_record.proofs.Tables.{both-true}
+use Rattle.sheet_read.specs.Sheets.{Sheet, streamsOf, headOf, sheetOf, fits, countOf, mostInAll, hasMaster, overLimit, metBefore}
+use Rattle.sheet_read.specs.Whole.{placeOf, recordsOf, recordChecks, endChecks, judge, ended, readFrom, reading}
+use Rattle.sheet_read.specs.Whole.Outcome.{Read}
+use Rattle.sheet_read.specs.Records.{recordsIn, bytesOf}
+use Rattle.pnet_rules.specs.Segment.{Segment, segmentOf, streamAt, owns, count, longest, hold, turnBy, boundBy, bound, late}
+use Rattle.pnet_plan.specs.Planned.{firstLate, planChecks, planned}
 use Rattle.pnet_run.specs.Promise.{Safe, Reached, Even}
 use Rattle.demands.proofs.Demand3.{written, written-is-bound, some-run-takes-exactly-the-written-bound, no-lower-figure-than-the-written-would-be-true}
 

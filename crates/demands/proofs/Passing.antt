@@ -13,14 +13,14 @@ use Rattle.common.specs.Checks.Verdict.{Passed}
 use Rattle.common.specs.Sums.{up}
 use Rattle.common.proofs.Checks.{Clear, none, and, passed-if}
 use Rattle.common.proofs.Firsts.{found-none}
-use Rattle.format.proofs.Ranges.{range-within}
-use Rattle.segment.specs.Segment.{Segment}
+use Rattle.sheet_record.proofs.Ranges.{range-within}
+use Rattle.pnet_rules.specs.Segment.{Segment}
 use Rattle.pnet_run.specs.Run.{Belongs, Request, request, Answer, Queues, Token, Settled, Run, start, complete, arrive, travel, work, serve, skip}
 use Rattle.pnet_run.specs.Promise.{Spaced, Accepted}
 use Rattle.pnet_run.proofs.Queues.{owned}
-use Rattle.log.specs.declared.Event.{Event}
-use Rattle.log.specs.Log.{fresh, left}
-use Rattle.log.specs.Records.{size, eventAt, eventsIn, known, eventChecks, judge, isRefused, records, taken, heard}
+use Rattle.capture_log.specs.declared.Event.{Event}
+use Rattle.capture_log.specs.Log.{fresh, left}
+use Rattle.capture_log.specs.Records.{size, eventAt, eventsIn, known, eventChecks, judge, isRefused, records, taken, heard}
 use Rattle.demands.specs.Logged.{logOf}
 use Rattle.demands.proofs.Matching.{Is, earlier, alone, matches}
 

@@ -11,24 +11,24 @@ use borrow.Author.Tests.{leb-false, eqb-true, not-false}
 use lib.Dec.{ltb}
 use lib.ListN.{length}
 use Rattle.common.proofs.Checks.{Clear, none, and}
-use Rattle.sheet.specs.Sheets.{Sheet}
-use Rattle.sheet.specs.Whole.{Outcome, reading}
-use Rattle.sheet.specs.Whole.Outcome.{Read}
-use Rattle.segment.specs.Segment.{Segment, segmentOf}
-use Rattle.pnet.specs.Planned.{firstLate, segmentChecks}
-use Rattle.pnet.proofs.Refusals.{all-pass}
+use Rattle.sheet_read.specs.Sheets.{Sheet}
+use Rattle.sheet_read.specs.Whole.{Outcome, reading}
+use Rattle.sheet_read.specs.Whole.Outcome.{Read}
+use Rattle.pnet_rules.specs.Segment.{Segment, segmentOf}
+use Rattle.pnet_plan.specs.Planned.{firstLate, segmentChecks}
+use Rattle.pnet_plan.proofs.Refusals.{all-pass}
 use Rattle.pnet_run.specs.Run.{answer}
 use Rattle.pnet_run.specs.Promise.{Safe, Reached, Accepted, Even}
 use Rattle.pnet_run.proofs.Demand.{each-request-is-answered-within-the-bound, some-run-takes-exactly-the-bound}
 use Rattle.units.specs.Units.{bp}
-use Rattle.limits.specs.Sender.{sound}
-use Rattle.limits.proofs.Bounded.{bounded-passes}
-use Rattle.path.specs.declared.Crossing.the-variants as crossing
-use Rattle.path.specs.Path.{Path, gateways, sheetAt, boundFrom, boundAt, forwardingAt, segmentStep, gatewayStep, costOver, crossed}
-use Rattle.path.specs.Refusals.{Present, Sender, Accepted as AcceptedPath}
-use Rattle.path.proofs.Refusals.{accepted-exactly}
-use Rattle.path.specs.Ways.{answerOf, wayOver}
-use Rattle.path.proofs.Whole.{path-handed-over}
+use Rattle.pnet_bounds.specs.Sender.{sound}
+use Rattle.pnet_bounds.proofs.Bounded.{bounded-passes}
+use Rattle.pnet_path.specs.declared.Crossing.the-variants as crossing
+use Rattle.pnet_path.specs.Path.{Path, gateways, sheetAt, boundFrom, boundAt, forwardingAt, segmentStep, gatewayStep, costOver, crossed}
+use Rattle.pnet_path.specs.Refusals.{Present, Sender, Accepted as AcceptedPath}
+use Rattle.pnet_path.proofs.Refusals.{accepted-exactly}
+use Rattle.pnet_path.specs.Ways.{answerOf, wayOver}
+use Rattle.pnet_path.proofs.Whole.{path-handed-over}
 use Rattle.demands.specs.Relayed.{Sent, Forwarded, sent, arrived, through, Asked, Awaited, asked, no-further, sent-on, segmentFrom, segmentAt, senderAt, Exchange, OnItsWay}
 use Rattle.demands.proofs.Demand3.{accepted-on-bus}
 

@@ -8,7 +8,7 @@ use mathlib.Core.Path.{_≡_}
 use mathlib.Core.Bool.{false}
 use mathlib.Core.List.{List, _∷_}
 use native.Mathlib.Omega.{arith}
-use Rattle.segment.specs.Segment.{Segment, bound}
+use Rattle.pnet_rules.specs.Segment.{Segment, bound}
 use Rattle.pnet_run.specs.Run.{Belongs, Request, Answer, Queues, Token, Run}
 use Rattle.pnet_run.specs.Promise.{Spaced, Accepted}
 use Rattle.capture_watch.specs.Ages.{clock, broken, soon, whose, beyond}

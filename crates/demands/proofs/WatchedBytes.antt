@@ -12,20 +12,20 @@ use native.Mathlib.Omega.{arith}
 use lib.ListN.{length, getD, replicate, length-replicate}
 use Rattle.common.specs.Checks.Verdict.{Passed}
 use Rattle.common.proofs.Runs.{zero-at}
-use Rattle.sheet.specs.Sheets.{Sheet}
-use Rattle.sheet.specs.Whole.Outcome.{Read}
-use Rattle.segment.specs.Segment.{segmentOf}
-use Rattle.pnet.specs.Planned.{planned}
-use Rattle.pnet.proofs.Refusals.{accepted-exactly, pass-first}
+use Rattle.sheet_read.specs.Sheets.{Sheet}
+use Rattle.sheet_read.specs.Whole.Outcome.{Read}
+use Rattle.pnet_rules.specs.Segment.{segmentOf}
+use Rattle.pnet_plan.specs.Planned.{planned}
+use Rattle.pnet_plan.proofs.Refusals.{accepted-exactly, pass-first}
 use Rattle.pnet_run.specs.Run.{Belongs, Request, Answer, Queues, Token, Run}
 use Rattle.pnet_run.specs.Promise.{Spaced, Accepted}
-use Rattle.log.specs.Log.{fresh, left}
-use Rattle.log.specs.Records.{size, eventsIn, heard}
-use Rattle.limits.specs.Bounded.{bounded, boundOf, spacingOf, streamRun}
-use Rattle.limits.proofs.Bounded.{bounded-read}
-use Rattle.tally.specs.Pieces.{leftAfter}
-use Rattle.capture.specs.Compared.{events}
-use Rattle.capture.proofs.Told.{left-whole}
+use Rattle.capture_log.specs.Log.{fresh, left}
+use Rattle.capture_log.specs.Records.{size, eventsIn, heard}
+use Rattle.pnet_bounds.specs.Bounded.{bounded, boundOf, spacingOf, streamRun}
+use Rattle.pnet_bounds.proofs.Bounded.{bounded-read}
+use Rattle.capture_tally.specs.Pieces.{leftAfter}
+use Rattle.capture_compare.specs.Compared.{events}
+use Rattle.capture_compare.proofs.Told.{left-whole}
 use Rattle.capture_watch.specs.Ages.{clock, beyond}
 use Rattle.capture_watch.specs.Follow.{most, began, Seen, seen, followed, metIn, overdueRun}
 use Rattle.capture_watch.proofs.Means.{Keeps, overdue-means}

@@ -1,10 +1,10 @@
 -- Page 02, 'Ask 1', beside page 01, 'How a P-NET run goes': the capture of a run, and when its records were made. Assumes nothing.
 use Prim.Native.Nat.{ℕ, _+_, _^_, _<_}
 use mathlib.Core.List.{List, [], _∷_}
-use Rattle.segment.specs.Segment.{Segment}
+use Rattle.pnet_rules.specs.Segment.{Segment}
 use Rattle.pnet_run.specs.Run.{Request, Answer, Queues, Token, Run, start, complete, arrive, travel, work, serve, skip}
-use Rattle.log.specs.declared.Event.{Event}
-use Rattle.log.specs.Log.{stampAt}
+use Rattle.capture_log.specs.declared.Event.{Event}
+use Rattle.capture_log.specs.Log.{stampAt}
 
 -- what the tester records of a run that found its counter at z, the latest first: at an arrival 'kind 16 is a request entering its queue',
 -- at a completion 'kind 17 its completed answer', each with the stream and what the counter shows at that instant; nothing else

@@ -9,13 +9,13 @@
 --   costs the forwarding times once more', and no bound.
 use Prim.Native.Nat.{ℕ, zero, suc, _+_, _*_, _≤_}
 use mathlib.Core.List.{List, List·Memᴰ}
-use Rattle.format.specs.Kinds.{nothing}
-use Rattle.sheet.specs.Whole.{Outcome}
-use Rattle.sheet.specs.Whole.Outcome.{Read, Not}
-use Rattle.segment.specs.Segment.{Segment, streamOf, segmentOf}
+use Rattle.sheet_record.specs.Kinds.{nothing}
+use Rattle.sheet_read.specs.Whole.{Outcome}
+use Rattle.sheet_read.specs.Whole.Outcome.{Read, Not}
+use Rattle.pnet_rules.specs.Segment.{Segment, streamOf, segmentOf}
 use Rattle.pnet_run.specs.Run.{Belongs, Request, Answer, answer, Queues, Token, Run}
 use Rattle.pnet_run.specs.Promise.{Spaced, Lasts}
-use Rattle.path.specs.Path.{Path, gateways, sheetAt, boundAt, forwardingAt}
+use Rattle.pnet_path.specs.Path.{Path, gateways, sheetAt, boundAt, forwardingAt}
 
 -- segments S, their senders k, and the forwarding times F of the gateways behind them; a hop is a segment or a gateway
 mutual

@@ -11,9 +11,9 @@ use crate::words::from_standard_input;
 use crate::words::is_word;
 use crate::words::serves;
 use crate::words::show_word;
-use entry::Entered;
-use path::Crossing;
-use path::Way;
+use pnet_path::Crossing;
+use pnet_path::Way;
+use text_entry::Entered;
 use units::BitPeriods;
 ghost use Prim.Native.Nat.{_≤_};
 ghost use lib.ListN.{length};
@@ -23,7 +23,7 @@ ghost use lib.ListN.{length};
 fn number_at(i: usize) -> Entered {
     let mut word = io::buffer();
     let n = os::arg(i, &mut word);
-    entry::number(&word[..n])
+    text_entry::number(&word[..n])
 }
 
 // A master is a number, or M and two digits, as a report shows it.
@@ -31,9 +31,9 @@ fn master_at(i: usize) -> Entered {
     let mut word = io::buffer();
     let n = os::arg(i, &mut word);
     if (n == 3) & (word[0] == b'M') {
-        return entry::number(&word[1..3]);
+        return text_entry::number(&word[1..3]);
     }
-    entry::number(&word[..n])
+    text_entry::number(&word[..n])
 }
 
 fn is_number(entered: Entered) -> bool {
@@ -154,24 +154,24 @@ fn read_sheet(i: usize, sheet: &mut [u8]) -> Input
 fn write_sheet_refusal(way: Way) -> u8 {
     let mut text = io::buffer();
     let segment = way.segments as u64;
-    let n = path_report::put_sheet_refusal(&mut text, segment, way.no, way.place as u64);
+    let n = report_path::put_sheet_refusal(&mut text, segment, way.no, way.place as u64);
     output::report(&text, n, REFUSED)
 }
 
 fn write_path_refusal(no: u8, place: usize) -> u8 {
     let mut text = io::buffer();
-    let n = path_report::put_path_refusal(&mut text, no, place as u64);
+    let n = report_path::put_path_refusal(&mut text, no, place as u64);
     output::report(&text, n, REFUSED)
 }
 
 fn write_path(way: Way, total: BitPeriods, deadline: BitPeriods) -> u8 {
-    let mut text = path_report::text_buffer();
-    let n = path_report::put_path(&mut text, way, total, deadline);
+    let mut text = report_path::text_buffer();
+    let n = report_path::put_path(&mut text, way, total, deadline);
     output::report(&text, n, ACCEPTED)
 }
 
 fn write_answer(way: Way, deadline: BitPeriods) -> u8 {
-    let crossing = path::answer(way, deadline);
+    let crossing = pnet_path::answer(way, deadline);
     match crossing {
         Crossing::Within(total) => write_path(way, total, deadline),
         Crossing::Refused { no, place } => write_path_refusal(no, place),
@@ -182,18 +182,18 @@ fn write_answer(way: Way, deadline: BitPeriods) -> u8 {
 fn cross(segments: usize, deadline: BitPeriods) -> u8
     requires { ⌜ segments ≤ 4611686018427387903 ⌝ }
 {
-    let mut way = path::start();
+    let mut way = pnet_path::start();
     let mut j: usize = 0;
     while j < segments {
         let i = 4 * j + 2;
-        let mut sheet = report::sheet_buffer();
+        let mut sheet = report_sheet::sheet_buffer();
         let input = read_sheet(i + 2, &mut sheet);
         if input.failed {
             return FAILED;
         }
         let n = input.length;
         let time = BitPeriods(number_of(number_at(i)));
-        way = path::over(way, time, &sheet[..n], sender(i + 3));
+        way = pnet_path::over(way, time, &sheet[..n], sender(i + 3));
         if way.refused {
             return write_sheet_refusal(way);
         }

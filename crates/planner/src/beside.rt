@@ -1,4 +1,4 @@
-// A tester's capture beside the bounds of a sheet, read piece by piece: nothing is kept of a capture but what `tally::take` and
+// A tester's capture beside the bounds of a sheet, read piece by piece: nothing is kept of a capture but what `capture_tally::take` and
 // `capture_watch::follow` keep.
 use crate::input::read_all;
 use crate::output;
@@ -7,10 +7,10 @@ use crate::output::FAILED;
 use crate::output::REFUSED;
 use crate::output::complain;
 use crate::words::fail;
+use capture_tally::Taken;
 use capture_watch::Watch;
-use pnet::Plan;
-use sheet::MOST;
-use tally::Taken;
+use pnet_plan::Plan;
+use sheet_read::MOST;
 ghost use lib.ListN.{length};
 
 // So many whole records: a piece that fills the buffer ends with a record, and one that does not ends the capture.
@@ -22,14 +22,14 @@ const LAST: usize = 9_223_372_036_854_775_808;
 // A refusal of the sheet.
 fn write_refusal(no: u8, place: usize) -> u8 {
     let mut text = io::buffer();
-    let n = phrases::put_refusal(&mut text, 0, no, place as u64);
+    let n = report_phrases::put_refusal(&mut text, 0, no, place as u64);
     output::report(&text, n, REFUSED)
 }
 
 // A refusal of the capture.
 fn write_capture_refusal(no: u8, place: usize) -> u8 {
     let mut text = io::buffer();
-    let n = capture_report::put_capture_refusal(&mut text, no, place as u64);
+    let n = report_capture::put_capture_refusal(&mut text, no, place as u64);
     output::report(&text, n, REFUSED)
 }
 
@@ -41,7 +41,7 @@ fn status(
     late: &[u64; MOST],
     watch: Watch,
 ) -> u8 {
-    if capture_report::is_clean(streams, answers, above, late, watch.soon, watch.broken) {
+    if report_capture::is_clean(streams, answers, above, late, watch.soon, watch.broken) {
         ACCEPTED
     } else {
         REFUSED
@@ -61,8 +61,8 @@ fn write_capture(
 ) -> u8 {
     let mut late = [0u64; MOST];
     capture_watch::overdue(watch, bound, left, asked, &mut late);
-    let mut text = capture_report::text_buffer();
-    let n = capture_report::put_capture(
+    let mut text = report_capture::text_buffer();
+    let n = report_capture::put_capture(
         &mut text,
         streams,
         masters,
@@ -104,7 +104,7 @@ fn hear(
             return FAILED;
         }
         let n = input.length;
-        let taken = tally::take(
+        let taken = capture_tally::take(
             &piece[..n],
             streams,
             bound,
@@ -142,7 +142,7 @@ pub(crate) fn compare(sheet: &[u8], fd: i32, name: &[u8]) -> u8 {
     let mut masters = [0u8; MOST];
     let mut bound = [0u32; MOST];
     let mut spacing = [0u32; MOST];
-    match limits::bounds(sheet, MOST, &mut masters, &mut bound, &mut spacing) {
+    match pnet_bounds::bounds(sheet, MOST, &mut masters, &mut bound, &mut spacing) {
         Plan::Accepted {
             masters: _,
             streams,

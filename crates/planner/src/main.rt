@@ -16,13 +16,13 @@ use output::FAILED;
 use output::REFUSED;
 use output::complain;
 use output::unless_cut;
-use report::Reported;
+use report_sheet::Reported;
 
 // ---- Reports
 
 fn write_report(s: &[u8]) -> u8 {
-    let mut text = report::text_buffer();
-    match report::report(s, &mut text) {
+    let mut text = report_sheet::text_buffer();
+    match report_sheet::report(s, &mut text) {
         Reported::Accepted(n) => output::report(&text, n, ACCEPTED),
         Reported::Refused(n) => output::report(&text, n, REFUSED),
         Reported::NoRoom => FAILED,
@@ -31,7 +31,7 @@ fn write_report(s: &[u8]) -> u8 {
 
 // Plans what can be read; bytes behind a full buffer change no report.
 fn plan(fd: i32, name: &[u8]) -> u8 {
-    let mut sheet = report::sheet_buffer();
+    let mut sheet = report_sheet::sheet_buffer();
     let input = read_sheet(fd, name, &mut sheet);
     if input.failed {
         return FAILED;
@@ -52,7 +52,7 @@ fn plan_file(name: &[u8]) -> u8 {
 
 // Reads the sheet; then the capture is heard.
 fn compare(sheet_fd: i32, sheet_name: &[u8], fd: i32, name: &[u8]) -> u8 {
-    let mut sheet = report::sheet_buffer();
+    let mut sheet = report_sheet::sheet_buffer();
     let input = read_sheet(sheet_fd, sheet_name, &mut sheet);
     if input.failed {
         return FAILED;

@@ -11,7 +11,7 @@ use lib.Dec.{eqb, leb}
 use borrow.Author.Tests.{eq-eqb, ne-eqb, eqb-true, leb-true, le-leb}
 use Rattle.common.specs.Sums.{when, upto}
 use Rattle.common.proofs.Sums.{upto-but-one}
-use Rattle.segment.specs.Segment.{Segment}
+use Rattle.pnet_rules.specs.Segment.{Segment}
 use Rattle.pnet_run.specs.Run.{
   Belongs,
   Request,

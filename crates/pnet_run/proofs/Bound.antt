@@ -22,7 +22,7 @@ use lib.Dec.{leb}
 use lib.ListN.{length}
 use borrow.Author.Tests.{le-leb}
 use Rattle.common.specs.Sums.{when}
-use Rattle.segment.specs.Segment.{Segment, turnBy, boundBy, count}
+use Rattle.pnet_rules.specs.Segment.{Segment, turnBy, boundBy, count}
 use Rattle.pnet_run.specs.Run.{
   Belongs,
   Request,

@@ -9,9 +9,9 @@ use lib.Dec.{eqb}
 use borrow.Author.Tests.{eq-eqb, eqb-true}
 use Rattle.common.specs.Sums.{when, upto}
 use Rattle.common.proofs.Sums.{greatest-least}
-use Rattle.segment.specs.Segment.{Segment, owns, count, longest, hold}
-use Rattle.segment.specs.Limits.{Declared}
-use Rattle.segment.proofs.Holds.{count-owned, cycle-at-most-longest, hold-some, hold-at-least, cycle-held}
+use Rattle.pnet_rules.specs.Segment.{Segment, owns, count, longest, hold}
+use Rattle.pnet_rules.specs.Limits.{Declared}
+use Rattle.pnet_rules.proofs.Holds.{count-owned, cycle-at-most-longest, hold-some, hold-at-least, cycle-held}
 use Rattle.pnet_run.specs.Run.{Belongs}
 
 -- ---- A stream of master m

@@ -5,7 +5,7 @@ use mathlib.Core.Bool.{_&&_}
 use mathlib.Core.List.{List, [], _∷_}
 use lib.Dec.{eqb, leb}
 use Rattle.common.specs.Sums.{when}
-use Rattle.segment.specs.Segment.{Segment}
+use Rattle.pnet_rules.specs.Segment.{Segment}
 use Rattle.pnet_run.specs.Run.{Request, Answer, Token, toward, serving}
 
 -- the requests of stream i that came at lo or later

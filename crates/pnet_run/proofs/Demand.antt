@@ -1,16 +1,16 @@
 -- Demand 3, sentence by sentence, and what page 02's Ask 2 adds to it. The bus and its runs are in specs/Run, the words of the promise in
--- specs/Promise, and the bound R and the refined figure W are the planner's, of crates/segment. Assumes nothing.
+-- specs/Promise, and the bound R and the refined figure W are the planner's, of crates/pnet_rules. Assumes nothing.
 use Prim.Native.Nat.{ℕ, _≤_}
 use mathlib.Core.Path.{_≡_}
 use mathlib.Core.Bool.{false}
 use mathlib.Core.List.{List}
 use native.Mathlib.Omega.{arith}
 use borrow.Author.Tests.{ltb-false}
-use Rattle.sheet.specs.Sheets.{Sheet}
-use Rattle.segment.specs.Segment.{Segment, segmentOf, count, hold, bound, late}
-use Rattle.segment.specs.Limits.{Declared}
-use Rattle.segment.specs.Refined.{right, refined}
-use Rattle.segment.proofs.Figures.{refined-solves}
+use Rattle.sheet_read.specs.Sheets.{Sheet}
+use Rattle.pnet_rules.specs.Segment.{Segment, segmentOf, count, hold, bound, late}
+use Rattle.pnet_rules.specs.Limits.{Declared}
+use Rattle.pnet_rules.specs.Refined.{right, refined}
+use Rattle.pnet_rules.proofs.Figures.{refined-solves}
 use Rattle.pnet_run.specs.Run.{Belongs, Request, Answer, answer, Queues, Token, Run}
 use Rattle.pnet_run.specs.Promise.{Spaced, Answered, Safe, Reached, Accepted, Even}
 use Rattle.pnet_run.proofs.Charges.{belongs-count, count-belongs, in-ring, hold-covers, some-cycle}
@@ -91,7 +91,7 @@ no-run-is-stuck sheet declared {token = token} run = goes-on (segmentOf sheet) (
 -- ---- Page 02, Ask 2: 'Then show, for every accepted sheet whose masters all keep their spacing, that every response is within the corrected
 -- figure.'
 
--- The figure is W of crates/segment, the one that the planner writes. Here every master keeps its spacing: where another asks oftener
+-- The figure is W of crates/pnet_rules, the one that the planner writes. Here every master keeps its spacing: where another asks oftener
 -- than declared, W is not promised (TwoMasters has such a run), and R still is.
 
 pub each-request-is-answered-within-the-refined-figure : (sheet : Sheet) → Accepted (segmentOf sheet) → (k : ℕ)

@@ -13,9 +13,9 @@ use lib.ListN.{length, length-map}
 use lib.Dec.{ltb}
 use borrow.Author.Tests.{lt-ltb, le-ltb}
 use Rattle.common.specs.Sums.{when}
-use Rattle.segment.specs.Segment.{Segment, owns, count, hold, turn, turnBy, boundBy, bound}
-use Rattle.segment.specs.Limits.{Declared}
-use Rattle.segment.proofs.Holds.{hold-none}
+use Rattle.pnet_rules.specs.Segment.{Segment, owns, count, hold, turn, turnBy, boundBy, bound}
+use Rattle.pnet_rules.specs.Limits.{Declared}
+use Rattle.pnet_rules.proofs.Holds.{hold-none}
 use Rattle.pnet_run.specs.Run.{
   Belongs,
   Request,

@@ -4,7 +4,7 @@ use mathlib.Core.Path.{_≡_, refl, ap, _∙_}
 use mathlib.Core.List.{List, [], _∷_, _++_, List·Memᴰ·head}
 use native.Mathlib.Decide.{ℕ-discrete}
 use native.Mathlib.Omega.{arith}
-use Rattle.segment.specs.Segment.{Segment}
+use Rattle.pnet_rules.specs.Segment.{Segment}
 use Rattle.pnet_run.specs.Run.{Belongs, Request, request, Answer, Queues, join, Token, toward, serving, Run, start, complete, arrive, travel, work, serve, skip}
 use Rattle.pnet_run.proofs.Queues.{put-same, put-other, owned}
 

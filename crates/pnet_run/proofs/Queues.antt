@@ -19,7 +19,7 @@ use mathlib.Core.List.{
 }
 use native.Mathlib.Decide.{ℕ-discrete}
 use borrow.Author.Tests.{eq-eqb, ne-eqb}
-use Rattle.segment.specs.Segment.{Segment}
+use Rattle.pnet_rules.specs.Segment.{Segment}
 use Rattle.pnet_run.specs.Run.{Belongs, Request, request, Answer, Queues, put, join, Token, Run, start, complete, arrive, travel, work, serve, skip}
 
 pub put-same : (q : Queues) (m : ℕ) (l : List Request) → put q m l m ≡ l

@@ -22,9 +22,9 @@ use lib.Dec.{eqb, leb}
 use borrow.Author.Tests.{eq-eqb, eqb-true, le-leb}
 use Rattle.common.specs.Sums.{when, upto}
 use Rattle.common.proofs.Sums.{upto-mono, upto-term}
-use Rattle.segment.specs.Segment.{Segment, count, turnBy, boundBy}
-use Rattle.segment.specs.Refined.{rightBy, askedBy}
-use Rattle.segment.specs.Limits.{Declared}
+use Rattle.pnet_rules.specs.Segment.{Segment, count, turnBy, boundBy}
+use Rattle.pnet_rules.specs.Refined.{rightBy, askedBy}
+use Rattle.pnet_rules.specs.Limits.{Declared}
 use Rattle.pnet_run.specs.Run.{
   Belongs,
   Request,

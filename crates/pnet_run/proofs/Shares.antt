@@ -9,10 +9,10 @@ use lib.Dec.{eqb, leb}
 use borrow.Author.Tests.{eq-eqb, eqb-true, leb-true, leb-false}
 use Rattle.common.specs.Sums.{when, upto, up}
 use Rattle.common.proofs.Sums.{upto-same, upto-add, upto-scale, upto-grouped, up-covers}
-use Rattle.segment.specs.Segment.{Segment, owns, count, turnBy, boundBy}
-use Rattle.segment.specs.Refined.{rightBy, askedBy}
-use Rattle.segment.proofs.Right.{charge}
-use Rattle.segment.proofs.Figures.{right-is-sum-by, asked-rises}
+use Rattle.pnet_rules.specs.Segment.{Segment, owns, count, turnBy, boundBy}
+use Rattle.pnet_rules.specs.Refined.{rightBy, askedBy}
+use Rattle.pnet_rules.proofs.Right.{charge}
+use Rattle.pnet_rules.proofs.Figures.{right-is-sum-by, asked-rises}
 use Rattle.pnet_run.proofs.Charges.{Covers, free}
 
 -- s visits of which a can be used: all of them in full, or 10 for each and H - 10 for each used one

@@ -20,7 +20,7 @@ use native.Mathlib.Nat.{le-refl}
 use native.Mathlib.Decide.{ℕ-discrete}
 use native.Mathlib.Omega.{arith}
 use borrow.Author.Tests.{eq-eqb, ne-eqb}
-use Rattle.segment.specs.Segment.{Segment, owns}
+use Rattle.pnet_rules.specs.Segment.{Segment, owns}
 use Rattle.pnet_run.specs.Run.{Request, request, Answer, answer, Queues, put, join, Token, toward, Settled, on-way, next, Run, start, complete, arrive, serve}
 use Rattle.pnet_run.specs.Promise.{Apart, none, and, Spaced}
 use Rattle.pnet_run.proofs.Queues.{put-same, put-other}

@@ -9,10 +9,10 @@ use mathlib.Core.List.{List, [], _∷_, List·Memᴰ, List·Memᴰ·head, List·
 use native.Mathlib.Omega.{arith}
 use Rattle.common.specs.Sums.{when}
 use Rattle.common.proofs.Sums.{upto-most}
-use Rattle.format.specs.declared.Record.{Record}
-use Rattle.segment.specs.Segment.{Segment, streamOf, segmentOf, owns, count, late}
-use Rattle.segment.specs.Refined.{refined}
-use Rattle.segment.specs.Limits.{Ranged, Declared}
+use Rattle.sheet_record.specs.declared.Record.{Record}
+use Rattle.pnet_rules.specs.Segment.{Segment, streamOf, segmentOf, owns, count, late}
+use Rattle.pnet_rules.specs.Refined.{refined}
+use Rattle.pnet_rules.specs.Limits.{Ranged, Declared}
 use Rattle.pnet_run.specs.Run.{Belongs, Request, request, Answer, answer, Queues, put, Token, toward, on-way, next, Run, start, arrive, travel, skip}
 use Rattle.pnet_run.specs.Promise.{none, and, Spaced, Answered, Reached, Accepted}
 use Rattle.pnet_run.proofs.Picked.{picked}

@@ -10,7 +10,7 @@ use lib.ListN.{length}
 use borrow.Author.Tests.{eq-eqb, ne-eqb}
 use Rattle.common.specs.Sums.{when, upto}
 use Rattle.common.proofs.Sums.{upto-but-one}
-use Rattle.segment.specs.Segment.{Segment, owns, count}
+use Rattle.pnet_rules.specs.Segment.{Segment, owns, count}
 use Rattle.pnet_run.specs.Run.{Belongs, Request}
 use Rattle.pnet_run.proofs.Charges.{owns-belongs}
 

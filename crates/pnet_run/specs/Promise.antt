@@ -4,8 +4,8 @@ use Prim.Native.Nat.{ℕ, _+_, _≤_, _<_}
 use mathlib.Core.Path.{_≡_}
 use mathlib.Core.Logic.{_≢_, _⊎_}
 use mathlib.Core.List.{List, [], _∷_, List·Memᴰ}
-use Rattle.segment.specs.Segment.{Segment, count, bound}
-use Rattle.segment.specs.Limits.{Declared}
+use Rattle.pnet_rules.specs.Segment.{Segment, count, bound}
+use Rattle.pnet_rules.specs.Limits.{Declared}
 use Rattle.pnet_run.specs.Run.{Belongs, Request, request, Answer, answer, Queues, Token, Settled, Run}
 
 -- ---- Spacing

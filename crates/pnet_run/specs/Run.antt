@@ -24,7 +24,7 @@ use mathlib.Core.Path.{_≡_}
 use mathlib.Core.Bool.{cond}
 use mathlib.Core.List.{List, [], _∷_, _++_}
 use lib.Dec.{eqb}
-use Rattle.segment.specs.Segment.{Segment}
+use Rattle.pnet_rules.specs.Segment.{Segment}
 
 -- ---- Requests and answers
 

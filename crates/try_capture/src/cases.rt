@@ -19,7 +19,7 @@ fn try_whole(s: &[u8], c: &[u8], a: usize, b: usize, d: usize, e: usize)
     let mut largest = [170u32; 800];
     let mut above = [170u64; 800];
     let mut left = [170u8; 800];
-    let plan = capture::compare(
+    let plan = capture_compare::compare(
         s,
         c,
         &mut answers[..a],

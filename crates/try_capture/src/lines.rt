@@ -23,9 +23,9 @@ fn try_parts(sheet: &[u8], seen: &[u8], given: &[u8]) {
     let mut s = [0u8; 1024];
     let mut c = [0u8; 1024];
     let mut room = [7u8; 5];
-    let n = hex::put_bytes(&mut s, sheet);
-    let m = hex::put_bytes(&mut c, seen);
-    hex::put_bytes(&mut room, given);
+    let n = text_hex::put_bytes(&mut s, sheet);
+    let m = text_hex::put_bytes(&mut c, seen);
+    text_hex::put_bytes(&mut room, given);
     try_case(&s[..n], &c[..m], &room);
 }
 

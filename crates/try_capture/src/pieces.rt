@@ -4,8 +4,8 @@ use crate::words::say_plan;
 use crate::words::say_refused;
 use crate::words::say_run;
 use crate::words::say_watch;
+use capture_tally::Taken;
 use capture_watch::Watch;
-use tally::Taken;
 ghost use Prim.Native.Nat.{_≤_, _<_};
 
 // Where the piece that begins at a place ends: it has at least one byte.
@@ -34,7 +34,7 @@ fn take_by(
     let mut at: usize = 0;
     while at < c.len() {
         let end = end_of(c.len(), at, size);
-        let taken = tally::take(
+        let taken = capture_tally::take(
             &c[at..end],
             streams,
             bound,
@@ -111,7 +111,7 @@ pub(crate) fn try_pieces(s: &[u8], c: &[u8], size: usize) {
     let mut masters = [0u8; 800];
     let mut bound = [0u32; 800];
     let mut spacing = [0u32; 800];
-    let plan = limits::bounds(s, 800, &mut masters, &mut bound, &mut spacing);
+    let plan = pnet_bounds::bounds(s, 800, &mut masters, &mut bound, &mut spacing);
     let n = say_plan(plan);
     if n != 0 {
         try_takes(c, size, n, &bound, &spacing);

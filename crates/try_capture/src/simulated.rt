@@ -7,7 +7,7 @@ use crate::words::say_with;
 fn run(k: u8) {
     let cycle = [203u16; 8];
     let mut done = [0u64; 800];
-    simulate::simulate(
+    pnet_simulate::simulate(
         4,
         b"\x01\x01\x02\x02\x03\x03\x04\x04",
         &cycle,

@@ -1,7 +1,7 @@
 // What the program says.
 use capture_watch::Watch;
 use libc::STDOUT_FILENO;
-use pnet::Plan;
+use pnet_plan::Plan;
 
 pub(crate) fn say(text: &[u8]) {
     io::write_all(STDOUT_FILENO, text);

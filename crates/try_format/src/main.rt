@@ -1,10 +1,10 @@
 // The writer at the edges of every field, and what it wrote read back: page 01, 'Sheet records'. A line of standard input is a case in
 // hexadecimal digits: the place in 8 bytes, the room in one, and the record, its kind in one byte and its numbers in 4 each. The line that is
 // written for it has these numbers in decimal digits, the answer, and the buffer after the call, where ee is a byte that keeps what it had.
-use format::Record;
 use libc::STDIN_FILENO;
 use libc::STDOUT_FILENO;
-use writer::Put;
+use sheet_record::Record;
+use sheet_write::Put;
 ghost use Prim.Native.Nat.{_≤_};
 
 fn say(text: &[u8]) {
@@ -46,7 +46,7 @@ fn same(r: Record, q: Record) -> bool {
 // The place behind the record, and whether the record stands there.
 fn say_next(next: usize, s: &[u8], at: usize, r: Record) {
     say_with(b"next ", next as u64);
-    let m = format::record_at(s, at);
+    let m = sheet_record::record_at(s, at);
     if (m.next == next) & same(m.found, r) {
         say(b", read back");
     }
@@ -76,7 +76,7 @@ fn say_bytes(s: &[u8]) {
 }
 
 fn put(lent: &mut [u8], at: usize, r: Record) {
-    let p = writer::put_record(lent, at, r);
+    let p = sheet_write::put_record(lent, at, r);
     say_answer(p, lent, at, r);
     say_bytes(lent);
 }
@@ -126,7 +126,7 @@ fn try_case(at: usize, room: usize, r: Record)
 
 fn try_line(line: &[u8]) {
     let mut case = [0u8; 26];
-    hex::put_bytes(&mut case, line);
+    text_hex::put_bytes(&mut case, line);
     let at = place_of(number(case, 0), number(case, 4));
     try_case(at, room_of(case[8]), record_of(case));
 }

@@ -24,13 +24,13 @@ fn say_refused(no: u8, place: usize) {
 
 // ---- P-NET: three runs, of which every place holds 9 before
 
-fn say_pnet(p: pnet::Plan) {
+fn say_pnet(p: pnet_plan::Plan) {
     match p {
-        pnet::Plan::Accepted { masters, streams } => {
+        pnet_plan::Plan::Accepted { masters, streams } => {
             say_with(b"masters ", masters as u64);
             say_with(b", streams ", streams as u64);
         }
-        pnet::Plan::Refused { no, place } => say_refused(no, place),
+        pnet_plan::Plan::Refused { no, place } => say_refused(no, place),
     }
 }
 
@@ -54,7 +54,7 @@ fn say_runs(bound: &[u32], refined: &[u32], rounds: &[u32]) {
 }
 
 fn plan_pnet(s: &[u8], bound: &mut [u32], refined: &mut [u32], rounds: &mut [u32]) {
-    say_pnet(pnet::plan(s, bound, refined, rounds));
+    say_pnet(pnet_plan::plan(s, bound, refined, rounds));
     say_runs(bound, refined, rounds);
 }
 
@@ -85,21 +85,21 @@ fn pnet_case(case: &[u8]) {
 
 // ---- PROFIBUS
 
-fn say_profibus(p: profibus::Plan) {
+fn say_profibus(p: profibus_plan::Plan) {
     match p {
-        profibus::Plan::Target { rotation, stream } => {
+        profibus_plan::Plan::Target { rotation, stream } => {
             say_with(b"TTR in bp ", rotation.0 as u64);
             say_with(b", limited by stream ", stream as u64);
         }
-        profibus::Plan::Refused { no, place } => say_refused(no, place),
+        profibus_plan::Plan::Refused { no, place } => say_refused(no, place),
     }
 }
 
 // ---- WorldFIP: one run, of which every place holds MARK before and is shown as '-' while it does
 
-fn say_worldfip(p: worldfip::Plan) {
+fn say_worldfip(p: worldfip_plan::Plan) {
     match p {
-        worldfip::Plan::Accepted {
+        worldfip_plan::Plan::Accepted {
             microcycle,
             slots,
             rows,
@@ -108,7 +108,7 @@ fn say_worldfip(p: worldfip::Plan) {
             say_with(b", slots ", slots as u64);
             say_with(b", rows ", rows as u64);
         }
-        worldfip::Plan::Refused { no, place } => say_refused(no, place),
+        worldfip_plan::Plan::Refused { no, place } => say_refused(no, place),
     }
 }
 
@@ -176,9 +176,9 @@ fn say_names(names: &[u16; 64]) {
 }
 
 fn plan_worldfip(s: &[u8], rows: &mut [u64]) {
-    say_worldfip(worldfip::plan(s, rows));
+    say_worldfip(worldfip_plan::plan(s, rows));
     say_table(rows);
-    let names = worldfip::identifiers(s);
+    let names = worldfip_plan::identifiers(s);
     say_names(&names);
 }
 
@@ -205,7 +205,7 @@ fn worldfip_case(case: &[u8]) {
 fn try_case(letter: u8, case: &[u8]) {
     match letter {
         b'-' => pnet_case(case),
-        b'R' => say_profibus(profibus::plan(case)),
+        b'R' => say_profibus(profibus_plan::plan(case)),
         _ => worldfip_case(case),
     }
 }
@@ -218,7 +218,7 @@ fn try_line(line: &[u8]) {
         say(line);
     } else {
         let mut case = [0u8; 9605];
-        let n = hex::put_bytes(&mut case, line);
+        let n = text_hex::put_bytes(&mut case, line);
         try_case(line[1], &case[..n]);
     }
     say(b"\n");

@@ -1,7 +1,7 @@
 // Reports of sheets worked by hand, of pages 01 and 02 and the cases that are easy to get wrong, each behind a line that names it; then how
 // many records a reader walks over.
 use libc::STDOUT_FILENO;
-use report::Reported;
+use report_sheet::Reported;
 use text::put_counted;
 
 fn say(text: &[u8]) {
@@ -11,8 +11,8 @@ fn say(text: &[u8]) {
 fn show(name: &[u8], s: &[u8]) {
     say(name);
     say(b"\n");
-    let mut text = report::text_buffer();
-    match report::report(s, &mut text) {
+    let mut text = report_sheet::text_buffer();
+    match report_sheet::report(s, &mut text) {
         Reported::Accepted(n) | Reported::Refused(n) => say(&text[..n]),
         Reported::NoRoom => say(b"no room\n"),
     }
@@ -54,7 +54,7 @@ fn rings() {
 
 fn tables() {
     show(
-        b"# the page's table: E 400",
+        b"# the page's worldfip_rules: E 400",
         b"\x05\x00\x00\x01\x90\x06\x00\x11\x00\x00\x03\xe8\x06\x00\x12\x00\x00\x07\xd0\x06\x00\x13\x00\x00\x0f\xa0\x06\x00\x14\x00\x00\x0f\xa0",
     );
     show(
@@ -107,7 +107,13 @@ fn bytes() {
 fn walk(name: &[u8], s: &[u8]) {
     say(name);
     let mut line = [0; 32];
-    let n = put_counted(&mut line, 0, b"\n", reader::count(s) as u64, b" records\n");
+    let n = put_counted(
+        &mut line,
+        0,
+        b"\n",
+        sheet_reader::count(s) as u64,
+        b" records\n",
+    );
     say(&line[..n]);
 }
 

@@ -1,9 +1,9 @@
 // Simulates the bus on P-NET sheets and writes, for each master with streams, its largest response beside the planner's figures. Every
 // stream asks once, at 0, when the token has just left that master, and each visit is as long as can be. So every master keeps its spacing,
 // and no response passes the refined figure.
-use format::Record;
 use libc::STDOUT_FILENO;
-use pnet::Plan;
+use pnet_plan::Plan;
+use sheet_record::Record;
 
 fn write(text: &[u8]) {
     io::write_all(STDOUT_FILENO, text);
@@ -32,7 +32,7 @@ impl Sheet {
             d: 0,
         };
         let mut bytes = [0u8; 9602];
-        writer::put_record(&mut bytes, 0, head);
+        sheet_write::put_record(&mut bytes, 0, head);
         Sheet {
             masters,
             streams: 0,
@@ -58,7 +58,7 @@ impl Sheet {
         let mut bytes = self.bytes;
         let mut owner = self.owner;
         let mut cycle = self.cycle;
-        writer::put_record(&mut bytes, 2 + 12 * n, stream);
+        sheet_write::put_record(&mut bytes, 2 + 12 * n, stream);
         owner[n] = master;
         cycle[n] = c;
         Sheet {
@@ -103,8 +103,8 @@ fn largest(masters: u8, owner: &[u8], cycle: &[u16], n: usize, k: u8) -> u64 {
     }
     let mut answered = [0u64; 800];
     // 80 turns of 32 masters answer all that is asked.
-    simulate::simulate(masters, &owner[..n], &cycle[..n], k, 2560, &mut answered);
-    simulate::largest(&owner[..n], &answered, k)
+    pnet_simulate::simulate(masters, &owner[..n], &cycle[..n], k, 2560, &mut answered);
+    pnet_simulate::largest(&owner[..n], &answered, k)
 }
 
 fn line(s: Sheet, k: u8, bound: u32, refined: u32) {
@@ -145,7 +145,7 @@ fn figures(bytes: &[u8], streams: usize, bound: &mut [u32], refined: &mut [u32])
         return false;
     }
     let mut rounds = [0u32; 32];
-    match pnet::plan(&bytes[..end], bound, refined, &mut rounds) {
+    match pnet_plan::plan(&bytes[..end], bound, refined, &mut rounds) {
         Plan::Accepted {
             masters: _,
             streams: _,

@@ -1,10 +1,10 @@
 // The reader on the sheets of standard input, a line of hexadecimal digits each, and on sheets with as many streams as a limit allows
 // and one more: page 01, 'Sheet records' and 'Numbered refusals' 1..7. Each sheet is written again with the answer behind it.
-use format::Record;
 use libc::STDIN_FILENO;
 use libc::STDOUT_FILENO;
-use sheet::Reading;
-use writer::Put;
+use sheet_read::Reading;
+use sheet_record::Record;
+use sheet_write::Put;
 
 fn say(text: &[u8]) {
     io::write_all(STDOUT_FILENO, text);
@@ -46,7 +46,7 @@ fn say_answer(r: Reading) {
 // Reads the front of a buffer.
 fn say_front(buf: &[u8], end: usize) {
     if end <= buf.len() {
-        say_answer(sheet::read(&buf[..end]));
+        say_answer(sheet_read::read(&buf[..end]));
     }
 }
 
@@ -69,7 +69,7 @@ fn try_line(line: &[u8]) {
         return;
     }
     let mut sheet = [0u8; 64];
-    let n = hex::put_bytes(&mut sheet, line);
+    let n = text_hex::put_bytes(&mut sheet, line);
     say_sheet(&sheet, n);
 }
 
@@ -95,7 +95,7 @@ fn put_all(buf: &mut [u8], from: usize, each: Record, least: u32, most: u32, n: 
     let mut a = least;
     let mut i: usize = 0;
     while i < n {
-        let p = writer::put_record(buf, at, record_of(each.kind, a, each.b, each.c, each.d));
+        let p = sheet_write::put_record(buf, at, record_of(each.kind, a, each.b, each.c, each.d));
         let Put::Next(e) = p else {
             return at;
         };

@@ -4,7 +4,7 @@ use mathlib.Core.Path.{sym, _∙_}
 use native.Mathlib.Omega.{arith}
 use borrow.Author.Needs.{needs}
 use lib.Seq.{length-take-le}
-use Rattle.report.proofs.Longest.{written-within}
+use Rattle.report_sheet.proofs.Longest.{written-within}
 use Rattle.try_report.proofs.show.Statement.{statement}
 use Rattle.try_report.proofs.show.Tie as tie
 

@@ -4,7 +4,7 @@ use mathlib.Core.Path.{_≡_, sym, _∙_}
 use native.Mathlib.Omega.{arith}
 use lib.ListN.{length, take, length-replicate}
 use lib.Seq.{length-take-le}
-use Rattle.tally.proofs.Split.{refused-inside}
+use Rattle.capture_tally.proofs.Split.{refused-inside}
 use borrow.Author.Needs.{needs}
 use Rattle.planner.proofs.beside.hear.Statement.{statement}
 use Rattle.planner.proofs.beside.hear.Tie as tie

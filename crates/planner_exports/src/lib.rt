@@ -1,0 +1,110 @@
+// The planners under plain names, for programs in other languages to link. Each answers one number, a figure where the sheet is
+// accepted, else 2^32 and the refusal's number; and a place, in a cell that is lent for it and always set: the refusal's, else 0, or the
+// stream that limits a ring.
+ghost use mathlib.Core.Path.{_≡_};
+ghost use lib.ListN.{length};
+ghost use Rattle.sheet_read.specs.Whole.{reading};
+ghost use Rattle.pnet_rules.specs.Segment;
+ghost use Rattle.pnet_rules.specs.Refined;
+ghost use Rattle.pnet_plan.specs.Planned;
+ghost use Rattle.profibus_plan.specs.Planned as Ring;
+ghost use Rattle.worldfip_plan.specs.Answer;
+ghost use Rattle.capture_compare.specs.Compared.{compared, answeredOf, largestOf, aboveOf, leftOf};
+ghost use Rattle.pnet_bounds.specs.Bounded.{streamRun};
+ghost use Rattle.planner_exports.specs.Numbers.{pnetNumber, profibusNumber, worldfipNumber, captureNumber};
+ghost use Rattle.planner_exports.specs.Numbers.{pnetPlace, profibusPlace, worldfipPlace};
+
+const REFUSED: u64 = 4294967296;
+
+// Answers a number, and sets the cell for the place.
+fn told(number: u64, at: usize, place: &mut u64) -> u64
+    ensures { λ r. ⌜ r ≡ number ⌝ }
+    ensures { λ _. ⌜ now (place .exit) ≡ at ⌝ }
+{
+    *place = at as u64;
+    number
+}
+
+// The masters of a P-NET segment; R, W and rounds go to the three runs.
+#[no_mangle]
+pub extern "C" fn planner_pnet(
+    s: &[u8],
+    bound: &mut [u32],
+    refined: &mut [u32],
+    rounds: &mut [u32],
+    place: &mut u64,
+) -> u64
+    ensures { λ r.
+        let outcome = Planned.planned (now (s .entry)) (length (now (bound .entry))) (length (now (refined .entry))) (length (now (rounds .entry))) in
+        ⌜ (r ≡ pnetNumber (Planned.planOf outcome))
+        × (now (place .exit) ≡ pnetPlace (Planned.planOf outcome))
+        × (now (bound .exit) ≡ Planned.runOf outcome Segment.bound (now (bound .entry)))
+        × (now (refined .exit) ≡ Planned.runOf outcome Refined.refined (now (refined .entry)))
+        × (now (rounds .exit) ≡ Planned.runOf outcome Refined.rounds (now (rounds .entry))) ⌝ }
+{
+    match pnet_plan::plan(s, bound, refined, rounds) {
+        pnet_plan::Plan::Accepted {
+            masters,
+            streams: _,
+        } => told(masters as u64, 0, place),
+        pnet_plan::Plan::Refused { no, place: at } => told(REFUSED + no as u64, at, place),
+    }
+}
+
+// TTR of a PROFIBUS ring, in bp of that ring, and the stream that limits it in the place of a refusal's.
+#[no_mangle]
+pub extern "C" fn planner_profibus(s: &[u8], place: &mut u64) -> u64
+    ensures { λ r. ⌜ r ≡ profibusNumber (Ring.planOf (reading (now (s .entry)))) ⌝ }
+    ensures { λ _. ⌜ now (place .exit) ≡ profibusPlace (Ring.planOf (reading (now (s .entry)))) ⌝ }
+{
+    match profibus_plan::plan(s) {
+        profibus_plan::Plan::Target { rotation, stream } => told(rotation.0 as u64, stream, place),
+        profibus_plan::Plan::Refused { no, place: at } => told(REFUSED + no as u64, at, place),
+    }
+}
+
+// The rows of a WorldFIP table, which go to the run.
+#[no_mangle]
+pub extern "C" fn planner_worldfip(s: &[u8], rows: &mut [u64], place: &mut u64) -> u64
+    ensures { λ r. ⌜ r ≡ worldfipNumber (Answer.planOf (reading (now (s .entry))) (length (now (rows .entry)))) ⌝ }
+    ensures { λ _. ⌜ now (place .exit) ≡ worldfipPlace (Answer.planOf (reading (now (s .entry))) (length (now (rows .entry)))) ⌝ }
+    ensures { λ _. ⌜ now (rows .exit) ≡ Answer.runOf (reading (now (s .entry))) (now (rows .entry)) ⌝ }
+{
+    match worldfip_plan::plan(s, rows) {
+        worldfip_plan::Plan::Accepted {
+            microcycle: _,
+            slots: _,
+            rows: count,
+        } => told(count as u64, 0, place),
+        worldfip_plan::Plan::Refused { no, place: at } => told(REFUSED + no as u64, at, place),
+    }
+}
+
+// The streams of a P-NET sheet that a capture is laid beside; their figures go to the four runs.
+#[no_mangle]
+pub extern "C" fn planner_capture(
+    s: &[u8],
+    c: &[u8],
+    answers: &mut [u64],
+    largest: &mut [u32],
+    above: &mut [u64],
+    left: &mut [u8],
+    place: &mut u64,
+) -> u64
+    ensures { λ r.
+        let outcome = compared (now (s .entry)) (now (c .entry)) (length (now (answers .entry))) (length (now (largest .entry))) (length (now (above .entry))) (length (now (left .entry))) in
+        ⌜ (r ≡ captureNumber (Planned.planOf outcome))
+        × (now (place .exit) ≡ pnetPlace (Planned.planOf outcome))
+        × (now (answers .exit) ≡ streamRun outcome (answeredOf (now (c .entry))) (now (answers .entry)))
+        × (now (largest .exit) ≡ streamRun outcome (largestOf (now (c .entry))) (now (largest .entry)))
+        × (now (above .exit) ≡ streamRun outcome (aboveOf (now (c .entry))) (now (above .entry)))
+        × (now (left .exit) ≡ streamRun outcome (leftOf (now (c .entry))) (now (left .entry))) ⌝ }
+{
+    match capture_compare::compare(s, c, answers, largest, above, left) {
+        pnet_plan::Plan::Accepted {
+            masters: _,
+            streams,
+        } => told(streams as u64, 0, place),
+        pnet_plan::Plan::Refused { no, place: at } => told(REFUSED + no as u64, at, place),
+    }
+}

@@ -1,0 +1,53 @@
+-- Page 02, 'Ask 4': what one segment of a path says, as the code answers it: a refusal, or R of the master that sends, from its count and V.
+-- Assumes nothing.
+use mathlib.Core.Path.{_≡_, refl, sym, ap, _∙_}
+use mathlib.Core.Bool.{Bool, true, false}
+use mathlib.Core.List.{List}
+use Prim.Native.Nat.{ℕ, _*_, _≤_, _<_}
+use native.Mathlib.Omega.{arith}
+use borrow.Author.Tests.{leb-true, leb-false}
+use lib.Dec.{leb}
+use Rattle.common.specs.Sums.{when}
+use Rattle.sheet_read.specs.Whole.{Outcome}
+use Rattle.sheet_read.specs.Whole.Outcome.{Not}
+use Rattle.pnet_rules.specs.Segment.{count, boundBy, turn, bound}
+use Rattle.pnet_rules.specs.Limits.{Declared}
+use Rattle.pnet_rules.proofs.Holds.{count-above-masters, bound-at-most}
+use Rattle.pnet_turn.specs.Turn.{at, turnOf}
+use Rattle.pnet_plan.specs.Planned.{firstLate}
+use Rattle.pnet_plan.specs.Arrays.{segmentIn, Sheeted}
+use Rattle.pnet_plan.proofs.Bytes.{declares, streams-few}
+use Rattle.pnet_plan.proofs.Cases.{counts-at, turn-is}
+use Rattle.pnet_bounds.specs.Sender.{sound, senderOf}
+use Rattle.pnet_bounds.specs.declared.Sender.the-variants as answer
+use Rattle.pnet_bounds.proofs.Bounded.{sheeted-late, sheeted-read}
+
+pub sender-refused : (s : List ℕ) (k n p : ℕ) → sound s ≡ Not n p → answer.Refused n p ≡ senderOf (sound s) k
+sender-refused s k n p e = ap (λ (o : Outcome). senderOf o k) (sym e)
+
+module _ {s : List ℕ} {N n first : ℕ} {counts longests : List ℕ} (h : Sheeted s N n first counts longests) (k : ℕ) where
+  -- a count and V as the code has them; a master above 32 is above N, and has no streams
+  module _ (own v : ℕ) (e : own ≡ when (leb k 32) (at counts k)) (ev : v ≡ turnOf counts longests N) where
+    own-count : own ≡ count (segmentIn s n) k
+    own-count = e ∙ split (leb k 32) refl
+      where
+        d : Declared (segmentIn s n)
+        d = declares (h .ready)
+
+        split : (b : Bool) → leb k 32 ≡ b → when b (at counts k) ≡ count (segmentIn s n) k
+        split true q = counts-at h k (leb-true k 32 q)
+        split false q = sym (count-above-masters (segmentIn s n) d k (omega (arith, leb-false k 32 q, d .masters-to)))
+
+    own-bound : own * v ≡ bound (segmentIn s n) k
+    unfolding bound boundBy turn
+    own-bound = rw (own-count, ev ∙ turn-is h)
+
+    pub own-small : own * v ≤ 4083200
+    own-small = omega (arith, own-bound, bound-at-most (segmentIn s n) (declares (h .ready)) k)
+
+    pub sender-bound : (late : ℕ) → late ≡ firstLate (segmentIn s n) → n < late → answer.Bound (own * v) ≡ senderOf (sound s) k
+    sender-bound late q l =
+        ap answer.Bound own-bound ∙ ap (λ (o : Outcome). senderOf o k) (sym (sheeted-read h 800 (streams-few (h .ready)) late q l))
+
+  pub sender-late : (late : ℕ) → late ≡ firstLate (segmentIn s n) → late ≤ n → answer.Refused 8 late ≡ senderOf (sound s) k
+  sender-late late q l = sender-refused s k 8 late (sheeted-late h 800 (streams-few (h .ready)) late q l)

@@ -1,0 +1,134 @@
+-- `pnet_bounds::by_stream` meets its contract. The invariant: the three runs have their first i places filled, and `at` is the place of the
+-- next stream. Assumes nothing.
+use mathlib.Core.Path.{_≡_}
+use Prim.Native.Nat.{suc, _-_, _≤_}
+use native.Mathlib.Omega.{arith}
+use borrow.Author.Needs.{needs}
+use Rattle.common.proofs.Runs.{Filling, filling-none, filling-more, filling-done}
+use Rattle.sheet_read.specs.Whole.{placeOf}
+use Rattle.pnet_plan.specs.Planned.{atPlace}
+use Rattle.pnet_plan.specs.Arrays.{segmentIn}
+use Rattle.pnet_plan.proofs.Bytes.{Here, here}
+use Rattle.pnet_bounds.specs.Bounded.{masterOf, boundOf, spacingOf}
+use Rattle.pnet_bounds.proofs.Bounded.{Placed, placed}
+use Rattle.pnet_bounds.proofs.by_stream.Statement.{statement}
+use Rattle.pnet_bounds.proofs.by_stream.Tie as tie
+
+abbrev Inv-loop : tie.InvT-loop
+Inv-loop s first n counts turn masters₀ bound₀ spacing₀ at₀ i₀ masters bound spacing at i =
+    (i ≤ n)
+    × (at ≡ placeOf s (suc i))
+    × Filling (atPlace (masterOf (segmentIn s n))) i masters₀ masters
+    × Filling (atPlace (boundOf (segmentIn s n))) i bound₀ bound
+    × Filling (atPlace (spacingOf (segmentIn s n))) i spacing₀ spacing
+
+abbrev μ-loop : tie.MeasureT-loop
+μ-loop s first n counts turn masters₀ bound₀ spacing₀ at₀ i₀ masters bound spacing at i = n - i
+
+loop-holds : tie.Need-loop-holds Inv-loop μ-loop
+loop-holds c = (search needs, c .before .before .before .before .pre .0 .0 .starts, filling-none _ _, filling-none _ _, filling-none _ _)
+
+record-of-requires : tie.Need-record-of-requires Inv-loop μ-loop
+record-of-requires c κs = search needs
+
+-- the record read is stream i + 1
+its : (c : tie.After-record-of Inv-loop μ-loop)
+    → Here (c .before .before .before .before .before .before .before .args .s .now) (c .before .before .before .before .before .before .before .args .n)
+    (c .before .before .loop .i) (c .record-of .result)
+its c =
+    let l = c .before .before .loop in
+    here (c .before .before .before .before .before .before .before .pre .0 .0) (l .i) (l .at) (c .record-of .result) (omega arith) (l .inv .1)
+    (c .record-of .ensures)
+
+-- and its master, bound and spacing are those that the code has
+stream : (c : tie.After-record-of Inv-loop μ-loop)
+    → Placed (c .before .before .before .before .before .before .before .args .s .now) (c .before .before .before .before .before .before .before .args .n) (c .before .before .loop .i) (c .before .before .before .before .before .before .before .args .counts .now) (c .before .before .before .before .before .before .before .args .turn)
+    (c .record-of .result .found)
+stream c =
+    let start = c .before .before .before .before .before .before .before in
+    placed (start .pre .0 .0) (start .args .counts .now) (start .args .turn) (start .pre .1 .0) (start .pre .1 .1) (c .before .before .loop .i) (c .record-of .result) (omega arith) (its c)
+
+cast-masters : tie.Need-cast-masters Inv-loop μ-loop
+cast-masters c = omega (arith, stream (c .before .before))
+
+slice-write-masters : tie.Need-slice-write-masters Inv-loop μ-loop
+slice-write-masters c = search needs
+
+cast-bound : tie.Need-cast-bound Inv-loop μ-loop
+cast-bound c = omega (arith, stream (c .before .before .before))
+
+element-copy-out-bound : tie.Need-element-copy-out-bound Inv-loop μ-loop
+element-copy-out-bound c = omega (arith, stream (c .before .before .before))
+
+cast-bound-2 : tie.Need-cast-bound-2 Inv-loop μ-loop
+cast-bound-2 c = omega (arith, stream (c .before .before .before .before))
+
+mul-bound : tie.Need-mul-bound Inv-loop μ-loop
+mul-bound c = omega (arith, stream (c .before .before .before .before))
+
+mul-bound-2 : tie.Need-mul-bound-2 Inv-loop μ-loop
+mul-bound-2 c = omega (arith, stream (c .before .before .before .before))
+
+slice-write-bound : tie.Need-slice-write-bound Inv-loop μ-loop
+slice-write-bound c = search needs
+
+mul-spacing : tie.Need-mul-spacing Inv-loop μ-loop
+mul-spacing c = omega (arith, stream (c .before .before .before .before))
+
+slice-write-spacing : tie.Need-slice-write-spacing Inv-loop μ-loop
+slice-write-spacing c = search needs
+
+add-i : tie.Need-add-i Inv-loop μ-loop
+add-i c = search needs
+
+loop-less : tie.Need-loop-less Inv-loop μ-loop
+loop-less c = search needs
+
+loop-again : tie.Need-loop-again Inv-loop μ-loop
+loop-again c =
+    let x = c .before .before .before .before in
+    let l = x .before .before .loop in
+    let w = stream x in
+    (search needs, its x .next, filling-more _ (l .inv .2) (omega arith) (w .master), filling-more _ (l .inv .3) (omega arith) (w .bounds), filling-more _ (l .inv .4) (omega arith) (w .spaced))
+
+same-length : tie.Need-same-length Inv-loop μ-loop
+same-length c = c .before .loop .inv .2 .long
+
+same-length-2 : tie.Need-same-length-2 Inv-loop μ-loop
+same-length-2 c = c .before .loop .inv .3 .long
+
+same-length-3 : tie.Need-same-length-3 Inv-loop μ-loop
+same-length-3 c = c .before .loop .inv .4 .long
+
+returns : tie.Need-returns Inv-loop μ-loop
+returns c =
+    let n = c .before .before .before .before .before .before .args .n in
+    let l = c .before .loop in
+    let e : l .i ≡ n = omega arith in
+    (filling-done n (l .inv .2) e, (filling-done n (l .inv .3) e, filling-done n (l .inv .4) e))
+
+pub by-stream-spec : {M : Type 1} → statement M
+by-stream-spec =
+    tie.close
+    (tie.spec
+    Inv-loop
+    μ-loop
+    loop-holds
+    record-of-requires
+    cast-masters
+    slice-write-masters
+    cast-bound
+    element-copy-out-bound
+    cast-bound-2
+    mul-bound
+    mul-bound-2
+    slice-write-bound
+    mul-spacing
+    slice-write-spacing
+    add-i
+    loop-less
+    loop-again
+    same-length
+    same-length-2
+    same-length-3
+    returns)

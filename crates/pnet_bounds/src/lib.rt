@@ -1,0 +1,220 @@
+// The bounds of a P-NET sheet without a search: for a capture, page 02 'Ask 1', each stream's master, its master's R and its T; for a
+// path, page 02 'Ask 4', R of the master that sends.
+use pnet_plan::Plan;
+use sheet_read::MOST;
+use sheet_read::Reading;
+ghost use mathlib.Core.Path.{_≡_};
+ghost use Prim.Native.Nat.{ℕ, _≤_};
+ghost use lib.ListN.{length};
+ghost use lib.Dec.{leb};
+ghost use Rattle.common.specs.Runs.{filled};
+ghost use Rattle.common.specs.Sums.{when};
+ghost use Rattle.sheet_read.specs.Steps.{Ready};
+ghost use Rattle.pnet_rules.specs.Segment;
+ghost use Rattle.pnet_turn.specs.Turn.{at};
+ghost use Rattle.pnet_plan.specs.Arrays.{segmentIn, Sheeted};
+ghost use Rattle.pnet_plan.specs.Planned.{firstLate, planOf, atPlace};
+ghost use Rattle.pnet_bounds.specs.Bounded.{bounded, boundOf, masterOf, spacingOf, streamRun};
+ghost use Rattle.pnet_bounds.specs.Sender.{sound, senderOf};
+
+// What the sheet of a segment says of the master that sends there: its R, or the refusal's number and place.
+pub enum Sender {
+    Bound(u32),
+    Refused { no: u8, place: usize },
+}
+
+// The first of n streams whose master's R is above its D, and n + 1 where there is none; turn is V.
+fn first_late(s: &[u8], first: usize, n: usize, counts: &[u8; 33], turn: u32) -> usize
+    requires { ⌜ Ready (now s) 1 first n ⌝ }
+    requires { ⌜ (turn ≡ Segment.turn (segmentIn (now s) n)) × ((y : ℕ) → y ≤ 32 → at (now counts) y ≡ Segment.count (segmentIn (now s) n) y) ⌝ }
+    ensures { λ r. ⌜ r ≡ firstLate (segmentIn (now (s .entry)) n) ⌝ }
+{
+    let mut at = first;
+    let mut i: usize = 0;
+    while i < n {
+        let met = sheet_record::record_of(s, at, 2);
+        let r = met.found;
+        let bound = counts[r.a as usize] as u32 * turn;
+        if r.d < bound {
+            return i + 1;
+        }
+        at = met.next;
+        i += 1;
+    }
+    n + 1
+}
+
+// Each stream's master, bound and spacing; turn is V.
+fn by_stream(
+    s: &[u8],
+    first: usize,
+    n: usize,
+    counts: &[u8; 33],
+    turn: u32,
+    masters: &mut [u8],
+    bound: &mut [u32],
+    spacing: &mut [u32],
+)
+    requires { ⌜ Ready (now s) 1 first n × (n ≤ length (now masters)) × (n ≤ length (now bound)) × (n ≤ length (now spacing)) ⌝ }
+    requires { ⌜ (turn ≡ Segment.turn (segmentIn (now s) n)) × ((y : ℕ) → y ≤ 32 → at (now counts) y ≡ Segment.count (segmentIn (now s) n) y) ⌝ }
+    ensures { λ _. ⌜ now (masters .exit) ≡ filled (atPlace (masterOf (segmentIn (now (s .entry)) n))) n (now (masters .entry)) ⌝ }
+    ensures { λ _. ⌜ now (bound .exit) ≡ filled (atPlace (boundOf (segmentIn (now (s .entry)) n))) n (now (bound .entry)) ⌝ }
+    ensures { λ _. ⌜ now (spacing .exit) ≡ filled (atPlace (spacingOf (segmentIn (now (s .entry)) n))) n (now (spacing .entry)) ⌝ }
+{
+    let mut at = first;
+    let mut i: usize = 0;
+    while i < n {
+        let met = sheet_record::record_of(s, at, 2);
+        let r = met.found;
+        masters[i] = r.a as u8;
+        bound[i] = counts[r.a as usize] as u32 * turn;
+        spacing[i] = r.c;
+        at = met.next;
+        i += 1;
+    }
+}
+
+// The masters, bounds and spacings of the n streams of a P-NET sheet of N masters, unless 8 is given.
+fn bounds_of(
+    s: &[u8],
+    all: usize,
+    first: usize,
+    n: usize,
+    room: usize,
+    counts: &[u8; 33],
+    longests: &[u32; 33],
+    masters: &mut [u8; MOST],
+    bound: &mut [u32; MOST],
+    spacing: &mut [u32; MOST],
+) -> Plan
+    requires { ⌜ Sheeted (now s) all n first (now counts) (now longests) × (n ≤ room) ⌝ }
+    ensures { λ r. ⌜ r ≡ planOf (bounded (now (s .entry)) room) ⌝ }
+    ensures { λ _. ⌜ now (masters .exit) ≡ streamRun (bounded (now (s .entry)) room) masterOf (now (masters .entry)) ⌝ }
+    ensures { λ _. ⌜ now (bound .exit) ≡ streamRun (bounded (now (s .entry)) room) boundOf (now (bound .entry)) ⌝ }
+    ensures { λ _. ⌜ now (spacing .exit) ≡ streamRun (bounded (now (s .entry)) room) spacingOf (now (spacing .entry)) ⌝ }
+{
+    let turn = pnet_turn::turn_of(counts, longests, all) as u32;
+    let late = first_late(s, first, n, counts, turn);
+    if late <= n {
+        return Plan::Refused { no: 8, place: late };
+    }
+    by_stream(s, first, n, counts, turn, masters, bound, spacing);
+    Plan::Accepted {
+        masters: all,
+        streams: n,
+    }
+}
+
+// The sheet that a capture is laid beside: each stream's master, bound and spacing, where `room` is the length of the shortest run lent
+// for results.
+pub fn bounds(
+    s: &[u8],
+    room: usize,
+    masters: &mut [u8; MOST],
+    bound: &mut [u32; MOST],
+    spacing: &mut [u32; MOST],
+) -> Plan
+    ensures { λ r. ⌜ r ≡ planOf (bounded (now (s .entry)) room) ⌝ }
+    ensures { λ _. ⌜ now (masters .exit) ≡ streamRun (bounded (now (s .entry)) room) masterOf (now (masters .entry)) ⌝ }
+    ensures { λ _. ⌜ now (bound .exit) ≡ streamRun (bounded (now (s .entry)) room) boundOf (now (bound .entry)) ⌝ }
+    ensures { λ _. ⌜ now (spacing .exit) ≡ streamRun (bounded (now (s .entry)) room) spacingOf (now (spacing .entry)) ⌝ }
+{
+    let mut counts: [u8; 33] = [0; 33];
+    let mut longests: [u32; 33] = [0; 33];
+    let read = sheet_read::read_gathering(s, &mut counts, &mut longests);
+    match read {
+        Reading::Refused { no, place } => Plan::Refused { no, place },
+        Reading::Accepted {
+            head,
+            streams,
+            first,
+        } => {
+            if head.kind != 1 {
+                return Plan::Refused { no: 3, place: 0 };
+            }
+            if room < streams {
+                return Plan::Refused {
+                    no: 13,
+                    place: streams,
+                };
+            }
+            bounds_of(
+                s,
+                head.a as usize,
+                first,
+                streams,
+                room,
+                &counts,
+                &longests,
+                masters,
+                bound,
+                spacing,
+            )
+        }
+    }
+}
+
+// How many streams a master has; one above 32 has none.
+fn streams_of(counts: &[u8; 33], master: u8) -> u8
+    ensures { λ r. ⌜ r ≡ when (leb master 32) (at (now (counts .entry)) master) ⌝ }
+{
+    if master > 32 {
+        return 0;
+    }
+    counts[master as usize]
+}
+
+// R of the master that sends on a P-NET segment of N masters and n streams, unless 8 is given.
+fn bound_by(
+    s: &[u8],
+    all: usize,
+    first: usize,
+    n: usize,
+    counts: &[u8; 33],
+    longests: &[u32; 33],
+    master: u8,
+) -> Sender
+    requires { ⌜ Sheeted (now s) all n first (now counts) (now longests) ⌝ }
+    ensures { λ r. ⌜ r ≡ senderOf (sound (now (s .entry))) master ⌝ }
+{
+    let turn = pnet_turn::turn_of(counts, longests, all) as u32;
+    let late = first_late(s, first, n, counts, turn);
+    if n < late {
+        let own = streams_of(counts, master) as u32;
+        let bound = own * turn;
+        return Sender::Bound(bound);
+    }
+    Sender::Refused { no: 8, place: late }
+}
+
+// The sheet of one segment of a path, and R of the master that sends there: 0 for a master that it does not have, or that has no
+// streams.
+pub fn bound_of(s: &[u8], master: u8) -> Sender
+    ensures { λ r. ⌜ r ≡ senderOf (sound (now (s .entry))) master ⌝ }
+{
+    let mut counts: [u8; 33] = [0; 33];
+    let mut longests: [u32; 33] = [0; 33];
+    let read = sheet_read::read_gathering(s, &mut counts, &mut longests);
+    match read {
+        Reading::Refused { no, place } => Sender::Refused { no, place },
+        Reading::Accepted {
+            head,
+            streams,
+            first,
+        } => {
+            if head.kind == 1 {
+                bound_by(
+                    s,
+                    head.a as usize,
+                    first,
+                    streams,
+                    &counts,
+                    &longests,
+                    master,
+                )
+            } else {
+                Sender::Refused { no: 3, place: 0 }
+            }
+        }
+    }
+}

@@ -1,0 +1,58 @@
+-- Page 01, 'Sheets worked by hand', the P-NET cases, from the sheets' bytes: R 2,000 passes D = 2,000 and 1,999 is refused with 8; R, W and
+-- rounds of the third case, and of the same with T = D = 1,000 for master 2 (page 02, Ask 2), with a later place kept. Assumes nothing.
+use Prim.Native.Nat.{ℕ}
+use mathlib.Core.Path.{_≡_, refl}
+use mathlib.Core.List.{List, [], _∷_, _++_}
+use Rattle.common.specs.Sums.{upto, greatest, up, firstOf}
+use Rattle.common.specs.Checks.{verdict}
+use Rattle.common.specs.Runs.{tab, filled}
+use Rattle.sheet_record.specs.Numbers.{be}
+use Rattle.sheet_record.specs.Kinds.{kinds, fieldsOf, widths, sizeOf, known, fieldAt, decode, limit, within, ranged, inRange}
+use Rattle.sheet_read.specs.Sheets.{streamsOf, headOf, sheetOf, fits, countOf, mostInAll, hasMaster, overLimit, metBefore}
+use Rattle.sheet_read.specs.Whole.{placeOf, recordsOf, recordChecks, endChecks, judge, ended, readFrom, reading}
+use Rattle.pnet_rules.specs.Segment.{segmentOf, streamAt, owns, count, longest, hold, turnBy, boundBy, turn, bound, late}
+use Rattle.pnet_rules.specs.Refined.{saving, rightBy, valueOf, stands, roundsOf, mostRounds, askedBy, right, rounds, refined}
+use Rattle.pnet_plan.specs.declared.answer.Plan.the-variants as answer
+use Rattle.pnet_plan.specs.Planned.{firstLate, planChecks, planned, planOf, runOf}
+
+-- master m, C 203, T 100,000, D by its four bytes
+abbrev stream : ℕ → ℕ → ℕ → ℕ → List ℕ
+stream m x y z = 2 ∷ m ∷ 0 ∷ 203 ∷ 0 ∷ 1 ∷ 134 ∷ 160 ∷ 0 ∷ x ∷ y ∷ z ∷ []
+
+-- N = 4, two streams each, D 2,000 but of the last one, 1,792 and z
+abbrev four : ℕ → List ℕ
+four z =
+    1 ∷ 4 ∷ (stream 1 0 7 208 ++ stream 1 0 7 208 ++ stream 2 0 7 208 ++ stream 2 0 7 208
+    ++ stream 3 0 7 208 ++ stream 3 0 7 208 ++ stream 4 0 7 208 ++ stream 4 0 7 z)
+
+-- N = 2; master 1 two streams, T = D = 100,000, and master 2 one
+abbrev two : List ℕ → List ℕ
+two last = 1 ∷ 2 ∷ (stream 1 1 134 160 ++ stream 1 1 134 160 ++ last)
+
+-- which has T = D = 100,000, or T = D = 1,000
+abbrev seldom : List ℕ
+seldom = stream 2 1 134 160
+
+abbrev often : List ℕ
+often = 2 ∷ 2 ∷ 0 ∷ 203 ∷ 0 ∷ 0 ∷ 3 ∷ 232 ∷ 0 ∷ 0 ∷ 3 ∷ 232 ∷ []
+
+passes : planOf (planned (four 208) 4 4 4) ≡ answer.Accepted 4 8
+unfolding planned planChecks firstLate verdict segmentOf streamAt owns count longest hold turnBy boundBy turn bound late upto greatest firstOf reading readFrom ended judge recordChecks endChecks recordsOf placeOf streamsOf headOf sheetOf fits countOf mostInAll hasMaster overLimit metBefore kinds fieldsOf widths sizeOf known fieldAt decode limit within ranged inRange be
+passes = refl
+
+fails : planOf (planned (four 207) 4 4 4) ≡ answer.Refused 8 8
+unfolding planned planChecks firstLate verdict segmentOf streamAt owns count longest hold turnBy boundBy turn bound late upto greatest firstOf reading readFrom ended judge recordChecks endChecks recordsOf placeOf streamsOf headOf sheetOf fits countOf mostInAll hasMaster overLimit metBefore kinds fieldsOf widths sizeOf known fieldAt decode limit within ranged inRange be
+fails = refl
+
+figures : (runOf (planned (two seldom) 3 3 3) bound (9 ∷ 9 ∷ 9 ∷ []) ≡ 1000 ∷ 500 ∷ 9 ∷ [])
+    × (runOf (planned (two seldom) 3 3 3) refined (9 ∷ 9 ∷ 9 ∷ []) ≡ 760 ∷ 500 ∷ 9 ∷ [])
+    × (runOf (planned (two seldom) 3 3 3) rounds (9 ∷ 9 ∷ 9 ∷ []) ≡ 1 ∷ 1 ∷ 9 ∷ [])
+unfolding planned planChecks firstLate verdict filled tab segmentOf streamAt owns count longest hold turnBy boundBy turn bound late saving rightBy valueOf stands roundsOf mostRounds askedBy right rounds refined up upto greatest firstOf reading readFrom ended judge recordChecks endChecks recordsOf placeOf streamsOf headOf sheetOf fits countOf mostInAll hasMaster overLimit metBefore kinds fieldsOf widths sizeOf known fieldAt decode limit within ranged inRange be
+figures = (refl, refl, refl)
+
+-- the count takes in what waits when the window opens
+figures-waited : (runOf (planned (two often) 3 3 3) bound (9 ∷ 9 ∷ 9 ∷ []) ≡ 1000 ∷ 500 ∷ 9 ∷ [])
+    × (runOf (planned (two often) 3 3 3) refined (9 ∷ 9 ∷ 9 ∷ []) ≡ 1000 ∷ 500 ∷ 9 ∷ [])
+    × (runOf (planned (two often) 3 3 3) rounds (9 ∷ 9 ∷ 9 ∷ []) ≡ 2 ∷ 1 ∷ 9 ∷ [])
+unfolding planned planChecks firstLate verdict filled tab segmentOf streamAt owns count longest hold turnBy boundBy turn bound late saving rightBy valueOf stands roundsOf mostRounds askedBy right rounds refined up upto greatest firstOf reading readFrom ended judge recordChecks endChecks recordsOf placeOf streamsOf headOf sheetOf fits countOf mostInAll hasMaster overLimit metBefore kinds fieldsOf widths sizeOf known fieldAt decode limit within ranged inRange be
+figures-waited = (refl, refl, refl)

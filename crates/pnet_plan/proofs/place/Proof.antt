@@ -1,0 +1,209 @@
+-- `place` meets its contract. The invariant: none of the first i streams is late, they are placed, and `at` is the place of the next.
+-- Assumes nothing.
+use mathlib.Core.Path.{_≡_, ap, _∙_, subst}
+use mathlib.Core.Bool.{false}
+use Prim.Native.Nat.{ℕ, suc, _+_, _-_, _≤_, _<_}
+use native.Mathlib.Nat.{mul-le-mul}
+use native.Mathlib.Omega.{arith}
+use borrow.Author.Count.{below-none, below-more}
+use borrow.Author.Needs.{needs}
+use lib.ListN.{length, length-set}
+use Rattle.common.specs.Sums.{firstOf}
+use Rattle.common.proofs.Firsts.{first-here, first-nowhere}
+use Rattle.sheet_read.specs.Whole.{placeOf}
+use Rattle.pnet_rules.specs.Segment.{late}
+use Rattle.pnet_rules.proofs.Holds.{turn-at-most}
+use Rattle.pnet_plan.specs.Planned.{firstLate}
+use Rattle.pnet_turn.specs.Turn.{at}
+use Rattle.pnet_plan.specs.Arrays.{segmentIn, Grouped}
+use Rattle.pnet_plan.proofs.Bytes.{Here, Small, declares, number-is, here, its-master, its-late, its-not-late, small, grouped-next}
+use Rattle.pnet_plan.proofs.place.Statement.{statement}
+use Rattle.pnet_plan.proofs.place.Tie as tie
+
+abbrev Inv-loop : tie.InvT-loop
+Inv-loop s first streams counts turn ends₀ shortest₀ spacings₀ at₀ i₀ ends shortest spacings at i =
+    (i ≤ streams)
+    × (at ≡ placeOf s (suc i))
+    × (length spacings ≡ length spacings₀)
+    × ((j : ℕ) → j < i → late (segmentIn s streams) (j + 1) ≡ false)
+    × Grouped (segmentIn s streams) i ends shortest spacings
+
+abbrev μ-loop : tie.MeasureT-loop
+μ-loop s first streams counts turn ends₀ shortest₀ spacings₀ at₀ i₀ ends shortest spacings at i = streams - i
+
+loop-holds : tie.Need-loop-holds Inv-loop μ-loop
+loop-holds c = let p = c .before .before .pre in (search needs, p .0 .0 .starts, search needs, below-none _, p .1 .1)
+
+record-of-requires : tie.Need-record-of-requires Inv-loop μ-loop
+record-of-requires c κs = search needs
+
+-- the record read is stream i + 1
+its : (c : tie.After-record-of Inv-loop μ-loop)
+    → Here (c .before .before .before .before .before .args .s .now) (c .before .before .before .before .before .args .streams) (c .before .before .loop .i) (c .record-of .result)
+its c =
+    let l = c .before .before .loop in
+    here (c .before .before .before .before .before .pre .0 .0) (l .i) (l .at) (c .record-of .result) (omega arith) (l .inv .1) (c .record-of .ensures)
+
+-- of one of the masters
+master : (c : tie.After-record-of Inv-loop μ-loop) → c .record-of .result .found .a ≤ 32
+master c = its-master (c .before .before .before .before .before .pre .0 .0) (omega arith) (c .record-of .result) (its c)
+
+-- and there is a place for it
+few : (c : tie.After-record-of Inv-loop μ-loop)
+    → Small (c .record-of .result .found .a) (at (c .before .before .loop .ends) (c .record-of .result .found .a)) (length (c .before .before .loop .spacings))
+few c = small (c .before .before .before .before .before .pre .0 .0) (omega arith) (c .record-of .result) (its c) (c .before .before .loop .inv .4)
+
+cast-m : tie.Need-cast-m Inv-loop μ-loop
+cast-m c = omega (arith, master (c .before .before))
+
+element-copy-out-bound : tie.Need-element-copy-out-bound Inv-loop μ-loop
+element-copy-out-bound c = omega (arith, master (c .before .before))
+
+-- its master's count and V are small
+count-small : (c : tie.After-record-of Inv-loop μ-loop) → at (c .before .before .before .before .before .args .counts .now) (c .record-of .result .found .a) ≤ 80
+count-small c =
+    let p = c .before .before .before .before .before .pre in
+    omega (arith, p .1 .0 .1 (c .record-of .result .found .a) (master c), declares (p .0 .0) .counts (c .record-of .result .found .a))
+
+v-small : (c : tie.After-record-of Inv-loop μ-loop) → c .before .before .before .before .before .args .turn ≤ 51040
+v-small c =
+    let a = c .before .before .before .before .before .args in
+    let p = c .before .before .before .before .before .pre in
+    omega (arith, p .1 .0 .0, turn-at-most (segmentIn (a .s .now) (a .streams)) (declares (p .0 .0)))
+
+cast-bound : tie.Need-cast-bound Inv-loop μ-loop
+cast-bound c = omega (arith, count-small (c .before .before .before))
+
+mul-bound : tie.Need-mul-bound Inv-loop μ-loop
+mul-bound c =
+    let r = c .before .before .before in
+    let a = r .before .before .before .before .before .args in
+    omega (arith, mul-le-mul {n₁ = at (a .counts .now) (r .record-of .result .found .a)} {m₁ = a .turn} {n₂ = 80} {m₂ = 51040} (count-small r) (v-small r))
+
+add-result : tie.Need-add-result Inv-loop μ-loop
+add-result c = search needs
+
+same-length : tie.Need-same-length Inv-loop μ-loop
+same-length c = search needs
+
+returns : tie.Need-returns Inv-loop μ-loop
+unfolding firstLate
+returns c =
+    let r = c .before .before .before .before .before in
+    let l = r .before .before .loop in
+    let a = r .before .before .before .before .before .args in
+    let p = r .before .before .before .before .before .pre in
+    let S = segmentIn (a .s .now) (a .streams) in
+    let hit = its-late (p .0 .0) (omega arith) (r .record-of .result) (its r) (a .counts .now) (a .turn) (p .1 .0 .1) (p .1 .0 .0) (c .if1 .taken) in
+    (first-here (late S) (S .number) (l .i) (l .inv .3) (omega (arith, number-is (p .0 .0))) hit, λ over. absurd (omega arith))
+
+mul-end : tie.Need-mul-end Inv-loop μ-loop
+mul-end c = omega (arith, master (c .before .before .before .before .before))
+
+element-copy-out-end : tie.Need-element-copy-out-end Inv-loop μ-loop
+element-copy-out-end c = omega (arith, master (c .before .before .before .before .before))
+
+cast-spacings : tie.Need-cast-spacings Inv-loop μ-loop
+cast-spacings c = omega (arith, few (c .before .before .before .before .before .before))
+
+mul-spacings : tie.Need-mul-spacings Inv-loop μ-loop
+mul-spacings c = omega (arith, few (c .before .before .before .before .before .before))
+
+slice-write-spacings : tie.Need-slice-write-spacings Inv-loop μ-loop
+slice-write-spacings c = omega (arith, few (c .before .before .before .before .before .before))
+
+add-ends : tie.Need-add-ends Inv-loop μ-loop
+add-ends c = omega (arith, few (c .before .before .before .before .before .before))
+
+mul-ends : tie.Need-mul-ends Inv-loop μ-loop
+mul-ends c = omega (arith, few (c .before .before .before .before .before .before))
+
+element-write-ends : tie.Need-element-write-ends Inv-loop μ-loop
+element-write-ends c = omega (arith, few (c .before .before .before .before .before .before))
+
+mul-smaller : tie.Need-mul-smaller Inv-loop μ-loop
+mul-smaller c = omega (arith, few (c .before .before .before .before .before .before))
+
+element-copy-out-smaller : tie.Need-element-copy-out-smaller Inv-loop μ-loop
+element-copy-out-smaller c = omega (arith, few (c .before .before .before .before .before .before))
+
+smaller-requires : tie.Need-smaller-requires Inv-loop μ-loop
+smaller-requires c κs = search needs
+
+mul-shortest : tie.Need-mul-shortest Inv-loop μ-loop
+mul-shortest c = omega (arith, few (c .before .before .before .before .before .before .before .before))
+
+element-write-shortest : tie.Need-element-write-shortest Inv-loop μ-loop
+element-write-shortest c = omega (arith, few (c .before .before .before .before .before .before .before .before))
+
+add-i : tie.Need-add-i Inv-loop μ-loop
+add-i c = search needs
+
+loop-less : tie.Need-loop-less Inv-loop μ-loop
+loop-less c = search needs
+
+loop-again : tie.Need-loop-again Inv-loop μ-loop
+loop-again c =
+    let r = c .before .before .before .before .before .before .before .before in
+    let l = r .before .before .loop in
+    let a = r .before .before .before .before .before .args in
+    let p = r .before .before .before .before .before .pre in
+    let m = r .record-of .result .found .a in (
+      search needs,
+      its r .next,
+      length-set (l .spacings) (at (l .ends) m) (r .record-of .result .found .c) ∙ l .inv .2,
+      below-more _ _ (l .inv .3)
+          (its-not-late (p .0 .0) (omega arith) (r .record-of .result) (its r) (a .counts .now) (a .turn) (p .1 .0 .1) (p .1 .0 .0) (omega (arith, c .before .before .before .if1 .left))),
+      grouped-next (p .0 .0) (omega arith) (r .record-of .result) (its r) (l .inv .4) (c .smaller .result) (c .smaller .ensures),
+    )
+
+add-result-2 : tie.Need-add-result-2 Inv-loop μ-loop
+add-result-2 c = search needs
+
+same-length-2 : tie.Need-same-length-2 Inv-loop μ-loop
+same-length-2 c = search needs
+
+returns-2 : tie.Need-returns-2 Inv-loop μ-loop
+unfolding firstLate
+returns-2 c =
+    let l = c .before .loop in
+    let a = c .before .before .before .before .args in
+    let p = c .before .before .before .before .pre in
+    let S = segmentIn (a .s .now) (a .streams) in
+    let e : l .i ≡ a .streams = omega arith in
+    (first-nowhere (late S) (a .streams) (l .i) (l .inv .3) e ∙ ap (λ (k : ℕ). firstOf (late S) k 1) (number-is (p .0 .0)), λ over. subst (λ (k : ℕ). Grouped S k (l .ends) (l .shortest) (l .spacings)) e (l .inv .4))
+
+pub place-spec : {M : Type 1} → statement M
+place-spec =
+    tie.close
+    (tie.spec
+    Inv-loop
+    μ-loop
+    loop-holds
+    record-of-requires
+    cast-m
+    element-copy-out-bound
+    cast-bound
+    mul-bound
+    add-result
+    same-length
+    returns
+    mul-end
+    element-copy-out-end
+    cast-spacings
+    mul-spacings
+    slice-write-spacings
+    add-ends
+    mul-ends
+    element-write-ends
+    mul-smaller
+    element-copy-out-smaller
+    smaller-requires
+    mul-shortest
+    element-write-shortest
+    add-i
+    loop-less
+    loop-again
+    add-result-2
+    same-length-2
+    returns-2)

@@ -1,0 +1,137 @@
+-- How the code keeps a segment: at place y master y's count s, its charge H, its shortest spacing T and the end of its spacings; up to that
+-- end, as many as the count, stand the spacings of its streams in sheet order. The page's figures, read off these arrays, and what keeps
+-- the code's sums within 32 bits. Words of inner contracts alone. Assumes nothing.
+use Prim.Native.Nat.{ℕ, _+_, _-_, _*_, _≤_, _<_}
+use mathlib.Core.Path.{_≡_}
+use mathlib.Core.Bool.{true}
+use mathlib.Core.List.{List}
+use lib.ListN.{length}
+use Rattle.common.specs.Runs.{tab}
+use Rattle.common.specs.Sums.{when, upto, up}
+use Rattle.sheet_read.specs.Steps.{sheetIn, Ready}
+use Rattle.pnet_rules.specs.Segment.{Segment, segmentOf, owns, count, longest}
+use Rattle.pnet_rules.specs.Refined.{saving, valueOf, roundsOf}
+use Rattle.pnet_turn.specs.Turn.{at, chargeIn}
+
+-- ---- Where they come from
+
+-- the segment that these bytes declare, with n streams
+abbrev pub segmentIn : List ℕ → ℕ → Segment
+segmentIn s n = segmentOf (sheetIn s n)
+
+-- the first n streams of a segment
+abbrev pub part : Segment → ℕ → Segment
+part S n = record { masters = S .masters; number = n; stream = S .stream }
+
+-- an accepted P-NET sheet with N masters and n streams, the first at a place, and what reading it gathered of each master
+pub record Sheeted (s : List ℕ) (N n first : ℕ) (counts longests : List ℕ) : Type 0 where
+  pub ready : Ready s 1 first n
+  pub masters-are : N ≡ segmentIn s n .masters
+  pub counts-are : counts ≡ tab (count (segmentIn s n)) 33
+  pub longests-are : longests ≡ tab (longest (segmentIn s n)) 33
+
+-- ---- How they are filled
+
+-- the N masters set out: each one's H, and as its end the place where its spacings begin
+pub record SetOut (counts longests : List ℕ) (N : ℕ) (holds ends : List ℕ) : Type 0 where
+  pub holds-long : length holds ≡ 33
+  pub ends-long : length ends ≡ 33
+  pub holds-are : (y : ℕ) → 1 ≤ y → y ≤ N → at holds y ≡ chargeIn counts longests y
+  pub ends-are : (y : ℕ) → 1 ≤ y → y ≤ N → at ends y ≡ upto (at counts) (y - 1)
+
+-- the first i streams of a segment placed: behind the spacings of the masters before y stand those of y, and any sum over them is the sum over
+-- y's streams; the shortest is the greatest number that is above none of them, nor above the longest spacing of a sheet
+pub record Grouped (S : Segment) (i : ℕ) (ends shortest spacings : List ℕ) : Type 0 where
+  pub ends-long : length ends ≡ 33
+  pub shortest-long : length shortest ≡ 33
+  pub room : S .number ≤ length spacings
+  pub ends-are : (y : ℕ) → 1 ≤ y → y ≤ S .masters → at ends y ≡ upto (count S) (y - 1) + count (part S i) y
+  pub spacings-are : (g : ℕ → ℕ) (y : ℕ) → 1 ≤ y → y ≤ S .masters
+      → upto (λ j. g (at spacings (upto (count S) (y - 1) + (j - 1)))) (count (part S i) y) ≡ upto (λ x. when (owns S y x) (g (S .stream x .spacing))) i
+  pub shortest-to : (y : ℕ) → y ≤ 32 → at shortest y ≤ 1000000000
+  pub above-none : (y x : ℕ) → y ≤ 32 → 1 ≤ x → x ≤ i → owns S y x ≡ true → at shortest y ≤ S .stream x .spacing
+  pub greatest-such : (y b : ℕ) → y ≤ 32 → b ≤ 1000000000 → ((x : ℕ) → 1 ≤ x → x ≤ i → owns S y x ≡ true → b ≤ S .stream x .spacing) → b ≤ at shortest y
+
+-- ---- The figures, read off them
+
+-- the requests of n streams in a window, their spacings from a place on
+unfoldable pub askedIn : List ℕ → ℕ → ℕ → ℕ → ℕ
+unfolding upto up
+askedIn spacings from window n = upto (λ j. up window (at spacings (from + (j - 1)))) n
+
+-- a(y) at W: the window is W and R(y), for V
+unfoldable pub askedAt : List ℕ → List ℕ → List ℕ → ℕ → ℕ → ℕ → ℕ
+unfolding askedIn
+askedAt counts ends spacings turn y w = askedIn spacings (at ends y - at counts y) (w + at counts y * turn) (at counts y)
+
+-- V, over N masters
+unfoldable pub turnIn : List ℕ → ℕ → ℕ
+unfolding upto
+turnIn holds N = upto (at holds) N
+
+-- R of master k, among N masters
+unfoldable pub boundIn : List ℕ → List ℕ → ℕ → ℕ → ℕ
+unfolding turnIn
+boundIn counts holds N k = at counts k * turnIn holds N
+
+-- what master k saves at y at W, for V
+unfoldable pub savedIn : List ℕ → List ℕ → List ℕ → List ℕ → ℕ → ℕ → ℕ → ℕ → ℕ
+unfolding saving askedAt
+savedIn counts holds ends spacings turn k w y = saving (at holds) (at counts k) k (askedAt counts ends spacings turn y w) y
+
+-- the right side for W of master k, among N masters
+unfoldable pub rightIn : List ℕ → List ℕ → List ℕ → List ℕ → ℕ → ℕ → ℕ → ℕ
+unfolding boundIn turnIn upto savedIn
+rightIn counts holds ends spacings N k w = boundIn counts holds N k - upto (savedIn counts holds ends spacings (turnIn holds N) k w) N
+
+-- its round count among N masters, and the value reached then
+unfoldable pub roundsIn : List ℕ → List ℕ → List ℕ → List ℕ → ℕ → ℕ → ℕ
+unfolding roundsOf rightIn
+roundsIn counts holds ends spacings N k = roundsOf (rightIn counts holds ends spacings N k) (1 + (N - 1) * at counts k)
+
+unfoldable pub refinedIn : List ℕ → List ℕ → List ℕ → List ℕ → ℕ → ℕ → ℕ
+unfolding valueOf rightIn roundsIn
+refinedIn counts holds ends spacings N k = valueOf (rightIn counts holds ends spacings N k) (roundsIn counts holds ends spacings N k)
+
+-- ---- What keeps the code's sums within 32 bits
+
+-- n spacings from a place on, in their range
+pub record Spaced (spacings : List ℕ) (from n : ℕ) : Type 0 where
+  pub inside : from + n ≤ length spacings
+  pub least : (j : ℕ) → j < n → 1 ≤ at spacings (from + j)
+  pub most : (j : ℕ) → j < n → at spacings (from + j) ≤ 1000000000
+
+-- master y has at most 80 streams, in range, and a charge between an unused visit's and the longest
+pub record Served (counts holds ends spacings : List ℕ) (y : ℕ) : Type 0 where
+  pub inside : y ≤ 32
+  pub count-to : at counts y ≤ 80
+  pub hold-from : 10 ≤ at holds y
+  pub hold-to : at holds y ≤ 1595
+  pub behind : at counts y ≤ at ends y
+  pub spaced : Spaced spacings (at ends y - at counts y) (at counts y)
+
+-- so has each of N masters, and the turn is V
+pub record Kept (N turn : ℕ) (counts holds ends spacings : List ℕ) : Type 0 where
+  pub few : N ≤ 32
+  pub turn-is : turn ≡ turnIn holds N
+  pub each : (y : ℕ) → 1 ≤ y → y ≤ N → Served counts holds ends spacings y
+
+-- ---- What a search keeps
+
+-- of each of N masters: the shortest is above none of its spacings, and R is not above it
+pub record Shortest (N turn : ℕ) (counts ends shortest spacings : List ℕ) : Type 0 where
+  pub covers : (y : ℕ) → 1 ≤ y → y ≤ N → at counts y * turn ≤ at shortest y
+  pub above-none : (y j : ℕ) → 1 ≤ y → y ≤ N → j < at counts y → at shortest y ≤ at spacings (at ends y - at counts y + j)
+
+-- at W = 0, of master y in the search of master k: at a master with as many streams as k, and k is one, nothing is saved, now or later; at another
+-- each stream counts once, until the shortest spacing is passed
+pub record Opens (counts holds shortest : List ℕ) (turn k y saved until : ℕ) : Type 0 where
+  pub never : at counts k ≤ at counts y → (saved ≡ 0) × (until ≡ 4294967295)
+  pub once : at counts y < at counts k → (saved ≡ (at counts k - at counts y) * (at holds y - 10)) × (until ≡ at shortest y - at counts y * turn)
+
+-- from W = w on: what is kept of y is what k saves there at each W up to the one kept beside it; at itself that is past every W
+pub record Fresh (counts holds ends spacings : List ℕ) (N turn k w : ℕ) (saved until : List ℕ) : Type 0 where
+  pub saved-long : length saved ≡ 33
+  pub until-long : length until ≡ 33
+  pub own : 4083200 ≤ at until k
+  pub right : (y v : ℕ) → 1 ≤ y → y ≤ N → w ≤ v → v ≤ at until y → at saved y ≡ savedIn counts holds ends spacings turn k v y

@@ -1,0 +1,59 @@
+-- Page 01, 'P-NET bounds', the refined figure, with the count of page 02, Ask 2: W and its rounds. Assumes nothing.
+use Prim.Native.Nat.{ℕ, zero, suc, _+_, _-_, _*_, min}
+use mathlib.Core.Bool.{Bool, cond}
+use lib.Dec.{eqb}
+use Rattle.common.specs.Sums.{when, upto, up, firstOf}
+use Rattle.pnet_rules.specs.Segment.{Segment, owns, count, hold, turnBy, boundBy}
+
+-- ---- For any charge h(y) and any count a(y) at W
+
+-- what master k saves at y: nothing at itself, else (s - min(s, a(y))) · (h(y) - 10)
+unfoldable pub saving : (ℕ → ℕ) → ℕ → ℕ → ℕ → ℕ → ℕ
+saving h s k n y = cond (eqb y k) 0 ((s - min s n) * (h y - 10))
+
+-- the right side: s·V less what is saved at every y
+unfoldable pub rightBy : (ℕ → ℕ) → (ℕ → ℕ → ℕ) → Segment → ℕ → ℕ → ℕ
+unfolding count turnBy upto saving
+rightBy h a S k w = count S k * turnBy h S - upto (λ y. saving h (count S k) k (a y w) y) (S .masters)
+
+-- value m of the sequence that starts at 0 and puts the right side for W again and again
+unfoldable pub valueOf : (ℕ → ℕ) → ℕ → ℕ
+valueOf f zero = 0
+valueOf f (suc m) = f (valueOf f m)
+
+-- value m equals the next one
+unfoldable pub stands : (ℕ → ℕ) → ℕ → Bool
+unfolding valueOf
+stands f m = eqb (valueOf f m) (valueOf f (suc m))
+
+-- the first m, of 0..most, whose value equals the next one
+unfoldable pub roundsOf : (ℕ → ℕ) → ℕ → ℕ
+unfolding firstOf stands
+roundsOf f most = firstOf (stands f) most 0
+
+-- rounds are at most 1 + (N - 1)·s
+unfoldable pub mostRounds : Segment → ℕ → ℕ
+unfolding count
+mostRounds S k = 1 + (S .masters - 1) * count S k
+
+-- ---- The planner's count and charge
+
+-- a(y): the sum over y's streams of (W + R(y))/T rounded up, R by the charge h. Page 01 has W/T. Page 02, Ask 2, adds R(y), since a
+-- request of y may have waited that long when the window opens; it stands over page 01.
+unfoldable pub askedBy : (ℕ → ℕ) → Segment → ℕ → ℕ → ℕ
+unfolding upto owns up boundBy
+askedBy h S y w = upto (λ i. when (owns S y i) (up (w + boundBy h S y) (S .stream i .spacing))) (S .number)
+
+-- the right side for W of master k
+unfoldable pub right : Segment → ℕ → ℕ → ℕ
+unfolding rightBy hold askedBy
+right S k w = rightBy (hold S) (askedBy (hold S) S) S k w
+
+-- the round count, and W, the value reached then
+unfoldable pub rounds : Segment → ℕ → ℕ
+unfolding roundsOf right mostRounds
+rounds S k = roundsOf (right S k) (mostRounds S k)
+
+unfoldable pub refined : Segment → ℕ → ℕ
+unfolding valueOf right rounds
+refined S k = valueOf (right S k) (rounds S k)

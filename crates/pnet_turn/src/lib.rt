@@ -1,0 +1,33 @@
+// The turn of the token, page 01 'P-NET bounds': H and V, from what reading a sheet gathered of its masters.
+ghost use mathlib.Core.Path.{_≡_};
+ghost use Prim.Native.Nat.{_≤_, min};
+ghost use Rattle.pnet_rules.specs.Segment.{charge};
+ghost use Rattle.pnet_turn.specs.Turn.{turnOf};
+
+// H of a master with so many streams, of which the longest cycle is given.
+pub fn hold_of(count: u8, longest: u32) -> u64
+    ensures { λ r. ⌜ (r ≡ charge count longest) × (r ≤ 4294967342) ⌝ }
+{
+    if count == 0 { 10 } else { 47 + longest as u64 }
+}
+
+// Of n masters, the 32 at most that a sheet can have.
+fn masters_of(n: usize) -> usize
+    ensures { λ r. ⌜ r ≡ min n 32 ⌝ }
+{
+    if n < 32 { n } else { 32 }
+}
+
+// V of masters 1..n, at most 32: place y has how many streams master y has, and the longest cycle of them.
+pub fn turn_of(counts: &[u8; 33], longests: &[u32; 33], n: usize) -> u64
+    ensures { λ r. ⌜ r ≡ turnOf (now (counts .entry)) (now (longests .entry)) n ⌝ }
+{
+    let top = masters_of(n);
+    let mut turn: u64 = 0;
+    let mut y: usize = 0;
+    while y < top {
+        y += 1;
+        turn += hold_of(counts[y], longests[y]);
+    }
+    turn
+}

@@ -1,0 +1,27 @@
+-- Page 01, 'Sheets worked by hand', the fourth case, from the sheet's bytes: TTR 2,500, limited by stream 1. Assumes nothing.
+use Prim.Native.Nat.{ℕ}
+use mathlib.Core.Path.{_≡_, refl}
+use mathlib.Core.List.{List, [], _∷_}
+use Rattle.common.specs.Sums.{upto, firstOf}
+use Rattle.common.specs.Checks.{verdict}
+use Rattle.sheet_record.specs.Numbers.{be}
+use Rattle.sheet_record.specs.Kinds.{kinds, fieldsOf, widths, sizeOf, known, fieldAt, decode, limit, within, ranged, inRange}
+use Rattle.sheet_read.specs.Sheets.{streamsOf, headOf, sheetOf, fits, countOf, mostInAll, hasMaster, overLimit, metBefore}
+use Rattle.sheet_read.specs.Whole.{placeOf, recordsOf, recordChecks, endChecks, judge, ended, readFrom, reading}
+use Rattle.profibus_rules.specs.Ring.{ringOf, streamAt, owns, count, messages, rotation, needed, fails}
+use Rattle.profibus_rules.specs.Target.{bears, least, target, firstFailing}
+use Rattle.profibus_plan.specs.declared.answer.Plan.the-variants as plan
+use Rattle.profibus_plan.specs.Planned.{failsAtLatency, planChecks, planBy, planOf}
+
+-- n 3, L 300, M 500; master 1: C 400 D 8,400 and C 500 D 10,000; master 2: C 300 D 5,000
+abbrev three : List ℕ
+three =
+    3 ∷ 3 ∷ 0 ∷ 0 ∷ 1 ∷ 44 ∷ 0 ∷ 0 ∷ 1 ∷ 244
+    ∷ 4 ∷ 1 ∷ 0 ∷ 0 ∷ 1 ∷ 144 ∷ 0 ∷ 0 ∷ 32 ∷ 208
+    ∷ 4 ∷ 1 ∷ 0 ∷ 0 ∷ 1 ∷ 244 ∷ 0 ∷ 0 ∷ 39 ∷ 16
+    ∷ 4 ∷ 2 ∷ 0 ∷ 0 ∷ 1 ∷ 44 ∷ 0 ∷ 0 ∷ 19 ∷ 136
+    ∷ []
+
+answer : planOf (reading three) ≡ plan.Target (record { 0 = 2500 }) 1
+unfolding planOf planBy planChecks failsAtLatency verdict ringOf streamAt owns count messages rotation needed fails upto firstOf bears least target firstFailing reading readFrom ended judge recordChecks endChecks recordsOf placeOf streamsOf headOf sheetOf fits countOf mostInAll hasMaster overLimit metBefore kinds fieldsOf widths sizeOf known fieldAt decode limit within ranged inRange be
+answer = refl

@@ -1,0 +1,81 @@
+// The PROFIBUS planner, page 01 'PROFIBUS rotation time'.
+pub mod answer;
+
+pub use answer::Plan;
+pub use answer::RingPeriods;
+use sheet_read::Reading;
+ghost use mathlib.Core.Path.{_≡_};
+ghost use Rattle.common.specs.Runs.{tab};
+ghost use Rattle.sheet_read.specs.Whole.{reading};
+ghost use Rattle.sheet_read.specs.Steps.{sheetIn, Ready};
+ghost use Rattle.sheet_read.specs.Whole.Outcome.{Read};
+ghost use Rattle.profibus_rules.specs.Ring.{ringOf, count, messages};
+ghost use Rattle.profibus_plan.specs.Planned.{planOf};
+
+// The longest deadline of a sheet. No stream bears a rotation as long, since C is at least 1.
+const LONGEST: u64 = 1000000000;
+
+// The largest TTR, or the first stream that fails at L. A stream shares out its D only where it fails at the rotation that all
+// before it bear; so the first to bear less than L allows is the first that fails at L, and of equals the first is kept.
+fn largest_target(
+    s: &[u8],
+    first: usize,
+    streams: usize,
+    counts: &[u8; 33],
+    latency: u64,
+    longest: u64,
+) -> Plan
+    requires { ⌜ Ready (now s) 3 first streams ⌝ }
+    requires { ⌜ now counts ≡ tab (count (ringOf (sheetIn (now s) streams))) 33 ⌝ }
+    requires { ⌜ (latency ≡ ringOf (sheetIn (now s) streams) .latency) × (longest ≡ messages (ringOf (sheetIn (now s) streams))) ⌝ }
+    ensures { λ r. ⌜ r ≡ planOf (Read (sheetIn (now (s .entry)) streams)) ⌝ }
+{
+    let shortest = latency + longest;
+    let mut borne = LONGEST;
+    let mut limiting: usize = 0;
+    let mut at = first;
+    let mut i: usize = 0;
+    while i < streams {
+        let met = sheet_record::record_of(s, at, 4);
+        let r = met.found;
+        let master = r.a as usize;
+        let h = counts[master] as u64;
+        let c = r.b as u64;
+        let d = r.c as u64;
+        at = met.next;
+        i += 1;
+        if d < h * borne + c {
+            if d < h * shortest + c {
+                return Plan::Refused { no: 9, place: i };
+            }
+            borne = (d - c) / h;
+            limiting = i;
+        }
+    }
+    let rotation = RingPeriods((borne - longest) as u32);
+    Plan::Target {
+        rotation,
+        stream: limiting,
+    }
+}
+
+// The largest rotation target of a PROFIBUS sheet, or the refusal.
+pub fn plan(s: &[u8]) -> Plan
+    ensures { λ r. ⌜ r ≡ planOf (reading (now (s .entry))) ⌝ }
+{
+    let mut counts: [u8; 33] = [0; 33];
+    match sheet_read::read_counting(s, &mut counts) {
+        Reading::Refused { no, place } => Plan::Refused { no, place },
+        Reading::Accepted {
+            head,
+            streams,
+            first,
+        } => {
+            if head.kind != 3 {
+                return Plan::Refused { no: 3, place: 0 };
+            }
+            let longest = head.a as u64 * head.c as u64;
+            largest_target(s, first, streams, &counts, head.b as u64, longest)
+        }
+    }
+}

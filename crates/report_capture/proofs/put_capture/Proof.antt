@@ -1,0 +1,35 @@
+-- `report_capture::put_capture` stores the heading, the lines of the streams and the last lines. Assumes nothing.
+use Rattle.text.proofs.Writing.{wrote-then}
+use Rattle.report_capture.specs.Shown.{captureText}
+use borrow.Author.Needs.{needs}
+use Rattle.report_capture.proofs.put_capture.Statement.{statement}
+use Rattle.report_capture.proofs.put_capture.Tie as tie
+
+shown-requires : tie.Need-shown-requires
+shown-requires c κs = search needs
+
+slice-aggregate-put-word : tie.Need-slice-aggregate-put-word
+slice-aggregate-put-word c = search needs
+
+put-word-requires : tie.Need-put-word-requires
+put-word-requires c κs = search needs
+
+put-streams-requires : tie.Need-put-streams-requires
+put-streams-requires c κs = search needs
+
+put-last-requires : tie.Need-put-last-requires
+put-last-requires c κs = search needs
+
+same-length : tie.Need-same-length
+same-length c = search needs
+
+returns : tie.Need-returns
+unfolding captureText
+returns c =
+    rw (← c .before .before .before .before .before .before .before .before .before .before .before .before .before .shown .ensures)
+    (wrote-then (c .before .before .before .before .before .before .before .before .before .before .put-word .ensures)
+    (wrote-then (c .before .before .before .before .before .before .put-streams .ensures) (c .before .before .put-last .ensures)))
+
+pub put-capture-spec : {M : Type 1} → statement M
+put-capture-spec =
+    tie.close (tie.spec shown-requires slice-aggregate-put-word put-word-requires put-streams-requires put-last-requires same-length returns)

@@ -1,0 +1,83 @@
+-- `report_capture::put_streams` stores the lines of n streams. The loop's invariant: the first i are stored. Assumes nothing.
+use Prim.Native.Nat.{_-_, _≤_}
+use native.Mathlib.Omega.{arith}
+use denote.Ref.{now}
+use Rattle.text.specs.Text.{item, texts, Wrote}
+use Rattle.text.proofs.Writing.{length-wrote, wrote-none, wrote-next, wrote-all}
+use Rattle.report_capture.specs.Shown.{streamAt}
+use borrow.Author.Needs.{needs}
+use Rattle.report_capture.proofs.put_streams.Statement.{statement}
+use Rattle.report_capture.proofs.put_streams.Tie as tie
+
+abbrev Inv-loop : tie.InvT-loop
+Inv-loop out₀ at n masters bound largest answers above left next₀ i₀ out next i =
+    (i ≤ n) × Wrote out₀ at (texts (streamAt (item masters) (item bound) (item largest) (item answers) (item above) (item left)) i) out next
+
+abbrev μ-loop : tie.MeasureT-loop
+μ-loop out₀ at n masters bound largest answers above left next₀ i₀ out next i = n - i
+
+loop-holds : tie.Need-loop-holds Inv-loop μ-loop
+unfolding texts
+loop-holds c = (search needs, wrote-none)
+
+add-put-stream : tie.Need-add-put-stream Inv-loop μ-loop
+add-put-stream c = search needs
+
+element-copy-out-put-stream : tie.Need-element-copy-out-put-stream Inv-loop μ-loop
+element-copy-out-put-stream c = search needs
+
+mul-t20 : tie.Need-mul-t20 Inv-loop μ-loop
+mul-t20 c = search needs
+
+element-copy-out-t23 : tie.Need-element-copy-out-t23 Inv-loop μ-loop
+element-copy-out-t23 c = search needs
+
+mul-t25 : tie.Need-mul-t25 Inv-loop μ-loop
+mul-t25 c = search needs
+
+element-copy-out-t28 : tie.Need-element-copy-out-t28 Inv-loop μ-loop
+element-copy-out-t28 c = search needs
+
+mul-put-stream : tie.Need-mul-put-stream Inv-loop μ-loop
+mul-put-stream c = search needs
+
+element-copy-out-put-stream-2 : tie.Need-element-copy-out-put-stream-2 Inv-loop μ-loop
+element-copy-out-put-stream-2 c = search needs
+
+mul-put-stream-2 : tie.Need-mul-put-stream-2 Inv-loop μ-loop
+mul-put-stream-2 c = search needs
+
+element-copy-out-put-stream-3 : tie.Need-element-copy-out-put-stream-3 Inv-loop μ-loop
+element-copy-out-put-stream-3 c = search needs
+
+element-copy-out-put-stream-4 : tie.Need-element-copy-out-put-stream-4 Inv-loop μ-loop
+element-copy-out-put-stream-4 c = search needs
+
+put-stream-requires : tie.Need-put-stream-requires Inv-loop μ-loop
+put-stream-requires c κs = search needs
+
+add-i : tie.Need-add-i Inv-loop μ-loop
+add-i c = search needs
+
+loop-less : tie.Need-loop-less Inv-loop μ-loop
+loop-less c = search needs
+
+loop-again : tie.Need-loop-again Inv-loop μ-loop
+unfolding streamAt
+loop-again c =
+    let a = c .before .before .before .before .before .before .before .before .before .before .before .before .before .args in
+    let lines = streamAt (item (now (a .masters))) (item (now (a .bound))) (item (now (a .largest))) (item (now (a .answers))) (item (now (a .above))) (item (now (a .left))) in
+    (omega arith, wrote-next lines (c .before .before .before .before .before .before .before .before .before .before .before .loop .inv .1) (c .before .before .put-stream .ensures))
+
+same-length : tie.Need-same-length Inv-loop μ-loop
+same-length c = length-wrote (c .before .loop .inv .1)
+
+returns : tie.Need-returns Inv-loop μ-loop
+returns c =
+    let a = c .before .before .before .args in
+    let lines = streamAt (item (now (a .masters))) (item (now (a .bound))) (item (now (a .largest))) (item (now (a .answers))) (item (now (a .above))) (item (now (a .left))) in
+    wrote-all lines (c .before .loop .inv .1) (omega arith)
+
+pub put-streams-spec : {M : Type 1} → statement M
+put-streams-spec =
+    tie.close (tie.spec Inv-loop μ-loop loop-holds add-put-stream element-copy-out-put-stream mul-t20 element-copy-out-t23 mul-t25 element-copy-out-t28 mul-put-stream element-copy-out-put-stream-2 mul-put-stream-2 element-copy-out-put-stream-3 element-copy-out-put-stream-4 put-stream-requires add-i loop-less loop-again same-length returns)

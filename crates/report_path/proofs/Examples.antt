@@ -1,0 +1,42 @@
+-- Page 02, 'Ask 4': reports of a path, word for word. Assumes nothing.
+use mathlib.Core.Path.{_≡_, refl}
+use mathlib.Core.List.{[], _∷_}
+use Prim.Native.Nat.{_+_}
+use lib.ListN.{length}
+use Rattle.common.specs.Sums.{up, firstOf}
+use Rattle.units.specs.Units.{bp, nanosUp}
+use Rattle.text.specs.Text.{word, _·_, places, holds, widthOf, decimal, item, texts}
+use Rattle.report_phrases.specs.Phrases.{inBp, inNs, inBoth, nameOf, placeText, refusedText}
+use Rattle.report_path.specs.Told.{mostPath, segmentLine, gatewayLine, hopLines, totalLine, pathText, sheetRefusal, pathPlace, pathRefusal}
+
+-- two segments and the gateway between them: the total is at the deadline
+two-segments : pathText (item (0 ∷ 1 ∷ 2 ∷ [])) (item (0 ∷ 500 ∷ 500 ∷ [])) (item (0 ∷ 30 ∷ [])) 1 (bp 1060) (bp 1060)
+    ≡ word "P-NET path\n"
+    · word "segment 1 M01 bound 500 bp\n"
+    · word "gateway 1 request 30 bp reply 30 bp\n"
+    · word "segment 2 M02 bound 500 bp\n"
+    · word "total 1060 bp 13802084 ns deadline 1060 bp\n"
+unfolding pathText hopLines segmentLine gatewayLine totalLine inBoth inBp inNs nanosUp up nameOf texts decimal places widthOf holds firstOf
+two-segments = refl
+
+-- two legs of 501 bp are turned into ns once: 6,523,438 ns each would be 13,046,876
+legs : totalLine (bp (501 + 501)) (bp 1060) ≡ word "total 1002 bp 13046875 ns deadline 1060 bp\n"
+unfolding totalLine inBoth inBp inNs nanosUp up decimal places widthOf holds firstOf
+legs = refl
+
+-- eleven segments with every figure as wide as 32 bits allow. `mostPath` counts two digits for each hop's number, and 18 of them have one
+widest : length (pathText (λ i. 31) (λ i. 4294967295) (λ i. 4294967295) 10 (bp 4294967295) (bp 4294967295)) + 18 ≡ mostPath
+unfolding pathText hopLines segmentLine gatewayLine totalLine inBoth inBp inNs nanosUp up nameOf texts decimal places widthOf holds firstOf
+widest = refl
+
+-- a sheet's own
+sheets : (sheetRefusal 1 6 2 ≡ word "refused 6 at byte 2 of segment 1\n") × (sheetRefusal 2 8 3 ≡ word "refused 8 at stream 3 of segment 2\n")
+    × (sheetRefusal 11 10 0 ≡ word "refused 10 of segment 11\n")
+unfolding sheetRefusal refusedText placeText decimal places widthOf holds firstOf
+sheets = (refl, refl, refl)
+
+-- the path's
+paths : (pathRefusal 17 11 ≡ word "refused 17 at 11 gateways\n") × (pathRefusal 4 2 ≡ word "refused 4 at gateway 2\n")
+    × (pathRefusal 4 0 ≡ word "refused 4 at deadline\n") × (pathRefusal 18 3 ≡ word "refused 18 at segment 3\n") × (pathRefusal 19 0 ≡ word "refused 19\n")
+unfolding pathRefusal pathPlace decimal places widthOf holds firstOf
+paths = (refl, refl, refl, refl, refl)

@@ -1,0 +1,147 @@
+// The report of a path over several P-NET segments, page 02 'Ask 4'. What does not fit into the lent run is left out; each function
+// answers the place just after what it wrote.
+use pnet_path::Way;
+use report_phrases::put_both;
+use report_phrases::put_bp;
+use report_phrases::put_name;
+use text::put_counted;
+use text::put_word;
+use units::BitPeriods;
+ghost use mathlib.Core.Path.{_≡_};
+ghost use mathlib.Core.List.{_++_};
+ghost use Prim.Native.Nat.{_-_, _≤_, min};
+ghost use Rattle.text.specs.Text.{Zeros, Wrote, word, item, texts};
+ghost use Rattle.report_phrases.specs.Phrases.{inBp};
+ghost use Rattle.report_path.specs.Told.{mostPath, segmentLine, gatewayLine, hopLines, totalLine, pathText, sheetRefusal, pathPlace, pathRefusal};
+
+// No report of a path is longer.
+pub const MOST_TEXT: usize = 987;
+
+// Room for every report of a path.
+pub fn text_buffer() -> [u8; MOST_TEXT]
+    ensures { λ r. ⌜ Zeros mostPath r ⌝ }
+{
+    [0; MOST_TEXT]
+}
+
+// A count at the end of its line.
+fn put_end(out: &mut [u8], at: usize, before: &[u8], b: BitPeriods) -> usize
+    ensures { λ r. ⌜ Wrote (now (out .entry)) at ((now (before .entry) ++ inBp b) ++ word "\n") (now (out .exit)) r ⌝ }
+{
+    let end = put_bp(out, at, before, b);
+    put_word(out, end, b"\n")
+}
+
+fn put_segment(out: &mut [u8], at: usize, number: u64, master: u8, bound: BitPeriods) -> usize
+    ensures { λ r. ⌜ Wrote (now (out .entry)) at (segmentLine number master bound) (now (out .exit)) r ⌝ }
+{
+    let name = put_counted(out, at, b"segment ", number, b" ");
+    let figure = put_name(out, name, master as u64);
+    put_end(out, figure, b" bound ", bound)
+}
+
+fn put_gateway(out: &mut [u8], at: usize, number: u64, time: BitPeriods) -> usize
+    ensures { λ r. ⌜ Wrote (now (out .entry)) at (gatewayLine number time) (now (out .exit)) r ⌝ }
+{
+    let request = put_counted(out, at, b"gateway ", number, b" request ");
+    let reply = put_bp(out, request, b"", time);
+    put_end(out, reply, b" reply ", time)
+}
+
+// The lines of n gateways, each with the segment behind it.
+fn put_hops(
+    out: &mut [u8],
+    at: usize,
+    n: usize,
+    masters: &[u8; 12],
+    bounds: &[u32; 12],
+    times: &[u32; 11],
+) -> usize
+    requires { ⌜ n ≤ 10 ⌝ }
+    ensures { λ r. ⌜ Wrote (now (out .entry)) at (texts (hopLines (item (now (masters .entry))) (item (now (bounds .entry))) (item (now (times .entry)))) n) (now (out .exit)) r ⌝ }
+{
+    let mut next = at;
+    let mut i: usize = 0;
+    while i < n {
+        let segment = put_gateway(out, next, i as u64 + 1, BitPeriods(times[i + 1]));
+        next = put_segment(
+            out,
+            segment,
+            i as u64 + 2,
+            masters[i + 2],
+            BitPeriods(bounds[i + 2]),
+        );
+        i += 1;
+    }
+    next
+}
+
+fn put_total(out: &mut [u8], at: usize, total: BitPeriods, deadline: BitPeriods) -> usize
+    ensures { λ r. ⌜ Wrote (now (out .entry)) at (totalLine total deadline) (now (out .exit)) r ⌝ }
+{
+    let next = put_both(out, at, b"total ", total);
+    put_end(out, next, b" deadline ", deadline)
+}
+
+// The gateways of so many segments, of which eleven are shown.
+fn shown(segments: usize) -> usize
+    ensures { λ r. ⌜ r ≡ min (segments - 1) 10 ⌝ }
+{
+    if segments == 0 {
+        return 0;
+    }
+    if segments < 11 {
+        return segments - 1;
+    }
+    10
+}
+
+// Writes the report at the start of the lent run. More than eleven segments count as eleven.
+pub fn put_path(out: &mut [u8], way: Way, total: BitPeriods, deadline: BitPeriods) -> usize
+    ensures { λ r. ⌜ Wrote (now (out .entry)) 0 (pathText (item (way .masters)) (item (way .bounds)) (item (way .times)) (min (way .segments - 1) 10) total deadline) (now (out .exit)) r ⌝ }
+{
+    let n = shown(way.segments);
+    let masters = way.masters;
+    let bounds = way.bounds;
+    let times = way.times;
+    let first = put_word(out, 0, b"P-NET path\n");
+    let bound = bounds[1];
+    let hops = put_segment(out, first, 1, masters[1], BitPeriods(bound));
+    let last = put_hops(out, hops, n, &masters, &bounds, &times);
+    put_total(out, last, total, deadline)
+}
+
+// Writes the report of a path with a sheet that is refused, that of this segment.
+pub fn put_sheet_refusal(out: &mut [u8], segment: u64, no: u8, place: u64) -> usize
+    ensures { λ r. ⌜ Wrote (now (out .entry)) 0 (sheetRefusal segment no place) (now (out .exit)) r ⌝ }
+{
+    let next = report_phrases::put_refused(out, 0, no, place, b" of segment ");
+    put_counted(out, next, b"", segment, b"\n")
+}
+
+// The place of a path's refusal in words, and the line's end.
+fn put_path_place(out: &mut [u8], at: usize, no: u8, place: u64) -> usize
+    ensures { λ r. ⌜ Wrote (now (out .entry)) at (pathPlace no place) (now (out .exit)) r ⌝ }
+{
+    if no == 17 {
+        return put_counted(out, at, b" at ", place, b" gateways\n");
+    }
+    if no == 18 {
+        return put_counted(out, at, b" at segment ", place, b"\n");
+    }
+    if no != 4 {
+        return put_word(out, at, b"\n");
+    }
+    if place == 0 {
+        return put_word(out, at, b" at deadline\n");
+    }
+    put_counted(out, at, b" at gateway ", place, b"\n")
+}
+
+// Writes the report of a path that is refused for itself.
+pub fn put_path_refusal(out: &mut [u8], no: u8, place: u64) -> usize
+    ensures { λ r. ⌜ Wrote (now (out .entry)) 0 (pathRefusal no place) (now (out .exit)) r ⌝ }
+{
+    let next = put_counted(out, 0, b"refused ", no as u64, b"");
+    put_path_place(out, next, no, place)
+}

@@ -1,0 +1,242 @@
+-- What the reader keeps of the streams behind it tells the same as those streams. Assumes nothing.
+use mathlib.Core.Path.{_≡_, refl, sym, ap, _∙_}
+use mathlib.Core.Bool.{Bool, true, false, cond, _||_, or-true}
+use mathlib.Core.List.{List, [], _∷_, _++_}
+use Prim.Native.Nat.{ℕ, zero, suc, _+_, _≤_, _<_, max}
+use native.Mathlib.Nat.{not-suc-le-zero}
+use native.Mathlib.Numerals.{add-one}
+use native.Mathlib.Omega.{arith}
+use native.Mathlib.Decide.{ℕ-discrete}
+use borrow.Author.Tests.{eqb-true, ne-eqb, eq-eqb, le-leb, lt-leb, leb-true, leb-false, lt-ltb, le-ltb}
+use lib.ListN.{length, getD, set, length-append, length-set, replicate, List·getD-append}
+use lib.Seq.{getD-set-same, getD-set-other, getD-at}
+use lib.Dec.{eqb, leb, ltb}
+use Rattle.common.specs.Checks.{check, verdict}
+use Rattle.common.specs.Checks.Verdict.{Passed}
+use Rattle.common.proofs.Runs.{zero-at}
+use Rattle.sheet_record.specs.declared.Record.{Record}
+use Rattle.sheet_record.specs.Kinds.{nothing}
+use Rattle.sheet_read.specs.Sheets.{mostInAll, hasMaster, countOf, longestOf, overLimit, metBefore}
+use Rattle.sheet_read.specs.Steps.{among, lateNo, countsWith, longestsWith, idsWith}
+use Rattle.sheet_read.proofs.Counts.{count-more, longest-more, count-none, count-zero}
+use Rattle.sheet_read.proofs.Judged.{numbered}
+
+-- ---- Identifiers met before
+
+-- none so far, and this one is another
+pub among-no : (x i : ℕ) (ids : List ℕ) → among x i ids ≡ false → (getD ids i 0 ≡ x → ⊥) → among x (i + 1) ids ≡ false
+unfolding among
+among-no x i ids e h = rw (add-one, e) (ne-eqb (getD ids i 0) x h)
+
+-- this one is it
+pub among-yes : (x i n : ℕ) (ids : List ℕ) → i < n → getD ids i 0 ≡ x → among x n ids ≡ true
+unfolding among
+among-yes x i zero ids l e = absurd (not-suc-le-zero l)
+among-yes x i (suc n) ids l e = split (ℕ-discrete i n) (among-yes x i n ids)
+  where
+    split : Dec (i ≡ n) → (i < n → getD ids i 0 ≡ x → among x n ids ≡ true) → (among x n ids || eqb (getD ids n 0) x) ≡ true
+    split (yes q) ih = rw (eq-eqb (getD ids n 0) x (ap (λ (k : ℕ). getD ids k 0) (sym q) ∙ e)) (or-true (among x n ids))
+    split (no q) ih = rw (ih (omega (arith, q)) e)
+
+pub among-then : (x n : ℕ) (ids : List ℕ) → among x n ids ≡ true → (i : ℕ) × (i < n) × (getD ids i 0 ≡ x)
+unfolding among
+among-then x zero ids e = let z : _≡_ {A = ℕ} 0 1 = cc in absurd (omega arith)
+among-then x (suc n) ids e = split (among x n ids) refl (among-then x n ids)
+  where
+    split : (b : Bool) → among x n ids ≡ b → (among x n ids ≡ true → (i : ℕ) × (i < n) × (getD ids i 0 ≡ x)) → (i : ℕ) × (i < suc n) × (getD ids i 0 ≡ x)
+    split true q ih = let r = ih q in (r .0, omega (arith, r .1), r .2)
+    split false q ih = (n, omega arith, eqb-true (getD ids n 0) x (rw q at e))
+
+-- ---- The refusal of a stream by those before it
+
+module _ (counts ids : List ℕ) (n : ℕ) (r : Record) where
+  module _ (e : r .kind ≡ 6) where
+    pub late-variables : 64 ≤ n → 5 ≡ lateNo counts ids n r
+    unfolding lateNo mostInAll
+    late-variables l = rw (e, le-leb 64 n l)
+
+    pub late-met : n < 64 → among (r .a) n ids ≡ true → 7 ≡ lateNo counts ids n r
+    unfolding lateNo mostInAll
+    late-met l q = rw (e, lt-leb 64 n l, q)
+
+    pub late-new : n < 64 → among (r .a) n ids ≡ false → 0 ≡ lateNo counts ids n r
+    unfolding lateNo mostInAll
+    late-new l q = rw (e, lt-leb 64 n l, q)
+
+    pub not-late-variable : lateNo counts ids n r ≡ 0 → n < 64
+    not-late-variable z = split (leb 64 n) refl
+      where
+        split : (b : Bool) → leb 64 n ≡ b → n < 64
+        split true q = absurd (omega (arith, late-variables (leb-true 64 n q)))
+        split false q = leb-false 64 n q
+
+  module _ (e : r .kind ≡ 6 → ⊥) where
+    pub late-streams : 800 ≤ n → 5 ≡ lateNo counts ids n r
+    unfolding lateNo mostInAll
+    late-streams l = rw (ne-eqb (r .kind) 6 e, le-leb 800 n l)
+
+    pub late-master : n < 800 → 80 ≤ getD counts (r .a) 0 → 5 ≡ lateNo counts ids n r
+    unfolding lateNo mostInAll
+    late-master l q = rw (ne-eqb (r .kind) 6 e, lt-leb 800 n l, le-leb 80 (getD counts (r .a) 0) q)
+
+    pub late-none : n < 800 → getD counts (r .a) 0 < 80 → 0 ≡ lateNo counts ids n r
+    unfolding lateNo mostInAll
+    late-none l q = rw (ne-eqb (r .kind) 6 e, lt-leb 800 n l, lt-leb 80 (getD counts (r .a) 0) q)
+
+    pub not-late-stream : lateNo counts ids n r ≡ 0 → getD counts (r .a) 0 < 80
+    not-late-stream z = many (leb 800 n) refl
+      where
+        split : (b : Bool) → leb 80 (getD counts (r .a) 0) ≡ b → n < 800 → getD counts (r .a) 0 < 80
+        split true q l = absurd (omega (arith, late-master l (leb-true 80 (getD counts (r .a) 0) q)))
+        split false q l = leb-false 80 (getD counts (r .a) 0) q
+
+        many : (b : Bool) → leb 800 n ≡ b → getD counts (r .a) 0 < 80
+        many true q = absurd (omega (arith, late-streams (leb-true 800 n q)))
+        many false q = split (leb 80 (getD counts (r .a) 0)) refl (leb-false 800 n q)
+
+-- ---- What is kept
+
+-- 33 places with a figure for each master, where streams of kind k have one
+pub record Figures (k : ℕ) (figure : ℕ → ℕ) (xs : List ℕ) : Type 0 where
+  pub places : length xs ≡ 33
+  pub each : (k ≡ 6 → ⊥) → (x : ℕ) → x ≤ 32 → getD xs x 0 ≡ figure x
+
+-- behind these streams of kind k: how many each master has and the longest C of them, or their identifiers
+pub record Keeps (k : ℕ) (before : List Record) (counts longests ids : List ℕ) : Type 0 where
+  pub counted : Figures k (λ x. countOf x before) counts
+  pub longest : Figures k (λ x. longestOf x before) longests
+  pub variables : length ids ≡ 64
+  pub named : k ≡ 6 → (i : ℕ) → i < length before → getD ids i 0 ≡ getD before i nothing .a
+
+-- an identifier is kept exactly if a stream has it
+pub among-count : (before : List Record) (ids : List ℕ) (x : ℕ) → ((i : ℕ) → i < length before → getD ids i 0 ≡ getD before i nothing .a)
+    → among x (length before) ids ≡ ltb 0 (countOf x before)
+among-count before ids x h = split (among x (length before) ids) refl
+  where
+    split : (b : Bool) → among x (length before) ids ≡ b → among x (length before) ids ≡ ltb 0 (countOf x before)
+    split true q =
+        let w = among-then x (length before) ids q in
+        q ∙ sym (lt-ltb 0 (countOf x before) (some (countOf x before) refl w))
+      where
+        some : (n : ℕ) → countOf x before ≡ n → (i : ℕ) × (i < length before) × (getD ids i 0 ≡ x) → 0 < n
+        some zero e w = absurd (count-none x before (w .0) e (w .1) (sym (h (w .0) (w .1)) ∙ w .2))
+        some (suc n) e w = omega arith
+    split false q =
+        let z : countOf x before ≡ 0 = count-zero x before (λ i l e. different i l e) in
+        q ∙ sym (le-ltb 0 (countOf x before) (omega arith))
+      where
+        different : (i : ℕ) → i < length before → getD before i nothing .a ≡ x → ⊥
+        different i l e = let z : true ≡ false = sym (among-yes x i (length before) ids l (h i l ∙ e)) ∙ q in let z' : _≡_ {A = ℕ} 0 1 = cc in omega arith
+
+-- nothing yet
+pub keeps-none : (k : ℕ) → Keeps k [] (replicate 33 0) (replicate 33 0) (replicate 64 0)
+unfolding countOf longestOf
+keeps-none k =
+    record {
+      counted = record { places = refl; each = λ h x l. zero-at 33 x };
+      longest = record { places = refl; each = λ h x l. zero-at 33 x };
+      variables = refl;
+      named = λ h i l. absurd (not-suc-le-zero l);
+    }
+
+either-length : (b : Bool) (xs ys : List ℕ) → length xs ≡ length ys → length (cond b xs ys) ≡ length xs
+either-length true xs ys e = refl
+either-length false xs ys e = sym e
+
+-- one master's figure changes, and no other's
+figures-more : (k : ℕ) (f g : ℕ → ℕ) (xs : List ℕ) (m v : ℕ) → Figures k f xs → ((k ≡ 6 → ⊥) → m ≤ 32) → ((k ≡ 6 → ⊥) → v ≡ g m)
+    → ((x : ℕ) → (m ≡ x → ⊥) → g x ≡ f x) → Figures k g (cond (eqb k 6) xs (set xs m v))
+figures-more k f g xs m v w l own other =
+    record {
+      places = either-length (eqb k 6) xs (set xs m v) (sym (length-set xs m v)) ∙ w .places;
+      each = λ e x h. rw (ne-eqb k 6 e) (split e x h (ℕ-discrete m x));
+    }
+  where
+    split : (k ≡ 6 → ⊥) → (x : ℕ) → x ≤ 32 → Dec (m ≡ x) → getD (set xs m v) x 0 ≡ g x
+    split e x h (yes q) =
+        let b : m < length xs = omega (arith, l e, w .places) in
+        ap (λ (y : ℕ). getD (set xs m v) y 0) (sym q) ∙ (getD-set-same xs m v 0 b ∙ (own e ∙ ap g q))
+    split e x h (no q) = getD-set-other xs m x v 0 (λ z. q (sym z)) ∙ (w .each e x h ∙ sym (other x q))
+
+module _ (before : List Record) (counts longests ids : List ℕ) (r : Record) (keeps : Keeps (r .kind) before counts longests ids) where
+  -- the verdict by what is kept: one too many, or met before
+  pub late-variable : r .kind ≡ 6 → (p : ℕ) → verdict (check 5 (overLimit before r) p ∷ check 7 (metBefore before r) p ∷ []) ≡ numbered (lateNo counts ids (length before) r) p Passed
+  unfolding verdict overLimit metBefore lateNo mostInAll hasMaster numbered
+  late-variable e p =
+      rw (among-count before ids (r .a) (keeps .named e), e) (split (leb 64 (length before)) (ltb 0 (countOf (r .a) before)))
+    where
+      split : (many met : Bool) → verdict (check 5 (many || false) p ∷ check 7 met p ∷ []) ≡ numbered (cond many 5 (cond met 7 0)) p Passed
+      split true met = refl
+      split false true = refl
+      split false false = refl
+
+  pub late-stream : hasMaster (r .kind) ≡ true → (r .kind ≡ 6 → ⊥) → r .a ≤ 32 → (p : ℕ)
+      → verdict (check 5 (overLimit before r) p ∷ check 7 (metBefore before r) p ∷ []) ≡ numbered (lateNo counts ids (length before) r) p Passed
+  unfolding verdict overLimit metBefore lateNo mostInAll numbered
+  late-stream m e l p =
+      rw (keeps .counted .each e (r .a) l, ne-eqb (r .kind) 6 e, m) (split (leb 800 (length before)) (leb 80 (countOf (r .a) before)))
+    where
+      split : (many own : Bool) → verdict (check 5 (many || own) p ∷ check 7 false p ∷ []) ≡ numbered (cond many 5 (cond own 5 0)) p Passed
+      split true own = refl
+      split false true = refl
+      split false false = refl
+
+  -- one stream more is kept: counted for its master, and for no other
+  more-counted : ((r .kind ≡ 6 → ⊥) → r .a ≤ 32) → Figures (r .kind) (λ x. countOf x (before ++ (r ∷ []))) (countsWith counts r)
+  unfolding countsWith
+  more-counted l =
+      figures-more (r .kind) (λ x. countOf x before) (λ x. countOf x (before ++ (r ∷ []))) counts (r .a) (getD counts (r .a) 0 + 1) (keeps .counted) l own other
+    where
+      own : (r .kind ≡ 6 → ⊥) → getD counts (r .a) 0 + 1 ≡ countOf (r .a) (before ++ (r ∷ []))
+      own e =
+          let w : countOf (r .a) (before ++ (r ∷ [])) ≡ countOf (r .a) before + 1 = rw (eq-eqb (r .a) (r .a) refl) at (count-more (r .a) before r) in
+          omega (arith, keeps .counted .each e (r .a) (l e))
+
+      other : (x : ℕ) → (r .a ≡ x → ⊥) → countOf x (before ++ (r ∷ [])) ≡ countOf x before
+      other x q =
+          let w : countOf x (before ++ (r ∷ [])) ≡ countOf x before + 0 = rw (ne-eqb (r .a) x q) at (count-more x before r) in
+          omega arith
+
+  -- its C, where none of its master's is longer
+  more-longest : ((r .kind ≡ 6 → ⊥) → r .a ≤ 32) → Figures (r .kind) (λ x. longestOf x (before ++ (r ∷ []))) (longestsWith longests r)
+  unfolding longestsWith
+  more-longest l =
+      figures-more (r .kind) (λ x. longestOf x before) (λ x. longestOf x (before ++ (r ∷ []))) longests (r .a) (max (getD longests (r .a) 0) (r .b))
+      (keeps .longest) l own other
+    where
+      own : (r .kind ≡ 6 → ⊥) → max (getD longests (r .a) 0) (r .b) ≡ longestOf (r .a) (before ++ (r ∷ []))
+      own e =
+          let w : longestOf (r .a) (before ++ (r ∷ [])) ≡ max (longestOf (r .a) before) (r .b) =
+          rw (eq-eqb (r .a) (r .a) refl) at (longest-more (r .a) before r) in
+          omega (arith, keeps .longest .each e (r .a) (l e))
+
+      other : (x : ℕ) → (r .a ≡ x → ⊥) → longestOf x (before ++ (r ∷ [])) ≡ longestOf x before
+      other x q =
+          let w : longestOf x (before ++ (r ∷ [])) ≡ max (longestOf x before) 0 = rw (ne-eqb (r .a) x q) at (longest-more x before r) in
+          omega arith
+
+  -- or its identifier behind those before it
+  more-named : r .kind ≡ 6 → length before < 64 → (i : ℕ) → i < length (before ++ (r ∷ [])) → getD (idsWith ids (length before) r) i 0 ≡ getD (before ++ (r ∷ [])) i nothing .a
+  unfolding idsWith
+  more-named e l i h = rw (eq-eqb (r .kind) 6 e) (split (ℕ-discrete i (length before)))
+    where
+      split : Dec (i ≡ length before) → getD (set ids (length before) (r .a)) i 0 ≡ getD (before ++ (r ∷ [])) i nothing .a
+      split (yes q) =
+          rw q
+          (getD-set-same ids (length before) (r .a) 0 (omega (arith, keeps .variables)) ∙ ap (λ (x : Record). x .a) (sym (getD-at before r [] nothing (length before) refl)))
+      split (no q) =
+          let k : i < length before = omega (arith, q, length-append before (r ∷ [])) in
+          getD-set-other ids (length before) i (r .a) 0 q ∙ (keeps .named e i k ∙ ap (λ (x : Record). x .a) (sym (List·getD-append before (r ∷ []) nothing i k)))
+
+  pub keeps-more : ((r .kind ≡ 6 → ⊥) → r .a ≤ 32) → (r .kind ≡ 6 → length before < 64)
+      → Keeps (r .kind) (before ++ (r ∷ [])) (countsWith counts r) (longestsWith longests r) (idsWith ids (length before) r)
+  unfolding idsWith
+  keeps-more l h =
+      record {
+        counted = more-counted l;
+        longest = more-longest l;
+        variables =
+            let l' = length-set ids (length before) (r .a) in
+            either-length (eqb (r .kind) 6) (set ids (length before) (r .a)) ids l' ∙ (l' ∙ keeps .variables);
+        named = λ e i k. more-named e (h e) i k;
+      }

@@ -1,0 +1,335 @@
+-- Page 01, 'Numbered refusals' 1..7: reading gives a number with a place exactly if the page's table gives it, and accepts a sheet
+-- exactly if the table gives none. Assumes nothing.
+use mathlib.Core.Path.{_≡_, refl, sym, ap, _∙_}
+use mathlib.Core.Bool.{Bool, true, false, not, _&&_}
+use mathlib.Core.List.{List}
+use mathlib.Core.Logic.{_⊎_, inl, inr, ⊎-elim, _↔_}
+use Prim.Native.Nat.{ℕ, zero, suc, _+_, _≤_, _<_}
+use native.Mathlib.Omega.{arith}
+use borrow.Author.Tests.{ltb-true, ltb-false, leb-false, lt-leb, le-leb, le-ltb, eqb-true, eq-eqb, not-true, not-false}
+use lib.ListN.{length}
+use lib.Dec.{ltb, leb, eqb}
+use Rattle.common.specs.Checks.Verdict.{Refused}
+use Rattle.common.proofs.Checks.{Applies, refused-if, refused-then}
+use Rattle.common.proofs.Checks.Applies.{here, later}
+use Rattle.sheet_record.specs.declared.Record.{Record}
+use Rattle.sheet_record.specs.Kinds.{known, sizeOf}
+use Rattle.sheet_record.proofs.Tables.{both-true, known-within, known-bounds}
+use Rattle.sheet_read.specs.Sheets.{Sheet, streamsOf, sheetOf, fits, countOf, mostInAll, hasMaster, overLimit, metBefore}
+use Rattle.sheet_read.specs.Whole.{placeOf, recordsOf, recordChecks, judge, ended, reading, Outcome}
+use Rattle.sheet_read.specs.Whole.Outcome.{Read, Not}
+use Rattle.sheet_read.specs.Refusals.{recordAt, streamsBefore, KnownKind, RightKind, Complete, Ranged, InLimits, MetBefore, RefusedWith, Taken, Reached, OnlyFirst, Given}
+use Rattle.sheet_read.specs.Refusals.RightKind.{at-first, behind}
+use Rattle.sheet_read.specs.Refusals.RefusedWith.{unknown, misplaced, cut, out-of-range, one-too-many, met-before}
+use Rattle.sheet_read.specs.Refusals.Given.{empty, at-record, no-stream}
+use Rattle.sheet_read.proofs.Walk.{length-records, length-streams, stream-at, head-at}
+use Rattle.sheet_read.proofs.Cases.{PassesAt, Upto, Stops, upto-none, reading-stops, stops-once, ended-empty, ended-no-stream, ended-sheet}
+use Rattle.sheet_read.proofs.Cases.Stops.{by-record, at-end}
+use Rattle.sheet_read.proofs.Counts.{count-none, count-some}
+use Rattle.sheet_read.proofs.Known.{both-fail, fits-behind, first-fits}
+
+-- ---- The lines, one by one, as tests
+
+-- a test that holds and fails
+differ : {b : Bool} → b ≡ true → b ≡ false → ⊥
+differ e f = let z : _≡_ {A = ℕ} 0 1 = cc in omega arith
+
+-- a test fails where what it shows does not hold
+fails : {b : Bool} {P : Type 0} → (b ≡ true → P) → (P → ⊥) → b ≡ false
+fails {b = true} h n = absurd (n (h refl))
+fails {b = false} h n = refl
+
+-- and holds where what it denies does not
+holds : {b : Bool} {P : Type 0} → (b ≡ false → P) → (P → ⊥) → b ≡ true
+holds {b = true} h n = refl
+holds {b = false} h n = absurd (n (h refl))
+
+-- a later record matches the first
+fits-later : (s : List ℕ) (i : ℕ) → fits (recordsOf s (suc i)) (recordAt s (suc i) .kind) ≡ eqb (recordAt s (suc i) .kind) (recordAt s 0 .kind + 1)
+unfolding placeOf
+fits-later s i =
+    fits-behind (recordsOf s (suc i)) (recordAt s (suc i) .kind) (rw (length-records s (suc i)) (omega arith))
+    ∙ ap (λ (r : Record). eqb (recordAt s (suc i) .kind) (r .kind + 1)) (head-at s i)
+
+module _ (s : List ℕ) (i : ℕ) where
+  known-then : known (recordAt s i .kind) ≡ true → KnownKind s i
+  known-then e = let b = known-bounds (recordAt s i .kind) e in record { least = b .0; most = b .1 }
+
+  known-if : KnownKind s i → known (recordAt s i .kind) ≡ true
+  known-if k = sym (known-within (recordAt s i .kind)) ∙ rw (le-leb 1 (recordAt s i .kind) (k .least), le-leb (recordAt s i .kind) 6 (k .most))
+
+  limits-then : overLimit (streamsBefore s i) (recordAt s i) ≡ false → InLimits s i
+  unfolding overLimit
+  limits-then e =
+      let k = recordAt s i .kind in
+      let b = both-fail (leb (mostInAll k) (length (streamsBefore s i))) (hasMaster k && leb 80 (countOf (recordAt s i .a) (streamsBefore s i))) e in
+      record {
+        in-all = leb-false (mostInAll k) (length (streamsBefore s i)) (b .0);
+        of-master = λ h. leb-false 80 (countOf (recordAt s i .a) (streamsBefore s i)) (rw h at (b .1));
+      }
+
+  limits-if : InLimits s i → overLimit (streamsBefore s i) (recordAt s i) ≡ false
+  unfolding overLimit
+  limits-if l = rw (lt-leb (mostInAll (recordAt s i .kind)) (length (streamsBefore s i)) (l .in-all)) (split (hasMaster (recordAt s i .kind)) refl)
+    where
+      split : (b : Bool) → hasMaster (recordAt s i .kind) ≡ b → (b && leb 80 (countOf (recordAt s i .a) (streamsBefore s i))) ≡ false
+      split true h = lt-leb 80 (countOf (recordAt s i .a) (streamsBefore s i)) (l .of-master h)
+      split false h = refl
+
+module _ (s : List ℕ) where
+  right-then : (i : ℕ) → fits (recordsOf s i) (recordAt s i .kind) ≡ true → RightKind s i
+  unfolding recordsOf
+  right-then zero e = at-first (first-fits (recordAt s 0 .kind) e)
+  right-then (suc i) e = behind (eqb-true (recordAt s (suc i) .kind) (recordAt s 0 .kind + 1) (sym (fits-later s i) ∙ e))
+
+  right-if : (i : ℕ) → RightKind s i → fits (recordsOf s i) (recordAt s i .kind) ≡ true
+  unfolding recordsOf fits
+  right-if zero (at-first (inl e)) = rw e
+  right-if zero (at-first (inr (inl e))) = rw e
+  right-if zero (at-first (inr (inr e))) = rw e
+  right-if (suc i) (behind e) = fits-later s i ∙ eq-eqb (recordAt s (suc i) .kind) (recordAt s 0 .kind + 1) e
+
+  met-then : (i : ℕ) → metBefore (streamsBefore s i) (recordAt s i) ≡ true → MetBefore s i
+  unfolding metBefore recordsOf streamsOf countOf
+  met-then zero e = absurd (omega (arith, ltb-true 0 0 (both-true (eqb (recordAt s 0 .kind) 6) (ltb 0 0) e .1)))
+  met-then (suc n) e =
+      let x = recordAt s (suc n) .a in
+      let b = both-true (eqb (recordAt s (suc n) .kind) 6) (ltb 0 (countOf x (streamsBefore s (suc n)))) e in
+      let w = count-some x (streamsBefore s (suc n)) (ltb-true 0 (countOf x (streamsBefore s (suc n))) (b .1)) in
+      let l : w .0 < n = rw (length-streams s n) at (w .1) in
+      record {
+        variable = eqb-true (recordAt s (suc n) .kind) 6 (b .0);
+        j = suc (w .0);
+        stream = omega arith;
+        earlier = omega arith;
+        same = ap (λ (r : Record). r .a) (sym (stream-at s n (w .0) l)) ∙ w .2;
+      }
+
+  stands-not : (n x : ℕ) → countOf x (streamsBefore s (suc n)) ≡ 0 → (j : ℕ) → 1 ≤ j → j < suc n → recordAt s j .a ≡ x → ⊥
+  stands-not n x z zero l h e = omega arith
+  stands-not n x z (suc j) l h e =
+      let k : j < n = omega arith in
+      count-none x (streamsBefore s (suc n)) j z (rw (length-streams s n) k) (ap (λ (r : Record). r .a) (stream-at s n j k) ∙ e)
+
+  met-if : (i : ℕ) → MetBefore s i → metBefore (streamsBefore s i) (recordAt s i) ≡ true
+  unfolding metBefore
+  met-if zero m = absurd (omega (arith, m .earlier))
+  met-if (suc n) m = rw (eq-eqb (recordAt s (suc n) .kind) 6 (m .variable)) (split (ltb 0 (countOf (recordAt s (suc n) .a) (streamsBefore s (suc n)))) refl)
+    where
+      split : (b : Bool) → ltb 0 (countOf (recordAt s (suc n) .a) (streamsBefore s (suc n))) ≡ b → b ≡ true
+      split true q = refl
+      split false q =
+          absurd (stands-not n (recordAt s (suc n) .a) (omega (arith, ltb-false 0 (countOf (recordAt s (suc n) .a) (streamsBefore s (suc n))) q)) (m .j) (m .stream) (m .earlier) (m .same))
+
+  -- ---- A record
+
+  complete-inside : (i : ℕ) → Complete s i → placeOf s i < length s
+  unfolding sizeOf
+  complete-inside i c = omega (arith, c .ends)
+
+  only : Taken s 0 → (j : ℕ) → j < 1 → Taken s j
+  only a zero l = a
+  only a (suc j) l = absurd (omega arith)
+
+  -- taken by the table exactly if it passes
+  taken-then : (i : ℕ) → PassesAt s i → Taken s i
+  taken-then i p =
+      record {
+        is-known = known-then s i (p .is-known);
+        is-right = right-then i (p .is-right);
+        is-complete = record { ends = p .is-whole };
+        is-ranged = record { fields = p .is-ranged };
+        in-limits = limits-then s i (p .in-limits);
+        is-new = λ m. differ (met-if i m) (p .is-new);
+      }
+
+  taken-if : (i : ℕ) → Taken s i → PassesAt s i
+  taken-if i a =
+      record {
+        is-known = known-if s i (a .is-known);
+        is-right = right-if i (a .is-right);
+        is-whole = a .is-complete .ends;
+        is-ranged = a .is-ranged .fields;
+        in-limits = limits-if s i (a .in-limits);
+        is-new = fails (met-then i) (a .is-new);
+      }
+
+  -- refused with a number exactly if that is the verdict
+  refused-with : (i n p : ℕ) → judge s i ≡ Refused n p → (p ≡ placeOf s i) × RefusedWith s i n
+  unfolding judge recordChecks
+  refused-with i n p e = line (refused-then _ n p e)
+    where
+      line : {m q : ℕ} → Applies (recordChecks s (recordsOf s i) (placeOf s i) (recordAt s i)) m q → (q ≡ placeOf s i) × RefusedWith s i m
+      line (here e₂) = (refl, unknown (λ k. differ (known-if s i k) (not-true _ e₂)))
+      line (later e₂ (here e₃)) = (refl, misplaced (known-then s i (not-false _ e₂)) (λ r. differ (right-if i r) (not-true _ e₃)))
+      line (later e₂ (later e₃ (here e₁))) =
+          (refl, cut (known-then s i (not-false _ e₂)) (right-then i (not-false _ e₃)) (λ c. differ e₁ (le-ltb _ _ (c .ends))))
+      line (later e₂ (later e₃ (later e₁ (here e₄)))) = (
+        refl,
+        out-of-range (known-then s i (not-false _ e₂)) (right-then i (not-false _ e₃)) (record { ends = ltb-false _ _ e₁ })
+            (λ r. differ (r .fields) (not-true _ e₄)),
+      )
+      line (later e₂ (later e₃ (later e₁ (later e₄ (here e₅))))) = (
+        refl,
+        one-too-many (known-then s i (not-false _ e₂)) (right-then i (not-false _ e₃)) (record { ends = ltb-false _ _ e₁ })
+            (record { fields = not-false _ e₄ }) (λ l. differ e₅ (limits-if s i l)),
+      )
+      line (later e₂ (later e₃ (later e₁ (later e₄ (later e₅ (here e₇)))))) = (
+        refl,
+        met-before (known-then s i (not-false _ e₂)) (right-then i (not-false _ e₃)) (record { ends = ltb-false _ _ e₁ })
+            (record { fields = not-false _ e₄ }) (limits-then s i e₅) (met-then i e₇),
+      )
+
+  applies-for : {i n : ℕ} → RefusedWith s i n → Applies (recordChecks s (recordsOf s i) (placeOf s i) (recordAt s i)) n (placeOf s i)
+  unfolding recordChecks
+  applies-for {i} (unknown k) = here (ap not (fails (known-then s i) k))
+  applies-for {i} (misplaced k r) = later (ap not (known-if s i k)) (here (ap not (fails (right-then i) r)))
+  applies-for {i} (cut k r c) = later (ap not (known-if s i k)) (later (ap not (right-if i r)) (here (holds (λ e. record { ends = ltb-false _ _ e }) c)))
+  applies-for {i} (out-of-range k r c f) =
+      later (ap not (known-if s i k)) (later (ap not (right-if i r)) (later (le-ltb _ _ (c .ends)) (here (ap not (fails (λ e. record { fields = e }) f)))))
+  applies-for {i} (one-too-many k r c f l) =
+      later (ap not (known-if s i k)) (later (ap not (right-if i r)) (later (le-ltb _ _ (c .ends)) (later (ap not (f .fields)) (here (holds (limits-then s i) l)))))
+  applies-for {i} (met-before k r c f l m) =
+      later (ap not (known-if s i k)) (later (ap not (right-if i r)) (later (le-ltb _ _ (c .ends)) (later (ap not (f .fields)) (later (limits-if s i l) (here (met-if i m))))))
+
+  refused-for : {i n : ℕ} → RefusedWith s i n → judge s i ≡ Refused n (placeOf s i)
+  unfolding judge
+  refused-for r = refused-if (applies-for r)
+
+  -- ---- The whole sheet
+
+  -- records that the table takes are those that reading goes on behind
+  upto-then : (i : ℕ) → Upto s i → (j : ℕ) → j < i → Taken s j
+  upto-then i u j l = taken-then j (u .passed j l)
+
+  upto-if : (i : ℕ) → ((j : ℕ) → j < i → Taken s j) → Upto s i
+  upto-if i a = record { inside = λ j l. complete-inside j (a j l .is-complete); passed = λ j l. taken-if j (a j l) }
+
+  at-its-end : (i n p : ℕ) → Upto s i → placeOf s i ≡ length s → ended s i ≡ Not n p → Given s n p
+  unfolding placeOf
+  at-its-end zero n p u l e =
+      let f : Not 1 0 ≡ Not n p = sym (ended-empty s) ∙ e in
+      let en : 1 ≡ n = cc in
+      let ep : 0 ≡ p = cc in
+      rw (← en, ← ep) (empty (sym l))
+  at-its-end (suc zero) n p u l e =
+      let f : Not 6 (length s) ≡ Not n p = sym (ended-no-stream s) ∙ e in
+      let en : 6 ≡ n = cc in
+      let ep : length s ≡ p = cc in
+      rw (← en, ← ep) (no-stream (record { taken = upto-then 1 u 0 (omega arith); ends = l }))
+  at-its-end (suc (suc i)) n p u l e =
+      let f : Read (sheetOf (recordsOf s (suc (suc i)))) ≡ Not n p = sym (ended-sheet s (suc i) (λ z. omega arith)) ∙ e in
+      let z : _≡_ {A = ℕ} 0 1 = cc in
+      absurd (omega arith)
+
+  -- every number that reading gives, with its place, is one that the table gives
+  pub given-then : (n p : ℕ) → reading s ≡ Not n p → Given s n p
+  given-then n p e = by (reading-stops s)
+    where
+      by : Stops s (reading s) → Given s n p
+      by (by-record i m q u l j o) =
+          let r = refused-with i m q j in
+          let f : Not m q ≡ Not n p = sym o ∙ e in
+          let en : m ≡ n = cc in
+          let ep : q ≡ p = cc in
+          let at : placeOf s i ≡ p = sym (r .0) ∙ ep in
+          rw (← en, ← at) (at-record (record { starts = refl; inside = l; before = upto-then i u }) (r .1))
+      by (at-end i u l o) = at-its-end i n p u l (sym o ∙ e)
+
+  -- and every number that the table gives is given
+  pub given-if : {n p : ℕ} → Given s n p → reading s ≡ Not n p
+  unfolding placeOf
+  given-if (empty e) = stops-once s (at-end 0 (upto-none s) (sym e) refl) ∙ ended-empty s
+  given-if (at-record {i} {n} {p} h r) =
+      let j : judge s i ≡ Refused n p = rw (h .starts) (refused-for r) in
+      stops-once s (by-record i n p (upto-if i (h .before)) (rw (← h .starts) (h .inside)) j refl)
+  given-if (no-stream o) = stops-once s (at-end 1 (upto-if 1 (only (o .taken))) (o .ends) refl) ∙ ended-no-stream s
+
+  -- ---- Both ways
+
+  pub refused-exactly : (n p : ℕ) → (reading s ≡ Not n p) ↔ Given s n p
+  refused-exactly n p = (given-then n p, given-if)
+
+  -- a sheet is accepted exactly if no number is given anywhere
+  pub accepted-exactly : ((S : Sheet) × (reading s ≡ Read S)) ↔ ((n p : ℕ) → Given s n p → ⊥)
+  accepted-exactly = (
+    λ a n p g.
+        let e : Read (a .0) ≡ Not n p = sym (a .1) ∙ given-if g in
+        let z : _≡_ {A = ℕ} 0 1 = cc in
+        omega arith,
+    λ h. outcome (reading s) refl h,
+  )
+    where
+      outcome : (o : Outcome) → reading s ≡ o → ((n p : ℕ) → Given s n p → ⊥) → (S : Sheet) × (reading s ≡ Read S)
+      outcome (Read S) e h = (S, e)
+      outcome (Not n p) e h = absurd (h n p (given-then n p e))
+
+  -- ---- Number by number, at a place p
+
+  -- 1: the sheet is empty; or it ends inside a record that reading comes to, of known kind and right for its position
+  pub refused-1 : (p : ℕ) → (reading s ≡ Not 1 p) ↔ (((length s ≡ 0) × (p ≡ 0)) ⊎ ((i : ℕ) × Reached s i p × KnownKind s i × RightKind s i × (Complete s i → ⊥)))
+  refused-1 p = (λ e. line (given-then 1 p e), ⊎-elim (λ w. given-if (rw (w .1) (empty (w .0)))) (λ w. given-if (at-record (w .1) (cut (w .2) (w .3) (w .4)))))
+    where
+      line : {q : ℕ} → Given s 1 q → ((length s ≡ 0) × (q ≡ 0)) ⊎ ((i : ℕ) × Reached s i q × KnownKind s i × RightKind s i × (Complete s i → ⊥))
+      line (empty e) = inl (e, refl)
+      line (at-record {i} h (cut k r c)) = inr (i, h, k, r, c)
+
+  -- 2: a record that reading comes to is of no kind 1..6
+  pub refused-2 : (p : ℕ) → (reading s ≡ Not 2 p) ↔ ((i : ℕ) × Reached s i p × (KnownKind s i → ⊥))
+  refused-2 p = (λ e. line (given-then 2 p e), λ w. given-if (at-record (w .1) (unknown (w .2))))
+    where
+      line : {q : ℕ} → Given s 2 q → (i : ℕ) × Reached s i q × (KnownKind s i → ⊥)
+      line (at-record {i} h (unknown k)) = (i, h, k)
+
+  -- 3: a record that reading comes to is of known kind, wrong for its position
+  pub refused-3 : (p : ℕ) → (reading s ≡ Not 3 p) ↔ ((i : ℕ) × Reached s i p × KnownKind s i × (RightKind s i → ⊥))
+  refused-3 p = (λ e. line (given-then 3 p e), λ w. given-if (at-record (w .1) (misplaced (w .2) (w .3))))
+    where
+      line : {q : ℕ} → Given s 3 q → (i : ℕ) × Reached s i q × KnownKind s i × (RightKind s i → ⊥)
+      line (at-record {i} h (misplaced k r)) = (i, h, k, r)
+
+  -- 4: a record that reading comes to is of known kind, right for its position and complete, and has a field out of range
+  pub refused-4 : (p : ℕ) → (reading s ≡ Not 4 p) ↔ ((i : ℕ) × Reached s i p × KnownKind s i × RightKind s i × Complete s i × (Ranged s i → ⊥))
+  refused-4 p = (λ e. line (given-then 4 p e), λ w. given-if (at-record (w .1) (out-of-range (w .2) (w .3) (w .4) (w .5))))
+    where
+      line : {q : ℕ} → Given s 4 q → (i : ℕ) × Reached s i q × KnownKind s i × RightKind s i × Complete s i × (Ranged s i → ⊥)
+      line (at-record {i} h (out-of-range k r c f)) = (i, h, k, r, c, f)
+
+  -- 5: a record that reading comes to has nothing wrong by itself, and is one stream more than a limit allows
+  pub refused-5 : (p : ℕ) → (reading s ≡ Not 5 p) ↔ ((i : ℕ) × Reached s i p × KnownKind s i × RightKind s i × Complete s i × Ranged s i × (InLimits s i → ⊥))
+  refused-5 p = (λ e. line (given-then 5 p e), λ w. given-if (at-record (w .1) (one-too-many (w .2) (w .3) (w .4) (w .5) (w .6))))
+    where
+      line : {q : ℕ} → Given s 5 q → (i : ℕ) × Reached s i q × KnownKind s i × RightKind s i × Complete s i × Ranged s i × (InLimits s i → ⊥)
+      line (at-record {i} h (one-too-many k r c f l)) = (i, h, k, r, c, f, l)
+
+  -- 6: the first record is taken, and the sheet ends behind it
+  pub refused-6 : (p : ℕ) → (reading s ≡ Not 6 p) ↔ (OnlyFirst s × (p ≡ length s))
+  refused-6 p = (λ e. line (given-then 6 p e), λ w. given-if (rw (w .1) (no-stream (w .0))))
+    where
+      line : {q : ℕ} → Given s 6 q → OnlyFirst s × (q ≡ length s)
+      line (no-stream o) = (o, refl)
+
+  -- 7: a variable that reading comes to has nothing wrong by itself, is within the limits, and an earlier one has its identifier
+  pub refused-7 : (p : ℕ)
+      → (reading s ≡ Not 7 p) ↔ ((i : ℕ) × Reached s i p × KnownKind s i × RightKind s i × Complete s i × Ranged s i × InLimits s i × MetBefore s i)
+  refused-7 p = (λ e. line (given-then 7 p e), λ w. given-if (at-record (w .1) (met-before (w .2) (w .3) (w .4) (w .5) (w .6) (w .7))))
+    where
+      line : {q : ℕ} → Given s 7 q → (i : ℕ) × Reached s i q × KnownKind s i × RightKind s i × Complete s i × Ranged s i × InLimits s i × MetBefore s i
+      line (at-record {i} h (met-before k r c f l m)) = (i, h, k, r, c, f, l, m)
+
+  -- reading gives no other number, and no place past the end
+  pub numbers-given : {n p : ℕ} → Given s n p → (1 ≤ n) × (n ≤ 7) × (p ≤ length s)
+  numbers-given (empty e) = (omega arith, omega arith, omega arith)
+  numbers-given (no-stream o) = (omega arith, omega arith, omega arith)
+  numbers-given (at-record h (unknown k)) = (omega arith, omega arith, omega (arith, h .inside))
+  numbers-given (at-record h (misplaced k r)) = (omega arith, omega arith, omega (arith, h .inside))
+  numbers-given (at-record h (cut k r c)) = (omega arith, omega arith, omega (arith, h .inside))
+  numbers-given (at-record h (out-of-range k r c f)) = (omega arith, omega arith, omega (arith, h .inside))
+  numbers-given (at-record h (one-too-many k r c f l)) = (omega arith, omega arith, omega (arith, h .inside))
+  numbers-given (at-record h (met-before k r c f l m)) = (omega arith, omega arith, omega (arith, h .inside))
+
+  -- the table leaves no choice: two numbers that it gives are one, at one place
+  pub given-once : {n p m q : ℕ} → Given s n p → Given s m q → (n ≡ m) × (p ≡ q)
+  given-once {n} {p} {m} {q} g h =
+      let e : Not n p ≡ Not m q = sym (given-if g) ∙ given-if h in
+      (cc, cc)

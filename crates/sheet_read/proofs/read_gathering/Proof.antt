@@ -1,0 +1,66 @@
+-- `sheet_read::read_gathering` meets its contract: the first record by itself, and the streams by `read_streams`. Assumes nothing.
+use native.Mathlib.Omega.{arith}
+use borrow.Author.Needs.{needs}
+use Rattle.sheet_read.proofs.Behind.{told-empty, refused-keeps, MeetsFirst, refused-first, begun-first}
+use Rattle.sheet_read.proofs.read_gathering.Statement.{statement}
+use Rattle.sheet_read.proofs.read_gathering.Tie as tie
+
+returns : tie.Need-returns
+returns c =
+    let a = c .before .before .args in
+    let e = told-empty (a .s .now) (c .if1 .taken) in
+    (e, refused-keeps (a .s .now) _ _ _ (a .counts .now) (a .longests .now) e)
+
+shared-slice-read-kind : tie.Need-shared-slice-read-kind
+shared-slice-read-kind c = search needs
+
+record-at-requires : tie.Need-record-at-requires
+record-at-requires c κs = search needs
+
+in-range-requires : tie.Need-in-range-requires
+in-range-requires c κs = search needs
+
+begins-requires : tie.Need-begins-requires
+begins-requires c κs = search needs
+
+own-no-requires : tie.Need-own-no-requires
+own-no-requires c κs = search needs
+
+-- what is met first
+meets : (c : tie.After-own-no)
+    → MeetsFirst (c .before .before .before .before .before .before .before .before .before .args .s .now) (c .before .before .before .before .before .record-at .result)
+    (c .before .before .before .in-range .result) (c .before .before .begins .result) (c .own-no .result)
+meets c =
+    record {
+      some = omega arith;
+      is-met = c .before .before .before .before .before .record-at .ensures;
+      is-ranged = c .before .before .before .in-range .ensures;
+      is-right = c .before .before .begins .ensures;
+      is-own = c .own-no .ensures;
+    }
+
+returns-2 : tie.Need-returns-2
+returns-2 c =
+    let a = c .before .before .before .before .before .before .before .before .before .before .args in
+    let e = refused-first (meets (c .before)) (c .if2 .taken) in
+    (e, refused-keeps (a .s .now) _ _ _ (a .counts .now) (a .longests .now) e)
+
+read-streams-requires : tie.Need-read-streams-requires
+read-streams-requires c κs = begun-first (meets (c .before .before .before)) (c .before .before .if2 .left)
+
+returns-3 : tie.Need-returns-3
+returns-3 c = search needs
+
+pub read-gathering-spec : {M : Type 1} → statement M
+read-gathering-spec =
+    tie.close
+    (tie.spec
+    returns
+    shared-slice-read-kind
+    record-at-requires
+    in-range-requires
+    begins-requires
+    own-no-requires
+    returns-2
+    read-streams-requires
+    returns-3)

@@ -1,0 +1,240 @@
+// Reading a whole sheet, page 01 'Sheet records' and 'Numbered refusals' 1..7.
+use sheet_record::Met;
+use sheet_record::Record;
+ghost use mathlib.Core.Path.{_≡_};
+ghost use mathlib.Core.Bool.{_&&_};
+ghost use mathlib.Core.List.{[]};
+ghost use mathlib.Core.Logic.{_⊎_};
+ghost use Prim.Native.Nat.{_+_, _≤_, max};
+ghost use lib.Dec.{eqb};
+ghost use Rattle.sheet_record.specs.Kinds.{known, inRange, metOf};
+ghost use Rattle.sheet_read.specs.Sheets.{fits};
+ghost use Rattle.sheet_read.specs.Steps;
+ghost use Rattle.sheet_read.specs.Steps.{ownNo, lateNo, countsWith, longestsWith, idsWith, Begun};
+ghost use Rattle.sheet_read.specs.Whole.{told, countsTold, longestsTold, reading};
+
+// No sheet of P-NET or PROFIBUS has more streams.
+pub const MOST: usize = 800;
+
+// What reading a sheet answers.
+pub enum Reading {
+    // The first record, the number of streams, and the place of the first of them.
+    Accepted {
+        head: Record,
+        streams: usize,
+        first: usize,
+    },
+    // The refusal's number, and its place.
+    Refused {
+        no: u8,
+        place: usize,
+    },
+}
+
+// A sheet begins with kind 1, 3 or 5.
+fn begins(kind: u8) -> bool
+    ensures { λ r. ⌜ r ≡ fits [] kind ⌝ }
+{
+    (kind == 1) | ((kind == 3) | (kind == 5))
+}
+
+// The refusal of a record by itself, in the order 2, 3, 1, 4; 0 if there is none.
+fn own_no(kind: u8, right: bool, whole: bool, ranged: bool) -> u8
+    ensures { λ no. ⌜ no ≡ ownNo (known kind) right whole ranged ⌝ }
+{
+    if !sheet_record::known(kind) {
+        return 2;
+    }
+    if !right {
+        return 3;
+    }
+    if !whole {
+        return 1;
+    }
+    if !ranged {
+        return 4;
+    }
+    0
+}
+
+// Whether x stands among the first n identifiers.
+fn among(x: u32, n: usize, ids: &[u32; 64]) -> bool
+    requires { ⌜ n ≤ 64 ⌝ }
+    ensures { λ r. ⌜ r ≡ Steps.among x n (now (ids .entry)) ⌝ }
+{
+    let mut i: usize = 0;
+    while i < n {
+        if ids[i] == x {
+            return true;
+        }
+        i += 1;
+    }
+    false
+}
+
+// The refusal of a stream by the n before it: one too many, or an identifier met before; 0 if there is none.
+fn late_no(counts: &[u8; 33], ids: &[u32; 64], n: usize, r: Record) -> u8
+    requires { ⌜ ((r .kind ≡ 6 → ⊥) → r .a ≤ 32) ⌝ }
+    ensures { λ no. ⌜ no ≡ lateNo (now (counts .entry)) (now (ids .entry)) n r ⌝ }
+{
+    if r.kind == 6 {
+        if 64 <= n {
+            return 5;
+        }
+        if among(r.a, n, ids) {
+            return 7;
+        }
+        return 0;
+    }
+    if MOST <= n {
+        return 5;
+    }
+    let master = r.a as usize;
+    if 80 <= counts[master] {
+        return 5;
+    }
+    0
+}
+
+fn larger(a: u32, b: u32) -> u32
+    ensures { λ r. ⌜ r ≡ max a b ⌝ }
+{
+    if a < b { b } else { a }
+}
+
+// Keeps a stream that passed: one more of its master, and the longest C of those, or its identifier.
+fn keep(counts: &mut [u8; 33], longests: &mut [u32; 33], ids: &mut [u32; 64], n: usize, r: Record)
+    requires { ⌜ lateNo (now counts) (now ids) n r ≡ 0 ⌝ }
+    requires { ⌜ ((r .kind ≡ 6 → ⊥) → r .a ≤ 32) ⌝ }
+    ensures { λ _. ⌜ now (counts .exit) ≡ countsWith (now (counts .entry)) r ⌝ }
+    ensures { λ _. ⌜ now (longests .exit) ≡ longestsWith (now (longests .entry)) r ⌝ }
+    ensures { λ _. ⌜ now (ids .exit) ≡ idsWith (now (ids .entry)) n r ⌝ }
+{
+    if r.kind == 6 {
+        ids[n] = r.a;
+    } else {
+        let master = r.a as usize;
+        counts[master] += 1;
+        longests[master] = larger(longests[master], r.b);
+    }
+}
+
+// The record at a place that a stream behind the first record of a bus can be. The kind stands as a constant for each bus, so that the
+// compiler makes a reader of its own for each.
+fn stream_at(s: &[u8], at: usize, bus: u8) -> Met
+    requires { ⌜ bus ≡ 1 ⊎ (bus ≡ 3 ⊎ bus ≡ 5) ⌝ }
+    ensures { λ r. ⌜ r ≡ metOf (now (s .entry)) at (bus + 1) ⌝ }
+{
+    match bus {
+        1 => sheet_record::record_of(s, at, 2),
+        3 => sheet_record::record_of(s, at, 4),
+        _ => sheet_record::record_of(s, at, 6),
+    }
+}
+
+// The same of its ranges.
+fn stream_in_range(bus: u8, top: u32, long: u32, r: Record) -> bool
+    requires { ⌜ bus ≡ 1 ⊎ (bus ≡ 3 ⊎ bus ≡ 5) ⌝ }
+    ensures { λ ok. ⌜ ok ≡ (eqb (r .kind) (bus + 1) && inRange top long r) ⌝ }
+{
+    match bus {
+        1 => sheet_record::in_range_of(2, top, long, r),
+        3 => sheet_record::in_range_of(4, top, long, r),
+        _ => sheet_record::in_range_of(6, top, long, r),
+    }
+}
+
+// Reads the streams behind a first record that passed, up to the sheet's end or the first refusal.
+fn read_streams(
+    s: &[u8],
+    head: Record,
+    first: usize,
+    counted: &mut [u8; 33],
+    longest: &mut [u32; 33],
+) -> Reading
+    requires { ⌜ Begun (now s) head first ⌝ }
+    ensures { λ r. ⌜ r ≡ told (now (s .entry)) (reading (now (s .entry))) ⌝ }
+    ensures { λ _. ⌜ now (counted .exit) ≡ countsTold (reading (now (s .entry))) (now (counted .entry)) ⌝ }
+    ensures { λ _. ⌜ now (longest .exit) ≡ longestsTold (reading (now (s .entry))) (now (longest .entry)) ⌝ }
+{
+    let mut counts: [u8; 33] = [0; 33];
+    let mut longests: [u32; 33] = [0; 33];
+    let mut ids: [u32; 64] = [0; 64];
+    let mut n: usize = 0;
+    let mut at = first;
+    while at < s.len() {
+        let kind = s[at];
+        let met = stream_at(s, at, head.kind);
+        let stream = met.found;
+        let ranged = stream_in_range(head.kind, head.a, head.c, stream);
+        let own = own_no(kind, kind == head.kind + 1, met.next != at, ranged);
+        if own != 0 {
+            return Reading::Refused { no: own, place: at };
+        }
+        let late = late_no(&counts, &ids, n, stream);
+        if late != 0 {
+            return Reading::Refused {
+                no: late,
+                place: at,
+            };
+        }
+        keep(&mut counts, &mut longests, &mut ids, n, stream);
+        n += 1;
+        at = met.next;
+    }
+    if n == 0 {
+        return Reading::Refused {
+            no: 6,
+            place: s.len(),
+        };
+    }
+    let accepted = Reading::Accepted {
+        head,
+        streams: n,
+        first,
+    };
+    if head.kind == 5 {
+        return accepted;
+    }
+    *counted = counts;
+    *longest = longests;
+    accepted
+}
+
+// What a whole sheet is: accepted, or refused with a number and a place. One pass reads it and gathers what the planners ask of a master: it
+// hands over, where the sheet is accepted, at place k the number of master k's streams and the longest C of them.
+pub fn read_gathering(s: &[u8], counts: &mut [u8; 33], longests: &mut [u32; 33]) -> Reading
+    ensures { λ r. ⌜ r ≡ told (now (s .entry)) (reading (now (s .entry))) ⌝ }
+    ensures { λ _. ⌜ now (counts .exit) ≡ countsTold (reading (now (s .entry))) (now (counts .entry)) ⌝ }
+    ensures { λ _. ⌜ now (longests .exit) ≡ longestsTold (reading (now (s .entry))) (now (longests .entry)) ⌝ }
+{
+    if s.len() == 0 {
+        return Reading::Refused { no: 1, place: 0 };
+    }
+    let kind = s[0];
+    let met = sheet_record::record_at(s, 0);
+    let head = met.found;
+    let ranged = sheet_record::in_range(0, 0, head);
+    let own = own_no(kind, begins(kind), met.next != 0, ranged);
+    if own != 0 {
+        return Reading::Refused { no: own, place: 0 };
+    }
+    read_streams(s, head, met.next, counts, longests)
+}
+
+// The same for callers that need no cycles.
+pub fn read_counting(s: &[u8], handed: &mut [u8; 33]) -> Reading
+    ensures { λ r. ⌜ r ≡ told (now (s .entry)) (reading (now (s .entry))) ⌝ }
+    ensures { λ _. ⌜ now (handed .exit) ≡ countsTold (reading (now (s .entry))) (now (handed .entry)) ⌝ }
+{
+    let mut longests: [u32; 33] = [0; 33];
+    read_gathering(s, handed, &mut longests)
+}
+
+// The same for callers that need neither.
+pub fn read(s: &[u8]) -> Reading
+    ensures { λ r. ⌜ r ≡ told (now (s .entry)) (reading (now (s .entry))) ⌝ }
+{
+    let mut counts: [u8; 33] = [0; 33];
+    read_counting(s, &mut counts)
+}

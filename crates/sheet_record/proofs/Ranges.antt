@@ -1,0 +1,187 @@
+-- Page 01, 'Sheet records': what a record in range is, kind by kind, in the page's words. Assumes nothing.
+use mathlib.Core.Path.{_≡_, refl, ap}
+use mathlib.Core.Bool.{Bool, true, false, _&&_}
+use mathlib.Core.List.{List, [], _∷_}
+use Prim.Native.Nat.{ℕ, _≤_}
+use native.Mathlib.Nat.{le-refl, le-trans}
+use borrow.Author.Tests.{le-leb, leb-true, eqb-true, eq-eqb}
+use lib.Dec.{leb, eqb}
+use Rattle.sheet_record.specs.declared.Record.{Record}
+use Rattle.sheet_record.specs.Kinds.{Field, Limit, kinds, fieldsOf, limit, within, ranged, inRange, numbers}
+use Rattle.sheet_record.specs.Kinds.Limit.{is, masters, message, spacing}
+use Rattle.sheet_record.proofs.Tables.{both-true}
+
+-- ---- One field
+
+-- x is in lo..hi
+pub record Range (lo x hi : ℕ) : Type 0 where
+  pub least : lo ≤ x
+  pub most : x ≤ hi
+
+pub within-range : (lo x hi : ℕ) → within lo x hi ≡ true → Range lo x hi
+unfolding within
+within-range lo x hi e =
+    let b = both-true (leb lo x) (leb x hi) e in
+    record { least = leb-true lo x (b .0); most = leb-true x hi (b .1) }
+
+pub range-within : (lo x hi : ℕ) → Range lo x hi → within lo x hi ≡ true
+unfolding within
+range-within lo x hi w = simp (le-leb lo x (w .least), le-leb x hi (w .most))
+
+-- ---- A record of one kind alone
+
+-- of the kind asked for, the other test is left
+pub of-kind : (k kind : ℕ) (ok : Bool) → k ≡ kind → (eqb k kind && ok) ≡ ok
+of-kind k kind ok e = ap (λ (b : Bool). b && ok) (eq-eqb k kind e)
+
+-- ---- Larger limits allow what smaller ones do
+
+pub limit-mono : (top top' long long' : ℕ) (r r' : Record) (l : Limit) → top ≤ top' → long ≤ long' → r .c ≤ r' .c
+    → limit top long r l ≤ limit top' long' r' l
+unfolding limit
+limit-mono top top' long long' r r' (is n) t m c = le-refl n
+limit-mono top top' long long' r r' masters t m c = t
+limit-mono top top' long long' r r' message t m c = m
+limit-mono top top' long long' r r' spacing t m c = c
+
+module _ (top top' long long' : ℕ) (r : Record) (t : top ≤ top') (m : long ≤ long') where
+  ranged-mono : (fs : List Field) (xs : List ℕ) → ranged top long r fs xs ≡ true → ranged top' long' r fs xs ≡ true
+  unfolding ranged
+  ranged-mono fs [] e = refl
+  ranged-mono [] (x ∷ xs) e =
+      let b = both-true (eqb x 0) (ranged top long r [] xs) e in
+      simp (b .0, ranged-mono [] xs (b .1))
+  ranged-mono (f ∷ fs) (x ∷ xs) e =
+      let b = both-true (within (f .least) x (limit top long r (f .most))) (ranged top long r fs xs) e in
+      let w = within-range (f .least) x (limit top long r (f .most)) (b .0) in
+      let h = le-trans (w .most) (limit-mono top top' long long' r r (f .most) t m (le-refl (r .c))) in
+      simp (range-within (f .least) x (limit top' long' r (f .most)) (record { least = w .least; most = h }), ranged-mono fs xs (b .1))
+
+  pub in-range-mono : inRange top long r ≡ true → inRange top' long' r ≡ true
+  unfolding inRange
+  in-range-mono e = ranged-mono (fieldsOf (r .kind)) (numbers r) e
+
+-- ---- The six kinds
+
+-- 1, P-NET segment
+pub record SegmentRanges (r : Record) : Type 0 where
+  pub masters : Range 1 (r .a) 32
+  pub no-b : r .b ≡ 0
+  pub no-c : r .c ≡ 0
+  pub no-d : r .d ≡ 0
+
+-- 2, P-NET stream
+pub record PnetStreamRanges (top : ℕ) (r : Record) : Type 0 where
+  pub master : Range 1 (r .a) top
+  pub cycle : Range 1 (r .b) 1548
+  pub spacing : Range 1 (r .c) 1000000000
+  pub deadline : Range 1 (r .d) (r .c)
+
+-- 3, PROFIBUS ring
+pub record RingRanges (r : Record) : Type 0 where
+  pub masters : Range 1 (r .a) 32
+  pub latency : Range 1 (r .b) 100000
+  pub message : Range 1 (r .c) 100000
+  pub no-d : r .d ≡ 0
+
+-- 4, PROFIBUS high-priority stream
+pub record RingStreamRanges (top long : ℕ) (r : Record) : Type 0 where
+  pub master : Range 1 (r .a) top
+  pub cycle : Range 1 (r .b) long
+  pub deadline : Range 1 (r .c) 1000000000
+  pub no-d : r .d ≡ 0
+
+-- 5, WorldFIP
+pub record ExchangeRanges (r : Record) : Type 0 where
+  pub exchange : Range 1 (r .a) 1000000
+  pub no-b : r .b ≡ 0
+  pub no-c : r .c ≡ 0
+  pub no-d : r .d ≡ 0
+
+-- 6, WorldFIP variable
+pub record VariableRanges (r : Record) : Type 0 where
+  pub identifier : Range 0 (r .a) 65535
+  pub period : Range 1 (r .b) 1000000000
+  pub no-c : r .c ≡ 0
+  pub no-d : r .d ≡ 0
+
+-- the tests of the four fields, one by one
+record Tests (p q s t : Bool) : Type 0 where
+  for-a : p ≡ true
+  for-b : q ≡ true
+  for-c : s ≡ true
+  for-d : t ≡ true
+
+tests : (p q s t : Bool) → p && (q && (s && (t && true))) ≡ true → Tests p q s t
+tests true true true true e = record { for-a = refl; for-b = refl; for-c = refl; for-d = refl }
+tests true true true false e = record { for-a = refl; for-b = refl; for-c = refl; for-d = e }
+tests true true false t e = record { for-a = refl; for-b = refl; for-c = e; for-d = cc }
+tests true false s t e = record { for-a = refl; for-b = e; for-c = cc; for-d = cc }
+tests false q s t e = record { for-a = e; for-b = cc; for-c = cc; for-d = cc }
+
+module _ (top long : ℕ) (r : Record) (e : inRange top long r ≡ true) where
+  pub segment-ranges : r .kind ≡ 1 → SegmentRanges r
+  unfolding inRange ranged limit fieldsOf kinds
+  segment-ranges k =
+      let t = tests _ _ _ _ (rw k at e) in
+      record {
+        masters = within-range 1 (r .a) 32 (t .for-a);
+        no-b = eqb-true (r .b) 0 (t .for-b);
+        no-c = eqb-true (r .c) 0 (t .for-c);
+        no-d = eqb-true (r .d) 0 (t .for-d);
+      }
+
+  pub pnet-stream-ranges : r .kind ≡ 2 → PnetStreamRanges top r
+  unfolding inRange ranged limit fieldsOf kinds
+  pnet-stream-ranges k =
+      let t = tests _ _ _ _ (rw k at e) in
+      record {
+        master = within-range 1 (r .a) top (t .for-a);
+        cycle = within-range 1 (r .b) 1548 (t .for-b);
+        spacing = within-range 1 (r .c) 1000000000 (t .for-c);
+        deadline = within-range 1 (r .d) (r .c) (t .for-d);
+      }
+
+  pub ring-ranges : r .kind ≡ 3 → RingRanges r
+  unfolding inRange ranged limit fieldsOf kinds
+  ring-ranges k =
+      let t = tests _ _ _ _ (rw k at e) in
+      record {
+        masters = within-range 1 (r .a) 32 (t .for-a);
+        latency = within-range 1 (r .b) 100000 (t .for-b);
+        message = within-range 1 (r .c) 100000 (t .for-c);
+        no-d = eqb-true (r .d) 0 (t .for-d);
+      }
+
+  pub ring-stream-ranges : r .kind ≡ 4 → RingStreamRanges top long r
+  unfolding inRange ranged limit fieldsOf kinds
+  ring-stream-ranges k =
+      let t = tests _ _ _ _ (rw k at e) in
+      record {
+        master = within-range 1 (r .a) top (t .for-a);
+        cycle = within-range 1 (r .b) long (t .for-b);
+        deadline = within-range 1 (r .c) 1000000000 (t .for-c);
+        no-d = eqb-true (r .d) 0 (t .for-d);
+      }
+
+  pub exchange-ranges : r .kind ≡ 5 → ExchangeRanges r
+  unfolding inRange ranged limit fieldsOf kinds
+  exchange-ranges k =
+      let t = tests _ _ _ _ (rw k at e) in
+      record {
+        exchange = within-range 1 (r .a) 1000000 (t .for-a);
+        no-b = eqb-true (r .b) 0 (t .for-b);
+        no-c = eqb-true (r .c) 0 (t .for-c);
+        no-d = eqb-true (r .d) 0 (t .for-d);
+      }
+
+  pub variable-ranges : r .kind ≡ 6 → VariableRanges r
+  unfolding inRange ranged limit fieldsOf kinds
+  variable-ranges k =
+      let t = tests _ _ _ _ (rw k at e) in
+      record {
+        identifier = within-range 0 (r .a) 65535 (t .for-a);
+        period = within-range 1 (r .b) 1000000000 (t .for-b);
+        no-c = eqb-true (r .c) 0 (t .for-c);
+        no-d = eqb-true (r .d) 0 (t .for-d);
+      }

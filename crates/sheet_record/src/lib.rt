@@ -1,0 +1,162 @@
+// The record format of a sheet, page 01 'Sheet records': reading one record.
+ghost use mathlib.Core.Bool.{_&&_};
+ghost use mathlib.Core.Path.{_≡_};
+ghost use Prim.Native.Nat.{_+_, _≤_, _<_, _^_};
+ghost use lib.Dec.{eqb};
+ghost use lib.ListN.{length, getD};
+ghost use Rattle.sheet_record.specs.Numbers.{be};
+ghost use Rattle.sheet_record.specs.Kinds;
+ghost use Rattle.sheet_record.specs.Kinds.{inRange, metAt, metOf, nothing};
+ghost use Rattle.sheet_record.specs.Widths.{Wide};
+
+// One record: its kind, and its fields in the order of the page. A field that the kind does not have is 0.
+pub struct Record {
+    pub kind: u8,
+    pub a: u32,
+    pub b: u32,
+    pub c: u32,
+    pub d: u32,
+}
+
+// The record at a place, and the place just after it.
+pub struct Met {
+    pub found: Record,
+    pub next: usize,
+}
+
+// The number in the w bytes from a place, the highest first.
+fn number(s: &[u8], at: usize, w: usize) -> u32
+    requires { ⌜ (w ≤ 4) × (at + w ≤ length (now s)) ⌝ }
+    ensures { λ r. ⌜ (r ≡ be (now (s .entry)) at w) × (r < 256 ^ w) ⌝ }
+{
+    let mut x: u32 = 0;
+    let mut i: usize = 0;
+    while i < w {
+        x = x * 256 + s[at + i] as u32;
+        i += 1;
+    }
+    x
+}
+
+// The page's table has a line for this kind.
+pub fn known(kind: u8) -> bool
+    ensures { λ r. ⌜ r ≡ Kinds.known kind ⌝ }
+{
+    (1 <= kind) & (kind <= 6)
+}
+
+// No record at a place.
+fn nothing_at(at: usize) -> Met
+    ensures { λ r. ⌜ r ≡ record { found = nothing; next = at } ⌝ }
+{
+    let found = Record {
+        kind: 0,
+        a: 0,
+        b: 0,
+        c: 0,
+        d: 0,
+    };
+    Met { found, next: at }
+}
+
+// The record at a place whose kind has fields of these widths, if it ends within the sheet.
+fn whole_at(s: &[u8], at: usize, wa: usize, wb: usize, wc: usize, wd: usize) -> Met
+    requires { ⌜ at < length (now s) ⌝ }
+    requires { ⌜ Wide (getD (now s) at 0) wa wb wc wd ⌝ }
+    ensures { λ r. ⌜ r ≡ metAt (now (s .entry)) at ⌝ }
+{
+    if s.len() - at < 1 + wa + wb + wc + wd {
+        return nothing_at(at);
+    }
+    let at_a = at + 1;
+    let at_b = at_a + wa;
+    let at_c = at_b + wb;
+    let at_d = at_c + wc;
+    let found = Record {
+        kind: s[at],
+        a: number(s, at_a, wa),
+        b: number(s, at_b, wb),
+        c: number(s, at_c, wc),
+        d: number(s, at_d, wd),
+    };
+    Met {
+        found,
+        next: at_d + wd,
+    }
+}
+
+// The record of a kind at a place and the place just after it; nothing, and the place itself, where no whole record of that kind stands.
+// Nothing is added to a place that is past the end, so any place may be asked. The widths stand here as constants, a line for each kind,
+// so that each is read without a loop; where the kind asked for is a constant too, one line is left.
+pub fn record_of(s: &[u8], at: usize, kind: u8) -> Met
+    ensures { λ r. ⌜ r ≡ metOf (now (s .entry)) at kind ⌝ }
+{
+    if s.len() <= at {
+        return nothing_at(at);
+    }
+    if s[at] != kind {
+        return nothing_at(at);
+    }
+    match kind {
+        1 => whole_at(s, at, 1, 0, 0, 0),
+        2 => whole_at(s, at, 1, 2, 4, 4),
+        3 => whole_at(s, at, 1, 4, 4, 0),
+        4 => whole_at(s, at, 1, 4, 4, 0),
+        5 => whole_at(s, at, 4, 0, 0, 0),
+        6 => whole_at(s, at, 2, 4, 0, 0),
+        _ => nothing_at(at),
+    }
+}
+
+// The record at a place, of whatever kind, and the place just after it.
+pub fn record_at(s: &[u8], at: usize) -> Met
+    ensures { λ r. ⌜ r ≡ metAt (now (s .entry)) at ⌝ }
+{
+    if s.len() <= at {
+        return nothing_at(at);
+    }
+    record_of(s, at, s[at])
+}
+
+// A record of a kind with every field in its range, behind a first record with `top` masters and the longest message `long`.
+// A field that the kind does not have is 0. All tests are made at once, with no branch between them.
+pub fn in_range_of(kind: u8, top: u32, long: u32, r: Record) -> bool
+    ensures { λ ok. ⌜ ok ≡ (eqb (r .kind) kind && inRange top long r) ⌝ }
+{
+    if r.kind != kind {
+        return false;
+    }
+    let a = r.a;
+    let b = r.b;
+    let c = r.c;
+    let d = r.d;
+    match kind {
+        1 => (1 <= a) & (a <= 32) & (b == 0) & (c == 0) & (d == 0),
+        2 => (1 <= a)
+            & (a <= top)
+            & (1 <= b)
+            & (b <= 1548)
+            & (1 <= c)
+            & (c <= 1000000000)
+            & (1 <= d)
+            & (d <= c),
+        3 => (1 <= a) & (a <= 32) & (1 <= b) & (b <= 100000) & (1 <= c) & (c <= 100000) & (d == 0),
+        4 => (1 <= a)
+            & (a <= top)
+            & (1 <= b)
+            & (b <= long)
+            & (1 <= c)
+            & (c <= 1000000000)
+            & (d == 0),
+        5 => (1 <= a) & (a <= 1000000) & (b == 0) & (c == 0) & (d == 0),
+        6 => (a <= 65535) & (1 <= b) & (b <= 1000000000) & (c == 0) & (d == 0),
+        _ => (a == 0) & (b == 0) & (c == 0) & (d == 0),
+    }
+}
+
+// Every field of a record in its range, whatever its kind.
+pub fn in_range(top: u32, long: u32, r: Record) -> bool
+    ensures { λ ok. ⌜ ok ≡ inRange top long r ⌝ }
+{
+    in_range_of(r.kind, top, long, r)
+}

@@ -1,0 +1,235 @@
+-- A record and its bytes: what is encoded decodes to itself, wherever it stands; what is decoded encodes to the bytes that stand there;
+-- and decoding looks at no other bytes. Assumes nothing.
+use mathlib.Core.Path.{_≡_, refl, sym, ap, _∙_}
+use mathlib.Core.Bool.{Bool, true, false, _&&_}
+use mathlib.Core.List.{List, [], _∷_, _++_, append-assoc}
+use Prim.Native.Nat.{ℕ, zero, suc, _+_, _^_, _≤_, _<_}
+use native.Mathlib.Nat.{le-refl}
+use native.Mathlib.Numerals.{add-one}
+use native.Mathlib.Omega.{arith}
+use borrow.Author.Tests.{le-leb, leb-true, ltb-true, eqb-true}
+use lib.Dec.{ltb, leb, eqb}
+use lib.ListN.{length, getD, take, drop, length-append}
+use lib.Seq.{getD-at, getD-take, take-add, drop-drop, drop-cons}
+use Rattle.sheet_record.specs.declared.Record.{Record}
+use Rattle.sheet_record.specs.Numbers.{be, digits}
+use Rattle.sheet_record.specs.Kinds.{Field, Limit, kinds, fieldsOf, widths, sizeOf, known, fieldAt, decode, body, numbers, encode, whole, limit, within, ranged, inRange}
+use Rattle.sheet_record.specs.Kinds.Limit.{is, masters, message, spacing}
+use Rattle.sheet_record.specs.Widths.{widthAt}
+use Rattle.sheet_write.specs.Writing.{mostMasters, mostMessage}
+use Rattle.sheet_record.proofs.Numbers.{length-digits, be-digits, be-same, digits-be}
+use Rattle.sheet_record.proofs.Tables.{both-true, at-every-kind, wide, size-is, fields-at-most}
+use Rattle.sheet_write.proofs.Stored.{encode-is}
+use Rattle.sheet_record.proofs.Records.{decode-is}
+use Rattle.sheet_record.proofs.Ranges.{within-range, limit-mono}
+
+-- ---- Whole records
+
+pub record Whole (s : List ℕ) (at : ℕ) : Type 0 where
+  pub is-known : known (getD s at 0) ≡ true
+  pub ends : at + sizeOf (getD s at 0) ≤ length s
+
+pub whole-then : (s : List ℕ) (at : ℕ) → whole s at ≡ true → Whole s at
+unfolding whole
+whole-then s at e =
+    let b = both-true (known (getD s at 0)) (leb (at + sizeOf (getD s at 0)) (length s)) e in
+    record { is-known = b .0; ends = leb-true (at + sizeOf (getD s at 0)) (length s) (b .1) }
+
+pub whole-if : (s : List ℕ) (at : ℕ) → Whole s at → whole s at ≡ true
+unfolding whole
+whole-if s at w = simp (w .is-known, le-leb (at + sizeOf (getD s at 0)) (length s) (w .ends))
+
+-- ---- The length of an encoded record
+
+length-body : (fs : List Field) (xs : List ℕ) → length fs ≤ length xs → length (body fs xs) ≡ widths fs
+unfolding body widths
+length-body [] xs l = refl
+length-body (f ∷ fs) [] l = absurd (omega arith)
+length-body (f ∷ fs) (x ∷ xs) l =
+    let g : length fs ≤ length xs = omega arith in
+    omega (arith, length-append (digits (f .width) x) (body fs xs), length-digits (f .width) x, length-body fs xs g)
+
+pub length-encode : (r : Record) → length (encode r) ≡ sizeOf (r .kind)
+unfolding encode sizeOf
+length-encode r = omega (arith, length-body (fieldsOf (r .kind)) (numbers r) (fields-at-most (r .kind)))
+
+-- ---- Numbers that fit their fields
+
+-- each number fits its field, and is 0 where there is no field
+data Fit : List Field → List ℕ → Type 0 where
+  none : Fit [] []
+  over : {x : ℕ} {xs : List ℕ} → x ≡ 0 → Fit [] xs → Fit [] (x ∷ xs)
+  more : {f : Field} {fs : List Field} {x : ℕ} {xs : List ℕ} → x < 256 ^ f .width → Fit fs xs → Fit (f ∷ fs) (x ∷ xs)
+
+-- a record with the longest spacing
+abbrev longest : Record
+longest = record { kind = 0; a = 0; b = 0; c = 1000000000; d = 0 }
+
+-- the third field, if there is one, has a limit of its own, at most that spacing
+abbrev spacingLimit : Limit → Bool
+spacingLimit (is n) = leb n 1000000000
+spacingLimit masters = true
+spacingLimit message = true
+spacingLimit spacing = false
+
+abbrev spacingFirst : List Field → Bool
+spacingFirst [] = true
+spacingFirst (f ∷ fs) = spacingLimit (f .most)
+
+-- every limit fits the field's bytes
+abbrev roomyLine : List Field → Bool
+roomyLine [] = true
+roomyLine (f ∷ fs) = ltb (limit mostMasters mostMessage longest (f .most)) (256 ^ f .width) && roomyLine fs
+
+module _ (r : Record) (short : r .c ≤ 1000000000) where
+  ranged-fits : (fs : List Field) (xs : List ℕ) → length fs ≤ length xs → roomyLine fs ≡ true → ranged mostMasters mostMessage r fs xs ≡ true → Fit fs xs
+  unfolding ranged
+  ranged-fits [] [] l q e = none
+  ranged-fits [] (x ∷ xs) l q e =
+      let b = both-true (eqb x 0) (ranged mostMasters mostMessage r [] xs) e in
+      over (eqb-true x 0 (b .0)) (ranged-fits [] xs (omega arith) q (b .1))
+  ranged-fits (f ∷ fs) [] l q e = absurd (omega arith)
+  ranged-fits (f ∷ fs) (x ∷ xs) l q e =
+      let b = both-true (within (f .least) x (limit mostMasters mostMessage r (f .most))) (ranged mostMasters mostMessage r fs xs) e in
+      let t = both-true (ltb (limit mostMasters mostMessage longest (f .most)) (256 ^ f .width)) (roomyLine fs) q in
+      let w = within-range (f .least) x (limit mostMasters mostMessage r (f .most)) (b .0) in
+      let m = limit-mono mostMasters mostMasters mostMessage mostMessage r longest (f .most) (le-refl 32) (le-refl 100000) short in
+      let h : x < 256 ^ f .width = omega (arith, w .most, m, ltb-true (limit mostMasters mostMessage longest (f .most)) (256 ^ f .width) (t .0)) in
+      more h (ranged-fits fs xs (omega arith) (t .1) (b .1))
+
+spacing-limit : (r : Record) (l : Limit) → spacingLimit l ≡ true → limit mostMasters mostMessage r l ≤ 1000000000
+unfolding limit
+spacing-limit r (is n) q = leb-true n 1000000000 q
+spacing-limit r masters q = omega arith
+spacing-limit r message q = omega arith
+spacing-limit r spacing q = let z : _≡_ {A = ℕ} 0 1 = cc in absurd (omega arith)
+
+module _ (r : Record) where
+  -- the fields behind the first
+  ranged-rest : (fs : List Field) (x : ℕ) (xs : List ℕ) → ranged mostMasters mostMessage r fs (x ∷ xs) ≡ true
+      → ranged mostMasters mostMessage r (drop 1 fs) xs ≡ true
+  unfolding ranged
+  ranged-rest [] x xs e = both-true (eqb x 0) (ranged mostMasters mostMessage r [] xs) e .1
+  ranged-rest (f ∷ fs) x xs e = both-true (within (f .least) x (limit mostMasters mostMessage r (f .most))) (ranged mostMasters mostMessage r fs xs) e .1
+
+  first-short : (fs : List Field) (x : ℕ) (xs : List ℕ) → spacingFirst fs ≡ true → ranged mostMasters mostMessage r fs (x ∷ xs) ≡ true → x ≤ 1000000000
+  unfolding ranged
+  first-short [] x xs q e = omega (arith, eqb-true x 0 (both-true (eqb x 0) (ranged mostMasters mostMessage r [] xs) e .0))
+  first-short (f ∷ fs) x xs q e =
+      let b = both-true (within (f .least) x (limit mostMasters mostMessage r (f .most))) (ranged mostMasters mostMessage r fs xs) e in
+      omega (arith, within-range (f .least) x (limit mostMasters mostMessage r (f .most)) (b .0) .most, spacing-limit r (f .most) q)
+
+  spacing-short : inRange mostMasters mostMessage r ≡ true → r .c ≤ 1000000000
+  unfolding inRange kinds
+  spacing-short e =
+      let fs = fieldsOf (r .kind) in
+      let b = ranged-rest fs (r .a) (r .b ∷ r .c ∷ r .d ∷ []) e in
+      let c = ranged-rest (drop 1 fs) (r .b) (r .c ∷ r .d ∷ []) b in
+      first-short (drop 1 (drop 1 fs)) (r .c) (r .d ∷ []) (at-every-kind (λ fs. spacingFirst (drop 1 (drop 1 fs))) refl refl (r .kind)) c
+
+-- a record in range fits its fields
+in-range-fits : (r : Record) → inRange mostMasters mostMessage r ≡ true → Fit (fieldsOf (r .kind)) (numbers r)
+unfolding inRange kinds limit
+in-range-fits r e =
+    let fs = fieldsOf (r .kind) in
+    ranged-fits r (spacing-short r e) fs (numbers r) (fields-at-most (r .kind)) (at-every-kind roomyLine refl refl (r .kind)) e
+
+-- ---- Encoded, then decoded
+
+fields-back : {fs : List Field} {xs : List ℕ} → Fit fs xs → (p q : List ℕ) (j : ℕ) → fieldAt (p ++ (body fs xs ++ q)) (length p) fs j ≡ getD xs j 0
+unfolding fieldAt body
+fields-back none p q zero = refl
+fields-back none p q (suc j) = refl
+fields-back (over e t) p q zero = sym e
+fields-back (over e t) p q (suc j) = fields-back t p q j
+fields-back (more {f} {fs} {x} {xs} h t) p q zero = rw append-assoc (be-digits (f .width) x p (body fs xs ++ q) h)
+fields-back (more {f} {fs} {x} {xs} h t) p q (suc j) =
+    let d = digits (f .width) x in
+    let e : p ++ ((d ++ body fs xs) ++ q) ≡ (p ++ d) ++ (body fs xs ++ q) = simp append-assoc in
+    let n : length p + f .width ≡ length (p ++ d) = omega (arith, length-append p d, length-digits (f .width) x) in
+    rw (e, n) (fields-back t (p ++ d) q j)
+
+module _ (r : Record) (e : inRange mostMasters mostMessage r ≡ true) (p q : List ℕ) where
+  kind-back : getD (p ++ (encode r ++ q)) (length p) 0 ≡ r .kind
+  unfolding encode
+  kind-back = getD-at p (r .kind) (body (fieldsOf (r .kind)) (numbers r) ++ q) 0 (length p) refl
+
+  field-back : (j : ℕ) → fieldAt (p ++ (encode r ++ q)) (length p + 1) (fieldsOf (r .kind)) j ≡ getD (numbers r) j 0
+  unfolding encode
+  field-back j =
+      let k : List ℕ = r .kind ∷ [] in
+      let fs = fieldsOf (r .kind) in
+      let g : p ++ (k ++ (body fs (numbers r) ++ q)) ≡ (p ++ k) ++ (body fs (numbers r) ++ q) = simp append-assoc in
+      let n : length p + 1 ≡ length (p ++ k) = omega (arith, length-append p k) in
+      rw (g, n) (fields-back (in-range-fits r e) (p ++ k) q j)
+
+  -- a record in range, encoded anywhere, decodes to itself
+  pub decode-encode : decode (p ++ (encode r ++ q)) (length p) ≡ r
+  unfolding decode
+  decode-encode = simp (kind-back, field-back)
+
+  pub whole-encode : known (r .kind) ≡ true → whole (p ++ (encode r ++ q)) (length p) ≡ true
+  whole-encode k =
+      let s = p ++ (encode r ++ q) in
+      let n : length p + sizeOf (r .kind) ≤ length s = omega (arith, length-append p (encode r ++ q), length-append (encode r) q, length-encode r) in
+      whole-if s (length p) (record { is-known = rw kind-back k; ends = rw kind-back n })
+
+-- ---- Decoded, then encoded
+
+-- a run of n and m bytes is a run of n and one of m behind it
+take-run : (n m at : ℕ) (s : List ℕ) → take (n + m) (drop at s) ≡ take n (drop at s) ++ take m (drop (at + n) s)
+take-run n m at s = rw (take-add n m (drop at s), drop-drop n at s)
+
+module _ (s : List ℕ) (at : ℕ) (bytes : (i : ℕ) → getD s i 0 < 256) where
+  -- the bytes of a whole record are those of what is decoded there
+  pub encode-decode : whole s at ≡ true → take (sizeOf (getD s at 0)) (drop at s) ≡ encode (decode s at)
+  encode-decode e =
+      let h = whole-then s at e in
+      let k = getD s at 0 in
+      let wa = widthAt (fieldsOf k) 0 in
+      let wb = widthAt (fieldsOf k) 1 in
+      let wc = widthAt (fieldsOf k) 2 in
+      let wd = widthAt (fieldsOf k) 3 in
+      let w = wide k (h .is-known) in
+      let z = size-is k wa wb wc wd w in
+      let a = at + 1 in
+      let b = a + wa in
+      let c = b + wb in
+      let d = c + wc in
+      let n : sizeOf k ≡ suc (wa + (wb + (wc + wd))) = omega arith in
+      let r : Record = record { kind = k; a = be s a wa; b = be s b wb; c = be s c wc; d = be s d wd } in
+      let q : encode r ≡ k ∷ (take wa (drop a s) ++ (take wb (drop b s) ++ (take wc (drop c s) ++ take wd (drop d s)))) =
+      encode-is r wa wb wc wd w
+      ∙ simp (
+        digits-be s a wa bytes (omega (arith, h .ends)),
+        digits-be s b wb bytes (omega (arith, h .ends)),
+        digits-be s c wc bytes (omega (arith, h .ends)),
+        digits-be s d wd bytes (omega (arith, h .ends)),
+      ) in
+      let l : at < length s = omega (arith, h .ends) in
+      rw (n, drop-cons s at 0 l, ← add-one at, take-run wa (wb + (wc + wd)) a s, take-run wb (wc + wd) b s, take-run wc wd c s)
+      (sym q ∙ ap encode (decode-is s at wa wb wc wd w k (r .a) (r .b) (r .c) (r .d) refl refl refl refl refl))
+
+-- ---- Decoding looks at the record's own bytes only
+
+fields-same : (s t : List ℕ) (at : ℕ) (fs : List Field) (j : ℕ) → ((i : ℕ) → at ≤ i → i < at + widths fs → getD s i 0 ≡ getD t i 0)
+    → fieldAt s at fs j ≡ fieldAt t at fs j
+unfolding fieldAt widths
+fields-same s t at [] j same = refl
+fields-same s t at (f ∷ fs) zero same = be-same s t at (f .width) (λ i lo hi. same i lo (omega arith))
+fields-same s t at (f ∷ fs) (suc j) same = fields-same s t (at + f .width) fs j (λ i lo hi. same i (omega arith) (omega arith))
+
+pub decode-same : (s t : List ℕ) (at : ℕ) → ((i : ℕ) → at ≤ i → i < at + sizeOf (getD t at 0) → getD s i 0 ≡ getD t i 0) → decode s at ≡ decode t at
+unfolding decode sizeOf
+decode-same s t at same =
+    let fs = fieldsOf (getD t at 0) in
+    let k = same at (omega arith) (omega arith) in
+    let f : (j : ℕ) → fieldAt s (at + 1) fs j ≡ fieldAt t (at + 1) fs j = λ j. fields-same s t (at + 1) fs j (λ i lo hi. same i (omega arith) (omega arith)) in
+    rw (k, f 0, f 1, f 2, f 3)
+
+-- so a sheet that is cut behind the record gives the same record
+pub decode-take : (s : List ℕ) (n at : ℕ) → at + sizeOf (getD s at 0) ≤ n → decode (take n s) at ≡ decode s at
+decode-take s n at h = decode-same (take n s) s at (λ i lo hi. getD-take n s i 0 (omega arith))
+
+pub kind-take : (s : List ℕ) (n at : ℕ) → at < n → getD (take n s) at 0 ≡ getD s at 0
+kind-take s n at h = getD-take n s at 0 h

@@ -1,0 +1,126 @@
+-- Laws of the writer, page 01 'Sheet records': a refusal changes nothing, and a record without one is put. Assumes nothing.
+use mathlib.Core.Path.{_≡_, refl, ap, _∙_}
+use mathlib.Core.Bool.{true, false, not}
+use mathlib.Core.List.{List, _∷_, _++_}
+use Prim.Native.Nat.{ℕ, _+_, _≤_, _<_, _^_}
+use borrow.Author.Tests.{lt-ltb, le-ltb, ltb-false, not-false}
+use native.Mathlib.Omega.{arith}
+use lib.ListN.{length, take, drop, length-append}
+use lib.Seq.{length-take-le, take-at, drop-at}
+use Rattle.common.specs.Checks.{Check, Verdict, verdict}
+use Rattle.common.specs.Checks.Verdict.{Passed, Refused}
+use Rattle.common.proofs.Checks.{Applies, Clear, refused-if, passed-if, passed-then}
+use Rattle.common.proofs.Checks.Applies.{here, later}
+use Rattle.common.proofs.Checks.Clear.{none, and}
+use Rattle.sheet_record.specs.declared.Record.{Record}
+use Rattle.sheet_write.specs.declared.Put.{Put}
+use Rattle.sheet_write.specs.declared.Put.the-variants as put
+use Rattle.sheet_record.specs.Numbers.{pasted}
+use Rattle.sheet_record.specs.Kinds.{known, sizeOf, encode, decode, whole, inRange}
+use Rattle.sheet_write.specs.Writing.{mostMasters, mostMessage, needed, writeChecks, putBy, pastedBy, putAnswer, putBytes}
+use Rattle.sheet_record.proofs.Numbers.{length-pasted, pasted-front}
+use Rattle.sheet_write.proofs.Trips.{length-encode, decode-encode, whole-encode}
+
+-- what a call answers and leaves in the buffer
+abbrev pub Written : List ℕ → ℕ → Record → Put → List ℕ → Type 0
+Written b at r p b' = (p ≡ putAnswer (length b) at r) × (b' ≡ putBytes b at r)
+
+module _ (b : List ℕ) (at : ℕ) (r : Record) where
+  pub refused-written : {n p : ℕ} → Applies (writeChecks (length b) at r) n p → Written b at r (put.Refused n p) b
+  unfolding putAnswer putBytes
+  refused-written a = let e = refused-if a in (rw e, rw e)
+
+  pub passed-written : Clear (writeChecks (length b) at r) → Written b at r (put.Next (at + sizeOf (r .kind))) (pasted b at (encode r))
+  unfolding putAnswer putBytes
+  passed-written c = let e = passed-if c in (rw e, rw e)
+
+  pub unknown-written : known (r .kind) ≡ false → Written b at r (put.Refused 2 at) b
+  unfolding writeChecks
+  unknown-written k = refused-written (here (ap not k))
+
+  pub range-written : known (r .kind) ≡ true → inRange mostMasters mostMessage r ≡ false → Written b at r (put.Refused 4 at) b
+  unfolding writeChecks
+  range-written k ok = refused-written (later (ap not k) (here (ap not ok)))
+
+  module _ (k : known (r .kind) ≡ true) (ok : inRange mostMasters mostMessage r ≡ true) where
+    -- no room: 13, with the length that the whole buffer needs
+    pub short-written : length b < at + sizeOf (r .kind) → (p : ℕ) → needed (at + sizeOf (r .kind)) ≡ p → Written b at r (put.Refused 13 p) b
+    unfolding writeChecks
+    short-written h p e =
+        let t = lt-ltb (length b) (at + sizeOf (r .kind)) h in
+        rw (← e) (refused-written (later (ap not k) (later (ap not ok) (here t))))
+
+    pub room-written : at + sizeOf (r .kind) ≤ length b → Written b at r (put.Next (at + sizeOf (r .kind))) (pasted b at (encode r))
+    unfolding writeChecks
+    room-written h =
+        let t = le-ltb (length b) (at + sizeOf (r .kind)) h in
+        passed-written (and (ap not k) (and (ap not ok) (and t none)))
+
+-- what the whole buffer needs is counted in 64 bits, or 0
+pub needed-is : (n : ℕ) → n < 2 ^ 64 → needed n ≡ n
+unfolding needed
+needed-is n h = simp (lt-ltb n (2 ^ 64) h)
+
+pub needed-none : (n : ℕ) → 2 ^ 64 ≤ n → needed n ≡ 0
+unfolding needed
+needed-none n h = simp (le-ltb n (2 ^ 64) h)
+
+-- ---- A record that was written
+
+-- what the buffer b then holds: the record, up to the place that was answered, and before and after it what it had
+pub record Stands (b now : List ℕ) (at : ℕ) (r : Record) (e : ℕ) : Type 0 where
+  pub ends : e ≡ at + sizeOf (r .kind)
+  pub room : e ≤ length b
+  pub reads : decode now at ≡ r
+  pub is-whole : whole now at ≡ true
+  pub same-length : length now ≡ length b
+  pub same-before : take at now ≡ take at b
+  pub same-after : drop e now ≡ drop e b
+
+next-passed : (v : Verdict) (end e : ℕ) → putBy v end ≡ put.Next e → (v ≡ Passed) × (e ≡ end)
+next-passed Passed end e q = (refl, cc)
+next-passed (Refused n p) end e q = (cc, cc)
+
+pasted-stands : (b : List ℕ) (at : ℕ) (r : Record) → known (r .kind) ≡ true → inRange mostMasters mostMessage r ≡ true → at + sizeOf (r .kind) ≤ length b
+    → Stands b (pasted b at (encode r)) at r (at + sizeOf (r .kind))
+pasted-stands b at r k ok fits =
+    let n = length-encode r in
+    let end = at + length (encode r) in
+    let rest = drop end b in
+    let front : length (take at b) ≡ at = length-take-le at b (omega arith) in
+    let both : length (take at b ++ encode r) ≡ end = rw (length-append, front) refl in
+    record {
+      ends = refl;
+      room = fits;
+      reads = rw front at (decode-encode r ok (take at b) rest);
+      is-whole = rw front at (whole-encode r ok (take at b) rest k);
+      same-length = length-pasted b at (encode r) (omega arith);
+      same-before = take-at (take at b) (encode r ++ rest) at front;
+      same-after = rw (← n) (ap (drop end) (pasted-front b at (encode r) (omega arith)) ∙ drop-at (take at b ++ encode r) rest end both);
+    }
+
+-- no line applies: the first does not, and none behind it
+clear-rest : {c : Check} {cs : List Check} → Clear (c ∷ cs) → (c .given ≡ false) × Clear cs
+clear-rest (and e t) = (e, t)
+
+-- a record whose writing answers a place stands there
+pub written : (b : List ℕ) (at : ℕ) (r : Record) (e : ℕ) → putAnswer (length b) at r ≡ put.Next e → Stands b (putBytes b at r) at r e
+unfolding putAnswer putBytes writeChecks
+written b at r e q =
+    let z = at + sizeOf (r .kind) in
+    let v = next-passed (verdict (writeChecks (length b) at r)) z e q in
+    let c₁ = clear-rest (passed-then (writeChecks (length b) at r) (v .0)) in
+    let c₂ = clear-rest (c₁ .1) in
+    let c₃ = clear-rest (c₂ .1) in
+    let fits = ltb-false (length b) z (c₃ .0) in
+    let same : putBytes b at r ≡ pasted b at (encode r) = simp (v .0) in
+    rw (v .1, same) (pasted-stands b at r (not-false (known (r .kind)) (c₁ .0)) (not-false (inRange mostMasters mostMessage r) (c₂ .0)) fits)
+
+refused-kept : (v : Verdict) (end n p : ℕ) (new b : List ℕ) → putBy v end ≡ put.Refused n p → pastedBy v new b ≡ b
+refused-kept Passed end n p new b q = cc
+refused-kept (Refused m o) end n p new b q = refl
+
+-- and a refusal changes no byte
+pub refused-keeps : (b : List ℕ) (at : ℕ) (r : Record) (n p : ℕ) → putAnswer (length b) at r ≡ put.Refused n p → putBytes b at r ≡ b
+unfolding putAnswer putBytes
+refused-keeps b at r n p q = refused-kept (verdict (writeChecks (length b) at r)) (at + sizeOf (r .kind)) n p (pasted b at (encode r)) b q

@@ -1,0 +1,51 @@
+-- Page 01, 'Sheet records', the writer: what writing one record answers, and what the buffer then holds. Assumes nothing.
+use Prim.Native.Nat.{ℕ, _+_, _^_}
+use mathlib.Core.List.{List, [], _∷_}
+use mathlib.Core.Bool.{cond, not}
+use lib.ListN.{length}
+use lib.Dec.{ltb}
+use Rattle.common.specs.Checks.{Check, check, Verdict, verdict}
+use Rattle.common.specs.Checks.Verdict.{Passed, Refused}
+use Rattle.sheet_record.specs.Numbers.{pasted}
+use Rattle.sheet_record.specs.Kinds.{known, sizeOf, encode, inRange}
+use Rattle.sheet_record.specs.declared.Record.{Record}
+use Rattle.sheet_write.specs.declared.Put.{Put}
+use Rattle.sheet_write.specs.declared.Put.the-variants as put
+
+-- limits that need another record are taken at their greatest: 32 masters, a longest message of 100,000
+abbrev pub mostMasters : ℕ
+mostMasters = 32
+
+abbrev pub mostMessage : ℕ
+mostMessage = 100000
+
+-- the length that the whole buffer needs, and 0 where it can't be counted in 64 bits
+unfoldable pub needed : ℕ → ℕ
+needed end = cond (ltb end (2 ^ 64)) end 0
+
+-- kind, ranges, room, in this order, for a buffer of n bytes
+unfoldable pub writeChecks : ℕ → ℕ → Record → List Check
+unfolding known inRange needed sizeOf
+writeChecks n at r =
+    check 2 (not (known (r .kind))) at
+    ∷ check 4 (not (inRange mostMasters mostMessage r)) at
+    ∷ check 13 (ltb n (at + sizeOf (r .kind))) (needed (at + sizeOf (r .kind)))
+    ∷ []
+
+abbrev pub putBy : Verdict → ℕ → Put
+putBy Passed end = put.Next end
+putBy (Refused n p) end = put.Refused n p
+
+abbrev pub pastedBy : Verdict → List ℕ → List ℕ → List ℕ
+pastedBy Passed written b = written
+pastedBy (Refused n p) written b = b
+
+-- the answer: the place just after the record, or the refusal
+unfoldable pub putAnswer : ℕ → ℕ → Record → Put
+unfolding verdict writeChecks sizeOf
+putAnswer n at r = putBy (verdict (writeChecks n at r)) (at + sizeOf (r .kind))
+
+-- the buffer: only the record's own bytes change, and none on a refusal
+unfoldable pub putBytes : List ℕ → ℕ → Record → List ℕ
+unfolding verdict writeChecks encode
+putBytes b at r = pastedBy (verdict (writeChecks (length b) at r)) (pasted b at (encode r)) b

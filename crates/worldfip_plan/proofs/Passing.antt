@@ -1,0 +1,190 @@
+-- What the bytes of a WorldFIP sheet say: what it declares is within the page's ranges, and record after record is a variable of it.
+-- Assumes nothing.
+use mathlib.Core.Path.{_≡_, refl, sym, ap, _∙_, fun-ext}
+use mathlib.Core.List.{List}
+use Prim.Native.Nat.{ℕ, suc, _+_, _-_, _≤_, _<_}
+use native.Mathlib.Omega.{arith}
+use native.Mathlib.Decide.{decLt}
+use lib.Dec.{ltb}
+use lib.ListN.{length, getD, List·getD-eq-default}
+use borrow.Author.Tests.{lt-ltb, le-ltb, eq-eqb, ne-eqb}
+use Rattle.common.specs.Sums.{when}
+use Rattle.common.specs.Checks.{Check, Verdict, verdict}
+use Rattle.common.specs.Checks.Verdict.{Passed, Refused}
+use Rattle.sheet_record.specs.declared.Met.{Met}
+use Rattle.sheet_record.specs.Kinds.{nothing, metOf}
+use Rattle.sheet_record.proofs.Ranges.{VariableRanges, exchange-ranges, variable-ranges}
+use Rattle.sheet_read.specs.Sheets.{Sheet}
+use Rattle.sheet_read.specs.Whole.{Outcome, placeOf, reading}
+use Rattle.sheet_read.specs.Steps.{sheetIn, Ready}
+use Rattle.sheet_read.specs.Whole.Outcome.{Read}
+use Rattle.sheet_read.proofs.Known.{Known}
+use Rattle.sheet_read.proofs.Taken.{ready-known, ready-streams, stream-met-of}
+use Rattle.worldfip_rules.specs.Traffic.{Traffic, Declared, plain, periodOf, ahead, rankOf, variableOf, identifierAt, microcycle, slots, inRows, rows, periodAt, askedOf, missingOf}
+use Rattle.worldfip_rules.proofs.Plain.{plainOf, plain-declared, plain-variable}
+use Rattle.worldfip_plan.specs.declared.answer.Plan.the-variants as plan
+use Rattle.worldfip_plan.specs.Answer.{variableBy, variableAt, trafficOf, tableChecks, planChecks, planBy, runBy, planOf, runOf, identifierOf}
+use Rattle.worldfip_plan.specs.Held.{numbered, held, Sheeted, Placed, Ranked, tablePlan, tableRun, Gathered}
+use Rattle.worldfip_plan.proofs.Tied.{variable-is}
+
+-- ---- A sheet that reads without refusal declares traffic within the ranges
+
+module _ (s : List ℕ) (S : Sheet) (known : Known s S) (bus : S .head .kind ≡ 5) where
+  in-range : (i : ℕ) → i < length (S .streams) → VariableRanges (getD (S .streams) i nothing)
+  in-range i l = variable-ranges _ _ _ (known .ranged i l) (known .kinds i l ∙ ap (λ (x : ℕ). x + 1) bus)
+
+  pub declared : Declared (trafficOf S)
+  unfolding trafficOf variableAt
+  declared =
+      let x = exchange-ranges 0 0 (S .head) (known .head-ranged) bus in
+      record {
+        exchange-in = (x .exchange .least, x .exchange .most);
+        number-in = (known .some, known .few-variables bus);
+        period-in = λ i lo hi. (let r = in-range (i - 1) (omega arith) in (r .period .least, r .period .most));
+      }
+
+-- ---- Record after record
+
+module _ {s : List ℕ} {first n : ℕ} (ready : Ready s 5 first n) where
+  pub ready-declared : Declared (trafficOf (sheetIn s n))
+  ready-declared = declared s (sheetIn s n) (ready-known ready) (ready .bus)
+
+  pub ready-number : trafficOf (sheetIn s n) .number ≡ n
+  unfolding trafficOf
+  ready-number = ready-streams ready
+
+  -- a record that was met is the next variable, and its identifier has two bytes; behind it stands the next record
+  pub record Stepped (i : ℕ) (m : Met) : Type 0 where
+    pub variable : variableBy (m .found) ≡ trafficOf (sheetIn s n) .variable (i + 1)
+    pub small : m .found .a < 65536
+    pub next : m .next ≡ placeOf s (suc (i + 1))
+
+  pub stepped : (i at : ℕ) (m : Met) → i < n → at ≡ placeOf s (suc i) → m ≡ metOf s at 6 → Stepped i m
+  unfolding trafficOf variableAt
+  stepped i at m l e q =
+      let l' : i < length (sheetIn s n .streams) = omega (arith, ready-number) in
+      let here = stream-met-of ready i at m l e q in
+      let p : i + 1 - 1 ≡ i = omega arith in
+      let b : m .found .a ≤ 65535 = rw (here .is) (in-range s (sheetIn s n) (ready-known ready) (ready .bus) i l' .identifier .most) in
+      record {
+        variable = rw (p, ← here .is);
+        small = omega arith;
+        next = here .next;
+      }
+
+  -- behind the last, both fields are 0
+  pub none-behind : (i : ℕ) → n ≤ i → trafficOf (sheetIn s n) .variable (i + 1) ≡ record { identifier = 0; period = 0 }
+  unfolding trafficOf variableAt
+  none-behind i l =
+      let p : i + 1 - 1 ≡ i = omega arith in
+      rw (p, List·getD-eq-default (sheetIn s n .streams) nothing {n = i} (omega (arith, ready-number)))
+
+-- ---- The arrays, and the answer
+
+-- identifiers play no part
+module _ (T : Traffic) where
+  plain-by : (v : Verdict) → planBy v (plainOf T) ≡ planBy v T
+  unfolding plain slots rows microcycle inRows
+  plain-by Passed = refl
+  plain-by (Refused n p) = refl
+
+  plain-rows-by : (v : Verdict) (old : List ℕ) → runBy v (plainOf T) old ≡ runBy v T old
+  unfolding plain slots rows microcycle inRows periodAt askedOf variableOf rankOf ahead
+  plain-rows-by Passed old = refl
+  plain-rows-by (Refused n p) old = refl
+
+  plain-checks : (room : ℕ) → tableChecks (plainOf T) room ≡ tableChecks T room
+  unfolding tableChecks plain slots rows missingOf microcycle inRows periodAt askedOf variableOf rankOf ahead
+  plain-checks room = refl
+
+  plain-plan : (room : ℕ) → tablePlan (plainOf T) room ≡ tablePlan T room
+  unfolding tablePlan
+  plain-plan room = ap (λ (cs : List Check). planBy (verdict cs) (plainOf T)) (plain-checks room) ∙ plain-by (verdict (tableChecks T room))
+
+  plain-run : (old : List ℕ) → tableRun (plainOf T) old ≡ tableRun T old
+  unfolding tableRun
+  plain-run old =
+      ap (λ (cs : List Check). runBy (verdict cs) (plainOf T) old) (plain-checks (length old))
+      ∙ plain-rows-by (verdict (tableChecks T (length old))) old
+
+-- a sheet of this bus goes on to 10
+module _ (S : Sheet) (bus : S .head .kind ≡ 5) where
+  pub this-bus : (room : ℕ) → planOf (Read S) room ≡ tablePlan (trafficOf S) room
+  unfolding planOf planChecks verdict tablePlan
+  this-bus room = rw (eq-eqb (S .head .kind) 5 bus)
+
+  pub this-run : (old : List ℕ) → runOf (Read S) old ≡ tableRun (trafficOf S) old
+  unfolding runOf planChecks verdict tableRun
+  this-run old = rw (eq-eqb (S .head .kind) 5 bus)
+
+  pub this-name : (r : ℕ) → identifierOf (Read S) r ≡ identifierAt (trafficOf S) r
+  unfolding identifierOf
+  this-name r = simp (eq-eqb (S .head .kind) 5 bus)
+
+-- one of another is refused with 3 at 0
+module _ (S : Sheet) (other : S .head .kind ≡ 5 → ⊥) where
+  pub other-bus : (room : ℕ) → planOf (Read S) room ≡ plan.Refused 3 0
+  unfolding planOf planChecks verdict
+  other-bus room = rw (ne-eqb (S .head .kind) 5 other)
+
+  pub other-run : (old : List ℕ) → runOf (Read S) old ≡ old
+  unfolding runOf planChecks verdict
+  other-run old = rw (ne-eqb (S .head .kind) 5 other)
+
+  pub other-name : (r : ℕ) → identifierOf (Read S) r ≡ 0
+  unfolding identifierOf
+  other-name r = simp (ne-eqb (S .head .kind) 5 other)
+
+module _ {s : List ℕ} {first n e : ℕ} {names periods : List ℕ} (ready : Ready s 5 first n) (head : e ≡ sheetIn s n .head .a)
+    (g : Gathered (trafficOf (sheetIn s n)) names periods) where
+  pub held-is : held periods n e ≡ plainOf (trafficOf (sheetIn s n))
+  unfolding held trafficOf
+  held-is =
+      ap (λ (x : ℕ). held periods n x) head
+      ∙ (ap (λ (x : ℕ). held periods x (sheetIn s n .head .a)) (sym (ready-number ready))
+      ∙ ap (plain (trafficOf (sheetIn s n) .exchange) (trafficOf (sheetIn s n) .number)) (fun-ext each))
+    where
+      each : (i : ℕ) → numbered periods i ≡ periodOf (trafficOf (sheetIn s n)) i
+      each i =
+          let p : i - 1 + 1 - 1 ≡ i - 1 = omega arith in
+          g .periods-are (i - 1) ∙ ap (λ (x : ℕ). getD (sheetIn s n .streams) x nothing .b) p
+
+  pub sheeted : Sheeted periods n e
+  sheeted =
+      record {
+        there = omega (arith, g .periods-long, ready-number ready, ready-declared ready .number-in);
+        declares = rw held-is (plain-declared (trafficOf (sheetIn s n)) (ready-declared ready));
+      }
+
+  -- the answer to the periods is the answer to the sheet
+  pub plan-is : (room : ℕ) → tablePlan (held periods n e) room ≡ planOf (reading s) room
+  plan-is room =
+      ap (λ (T : Traffic). tablePlan T room) held-is
+      ∙ (plain-plan (trafficOf (sheetIn s n)) room ∙ (sym (this-bus (sheetIn s n) (ready .bus) room) ∙ ap (λ (o : Outcome). planOf o room) (sym (ready .reads))))
+
+  pub run-is : (old : List ℕ) → tableRun (held periods n e) old ≡ runOf (reading s) old
+  run-is old =
+      ap (λ (T : Traffic). tableRun T old) held-is
+      ∙ (plain-run (trafficOf (sheetIn s n)) old ∙ (sym (this-run (sheetIn s n) (ready .bus) old) ∙ ap (λ (o : Outcome). runOf o old) (sym (ready .reads))))
+
+  -- the places by rank of the periods are those of the sheet's variables
+  variable-of : (r : ℕ) → variableOf (held periods n e) r ≡ variableOf (trafficOf (sheetIn s n)) r
+  variable-of r = ap (λ (T : Traffic). variableOf T r) held-is ∙ plain-variable (trafficOf (sheetIn s n)) r
+
+  -- and so are the identifiers by rank
+  pub name-is : {v q : List ℕ} → Placed periods n v → Ranked (λ i. getD names i 0) v n q → (r : ℕ) → getD q r 0 ≡ identifierOf (reading s) r
+  unfolding identifierAt
+  name-is {v} {q} P Q r =
+      Q .are r ∙ (go (decLt r n) ∙ (sym (this-name (sheetIn s n) (ready .bus) r) ∙ ap (λ (o : Outcome). identifierOf o r) (sym (ready .reads))))
+    where
+      T : Traffic
+      T = trafficOf (sheetIn s n)
+
+      number : T .number ≡ n
+      number = ready-number ready
+
+      go : Dec (r < n) → when (ltb r n) (getD names (getD v r 0) 0) ≡ when (ltb r (T .number)) (T .variable (variableOf T r) .identifier)
+      go (yes l) =
+          simp (lt-ltb r n l, lt-ltb r (T .number) (omega (arith, number)))
+          (g .names-are (getD v r 0) ∙ ap (λ (i : ℕ). T .variable i .identifier) (variable-is sheeted P r l ∙ variable-of r))
+      go (no l) = simp (le-ltb r n (omega (arith, l)), le-ltb r (T .number) (omega (arith, l, number)))

@@ -1,0 +1,40 @@
+-- Page 01, 'Numbered refusals' 3, 10, 11, 12 and 13, in the page's own words: what the planner answers to a sheet that reads without
+-- refusal, lent a run of so many places. A line for each answer; each takes in that none before it is given. Assumes nothing.
+use mathlib.Core.Path.{_≡_}
+use Prim.Native.Nat.{ℕ, _≤_, _<_}
+use Rattle.sheet_read.specs.Sheets.{Sheet}
+use Rattle.worldfip_rules.specs.Table.{Table}
+use Rattle.worldfip_rules.specs.Traffic.{Traffic, microcycle, slots, rows, askedOf, rowOf}
+use Rattle.worldfip_rules.specs.Misses.{Named}
+use Rattle.worldfip_plan.specs.declared.answer.Plan.{Plan}
+use Rattle.worldfip_plan.specs.declared.answer.Plan.the-variants as plan
+use Rattle.worldfip_plan.specs.Answer.{trafficOf}
+
+-- one exchange at least fits a microcycle
+pub record Fits (T : Traffic) : Type 0 where
+  pub exchange : T .exchange ≤ microcycle T
+
+-- and there are at most 4,096 rows
+pub record Few (T : Traffic) : Type 0 where
+  pub fits : Fits T
+  pub most : rows T ≤ 4096
+
+-- and the lent run has room for them
+pub record Room (T : Traffic) (room : ℕ) : Type 0 where
+  pub few : Few T
+  pub lent : rows T ≤ room
+
+pub data Answers (S : Sheet) (room : ℕ) : Plan → Type 0 where
+  -- 3: another bus's sheet
+  another-bus : (S .head .kind ≡ 5 → ⊥) → Answers S room (plan.Refused 3 0)
+  -- 10: no exchange fits a microcycle
+  none-fits : S .head .kind ≡ 5 → microcycle (trafficOf S) < trafficOf S .exchange → Answers S room (plan.Refused 10 0)
+  -- 11: more than 4,096 rows
+  too-many : S .head .kind ≡ 5 → Fits (trafficOf S) → 4096 < rows (trafficOf S) → Answers S room (plan.Refused 11 0)
+  -- 13: lent room too short, place the length needed
+  too-short : S .head .kind ≡ 5 → Few (trafficOf S) → room < rows (trafficOf S) → Answers S room (plan.Refused 13 (rows (trafficOf S)))
+  -- 12: a variable misses its period, place that variable's number
+  misses : (i : ℕ) → S .head .kind ≡ 5 → Room (trafficOf S) room → Named (trafficOf S) i → Answers S room (plan.Refused 12 i)
+  -- else the rows are a table
+  table : S .head .kind ≡ 5 → Room (trafficOf S) room → ((i : ℕ) → Named (trafficOf S) i → ⊥) → Table (askedOf (trafficOf S)) (rowOf (trafficOf S))
+      → Answers S room (plan.Accepted (microcycle (trafficOf S)) (slots (trafficOf S)) (rows (trafficOf S)))
