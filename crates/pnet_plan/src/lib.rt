@@ -375,7 +375,7 @@ fn plan_segment(
     }
 }
 
-// The plan of a sheet_read: R, W and rounds of masters 1..N into the first N places of the three runs, which keep what they had on a refusal.
+// The plan of a sheet: R, W and rounds of masters 1..N into the first N places of the three runs, which keep what they had on a refusal.
 pub fn plan(s: &[u8], bound: &mut [u32], refined: &mut [u32], rounds: &mut [u32]) -> Plan
     ensures { λ r.
         let outcome = planned (now (s .entry)) (length (now (bound .entry))) (length (now (refined .entry))) (length (now (rounds .entry))) in
