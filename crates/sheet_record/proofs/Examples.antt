@@ -2,54 +2,59 @@
 use mathlib.Core.Path.{_≡_, refl}
 use mathlib.Core.Bool.{false}
 use mathlib.Core.List.{[], _∷_, map}
+use Rattle.sheet_record.specs.declared.Given.{Given}
 use Rattle.sheet_record.specs.declared.Met.{Met}
 use Rattle.sheet_record.specs.declared.Record.{Record}
 use Rattle.sheet_record.specs.Numbers.{be, digits}
-use Rattle.sheet_record.specs.Kinds.{kinds, fieldsOf, widths, sizeOf, known, fieldAt, decode, body, encode, whole, nothing, metAt, metOf, limit, within, ranged, inRange}
+use Rattle.sheet_record.specs.Kinds.{kinds, lineOf, fieldsOf, widths, sizeOf, known, fieldAt, decode, body, encode, whole, nothing, metAt, metOf, limit, within, ranged, inRange}
 
 -- the six kinds: a byte of kind, and a body of 1, 11, 9, 9, 4, 6
 sizes : map sizeOf (1 ∷ 2 ∷ 3 ∷ 4 ∷ 5 ∷ 6 ∷ []) ≡ 2 ∷ 12 ∷ 10 ∷ 10 ∷ 5 ∷ 7 ∷ []
-unfolding sizeOf widths fieldsOf kinds
+unfolding sizeOf widths fieldsOf lineOf kinds
 sizes = refl
 
 -- no other kind is known
 unknown-kinds : map known (0 ∷ 7 ∷ 99 ∷ 255 ∷ []) ≡ false ∷ false ∷ false ∷ false ∷ []
-unfolding known fieldsOf kinds
+unfolding known fieldsOf lineOf kinds
 unknown-kinds = refl
 
 -- a P-NET stream of master 1: C = 203, T = D = 100,000
 abbrev stream : Record
-stream = record { kind = 2; a = 1; b = 203; c = 100000; d = 100000 }
+stream = record { kind = 2; a = 1; b = 203; c = 100000; d = 100000; e = 0 }
 
 stream-bytes : encode stream ≡ 2 ∷ 1 ∷ 0 ∷ 203 ∷ 0 ∷ 1 ∷ 134 ∷ 160 ∷ 0 ∷ 1 ∷ 134 ∷ 160 ∷ []
-unfolding encode body digits fieldsOf kinds
+unfolding encode body digits fieldsOf lineOf kinds
 stream-bytes = refl
 
 stream-decoded : decode (1 ∷ 2 ∷ 2 ∷ 1 ∷ 0 ∷ 203 ∷ 0 ∷ 1 ∷ 134 ∷ 160 ∷ 0 ∷ 1 ∷ 134 ∷ 160 ∷ []) 2 ≡ stream
-unfolding decode fieldAt be fieldsOf kinds
+unfolding decode fieldAt be fieldsOf lineOf kinds
 stream-decoded = refl
 
 -- a segment of two masters, asked for as a segment; as a stream it is nothing, and the place is its own
 abbrev segment : Met
-segment = record { found = record { kind = 1; a = 2; b = 0; c = 0; d = 0 }; next = 2 }
+segment = record { found = record { kind = 1; a = 2; b = 0; c = 0; d = 0; e = 0 }; next = 2 }
 
 met-as-segment : metOf (1 ∷ 2 ∷ []) 0 1 ≡ segment
-unfolding metOf metAt whole known sizeOf widths decode fieldAt be fieldsOf kinds
+unfolding metOf metAt whole known sizeOf widths decode fieldAt be fieldsOf lineOf kinds
 met-as-segment = refl
 
 met-as-stream : metOf (1 ∷ 2 ∷ []) 0 2 ≡ record { found = nothing; next = 0 }
 unfolding metOf
 met-as-stream = refl
 
+-- behind a segment of two masters
+abbrev behind : Given
+behind = record { masters = 2; message = 0 }
+
 -- master 3 of 2 masters, C of 1,549, D above T: out of range
-master-beyond : inRange 2 0 (record { kind = 2; a = 3; b = 203; c = 1000; d = 1000 }) ≡ false
-unfolding inRange ranged limit within fieldsOf kinds
+master-beyond : inRange behind (record { kind = 2; a = 3; b = 203; c = 1000; d = 1000; e = 0 }) ≡ false
+unfolding inRange ranged limit within fieldsOf lineOf kinds
 master-beyond = refl
 
-cycle-beyond : inRange 2 0 (record { kind = 2; a = 1; b = 1549; c = 1000; d = 1000 }) ≡ false
-unfolding inRange ranged limit within fieldsOf kinds
+cycle-beyond : inRange behind (record { kind = 2; a = 1; b = 1549; c = 1000; d = 1000; e = 0 }) ≡ false
+unfolding inRange ranged limit within fieldsOf lineOf kinds
 cycle-beyond = refl
 
-deadline-beyond : inRange 2 0 (record { kind = 2; a = 1; b = 1548; c = 1000; d = 1001 }) ≡ false
-unfolding inRange ranged limit within fieldsOf kinds
+deadline-beyond : inRange behind (record { kind = 2; a = 1; b = 1548; c = 1000; d = 1001; e = 0 }) ≡ false
+unfolding inRange ranged limit within fieldsOf lineOf kinds
 deadline-beyond = refl

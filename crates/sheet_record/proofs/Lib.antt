@@ -1,5 +1,6 @@
 pub mod Numbers
 pub mod Tables
+pub mod Parts
 pub mod Records
 pub mod Ranges
 pub mod Examples

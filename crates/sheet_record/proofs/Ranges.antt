@@ -6,9 +6,10 @@ use Prim.Native.Nat.{ℕ, _≤_}
 use native.Mathlib.Nat.{le-refl, le-trans}
 use borrow.Author.Tests.{le-leb, leb-true, eqb-true, eq-eqb}
 use lib.Dec.{leb, eqb}
+use Rattle.sheet_record.specs.declared.Given.{Given}
 use Rattle.sheet_record.specs.declared.Record.{Record}
-use Rattle.sheet_record.specs.Kinds.{Field, Limit, kinds, fieldsOf, limit, within, ranged, inRange, numbers}
-use Rattle.sheet_record.specs.Kinds.Limit.{is, masters, message, spacing}
+use Rattle.sheet_record.specs.Kinds.{Field, Limit, kinds, lineOf, fieldsOf, limit, within, ranged, inRange, numbers}
+use Rattle.sheet_record.specs.Kinds.Limit.{is, masters, message, own, less}
 use Rattle.sheet_record.proofs.Tables.{both-true}
 
 -- ---- One field
@@ -36,28 +37,33 @@ of-kind k kind ok e = ap (λ (b : Bool). b && ok) (eq-eqb k kind e)
 
 -- ---- Larger limits allow what smaller ones do
 
-pub limit-mono : (top top' long long' : ℕ) (r r' : Record) (l : Limit) → top ≤ top' → long ≤ long' → r .c ≤ r' .c
-    → limit top long r l ≤ limit top' long' r' l
-unfolding limit
-limit-mono top top' long long' r r' (is n) t m c = le-refl n
-limit-mono top top' long long' r r' masters t m c = t
-limit-mono top top' long long' r r' message t m c = m
-limit-mono top top' long long' r r' spacing t m c = c
+-- no less is given
+pub record AtMost (g g' : Given) : Type 0 where
+  pub masters : g .masters ≤ g' .masters
+  pub message : g .message ≤ g' .message
 
-module _ (top top' long long' : ℕ) (r : Record) (t : top ≤ top') (m : long ≤ long') where
-  ranged-mono : (fs : List Field) (xs : List ℕ) → ranged top long r fs xs ≡ true → ranged top' long' r fs xs ≡ true
+module _ (g g' : Given) (r : Record) (m : AtMost g g') where
+  pub limit-mono : (l : Limit) → limit g r l ≤ limit g' r l
+  unfolding limit
+  limit-mono (is n) = le-refl n
+  limit-mono masters = m .masters
+  limit-mono message = m .message
+  limit-mono (own i) = le-refl (limit g r (own i))
+  limit-mono (less i j) = le-refl (limit g r (less i j))
+
+  ranged-mono : (fs : List Field) (xs : List ℕ) → ranged g r fs xs ≡ true → ranged g' r fs xs ≡ true
   unfolding ranged
   ranged-mono fs [] e = refl
   ranged-mono [] (x ∷ xs) e =
-      let b = both-true (eqb x 0) (ranged top long r [] xs) e in
+      let b = both-true (eqb x 0) (ranged g r [] xs) e in
       simp (b .0, ranged-mono [] xs (b .1))
   ranged-mono (f ∷ fs) (x ∷ xs) e =
-      let b = both-true (within (f .least) x (limit top long r (f .most))) (ranged top long r fs xs) e in
-      let w = within-range (f .least) x (limit top long r (f .most)) (b .0) in
-      let h = le-trans (w .most) (limit-mono top top' long long' r r (f .most) t m (le-refl (r .c))) in
-      simp (range-within (f .least) x (limit top' long' r (f .most)) (record { least = w .least; most = h }), ranged-mono fs xs (b .1))
+      let b = both-true (within (f .least) x (limit g r (f .most))) (ranged g r fs xs) e in
+      let w = within-range (f .least) x (limit g r (f .most)) (b .0) in
+      let h = le-trans (w .most) (limit-mono (f .most)) in
+      simp (range-within (f .least) x (limit g' r (f .most)) (record { least = w .least; most = h }), ranged-mono fs xs (b .1))
 
-  pub in-range-mono : inRange top long r ≡ true → inRange top' long' r ≡ true
+  pub in-range-mono : inRange g r ≡ true → inRange g' r ≡ true
   unfolding inRange
   in-range-mono e = ranged-mono (fieldsOf (r .kind)) (numbers r) e
 
@@ -69,13 +75,15 @@ pub record SegmentRanges (r : Record) : Type 0 where
   pub no-b : r .b ≡ 0
   pub no-c : r .c ≡ 0
   pub no-d : r .d ≡ 0
+  pub no-e : r .e ≡ 0
 
 -- 2, P-NET stream
-pub record PnetStreamRanges (top : ℕ) (r : Record) : Type 0 where
-  pub master : Range 1 (r .a) top
+pub record PnetStreamRanges (g : Given) (r : Record) : Type 0 where
+  pub master : Range 1 (r .a) (g .masters)
   pub cycle : Range 1 (r .b) 1548
   pub spacing : Range 1 (r .c) 1000000000
   pub deadline : Range 1 (r .d) (r .c)
+  pub no-e : r .e ≡ 0
 
 -- 3, PROFIBUS ring
 pub record RingRanges (r : Record) : Type 0 where
@@ -83,13 +91,15 @@ pub record RingRanges (r : Record) : Type 0 where
   pub latency : Range 1 (r .b) 100000
   pub message : Range 1 (r .c) 100000
   pub no-d : r .d ≡ 0
+  pub no-e : r .e ≡ 0
 
 -- 4, PROFIBUS high-priority stream
-pub record RingStreamRanges (top long : ℕ) (r : Record) : Type 0 where
-  pub master : Range 1 (r .a) top
-  pub cycle : Range 1 (r .b) long
+pub record RingStreamRanges (g : Given) (r : Record) : Type 0 where
+  pub master : Range 1 (r .a) (g .masters)
+  pub cycle : Range 1 (r .b) (g .message)
   pub deadline : Range 1 (r .c) 1000000000
   pub no-d : r .d ≡ 0
+  pub no-e : r .e ≡ 0
 
 -- 5, WorldFIP
 pub record ExchangeRanges (r : Record) : Type 0 where
@@ -97,6 +107,7 @@ pub record ExchangeRanges (r : Record) : Type 0 where
   pub no-b : r .b ≡ 0
   pub no-c : r .c ≡ 0
   pub no-d : r .d ≡ 0
+  pub no-e : r .e ≡ 0
 
 -- 6, WorldFIP variable
 pub record VariableRanges (r : Record) : Type 0 where
@@ -104,84 +115,93 @@ pub record VariableRanges (r : Record) : Type 0 where
   pub period : Range 1 (r .b) 1000000000
   pub no-c : r .c ≡ 0
   pub no-d : r .d ≡ 0
+  pub no-e : r .e ≡ 0
 
--- the tests of the four fields, one by one
-record Tests (p q s t : Bool) : Type 0 where
+-- the tests of the five fields, one by one
+record Tests (p q s t u : Bool) : Type 0 where
   for-a : p ≡ true
   for-b : q ≡ true
   for-c : s ≡ true
   for-d : t ≡ true
+  for-e : u ≡ true
 
-tests : (p q s t : Bool) → p && (q && (s && (t && true))) ≡ true → Tests p q s t
-tests true true true true e = record { for-a = refl; for-b = refl; for-c = refl; for-d = refl }
-tests true true true false e = record { for-a = refl; for-b = refl; for-c = refl; for-d = e }
-tests true true false t e = record { for-a = refl; for-b = refl; for-c = e; for-d = cc }
-tests true false s t e = record { for-a = refl; for-b = e; for-c = cc; for-d = cc }
-tests false q s t e = record { for-a = e; for-b = cc; for-c = cc; for-d = cc }
+tests : (p q s t u : Bool) → p && (q && (s && (t && (u && true)))) ≡ true → Tests p q s t u
+tests true true true true true e = record { for-a = refl; for-b = refl; for-c = refl; for-d = refl; for-e = refl }
+tests true true true true false e = record { for-a = refl; for-b = refl; for-c = refl; for-d = refl; for-e = e }
+tests true true true false u e = record { for-a = refl; for-b = refl; for-c = refl; for-d = e; for-e = cc }
+tests true true false t u e = record { for-a = refl; for-b = refl; for-c = e; for-d = cc; for-e = cc }
+tests true false s t u e = record { for-a = refl; for-b = e; for-c = cc; for-d = cc; for-e = cc }
+tests false q s t u e = record { for-a = e; for-b = cc; for-c = cc; for-d = cc; for-e = cc }
 
-module _ (top long : ℕ) (r : Record) (e : inRange top long r ≡ true) where
+module _ (g : Given) (r : Record) (e : inRange g r ≡ true) where
   pub segment-ranges : r .kind ≡ 1 → SegmentRanges r
-  unfolding inRange ranged limit fieldsOf kinds
+  unfolding inRange ranged limit fieldsOf lineOf kinds
   segment-ranges k =
-      let t = tests _ _ _ _ (rw k at e) in
+      let t = tests _ _ _ _ _ (rw k at e) in
       record {
         masters = within-range 1 (r .a) 32 (t .for-a);
         no-b = eqb-true (r .b) 0 (t .for-b);
         no-c = eqb-true (r .c) 0 (t .for-c);
         no-d = eqb-true (r .d) 0 (t .for-d);
+        no-e = eqb-true (r .e) 0 (t .for-e);
       }
 
-  pub pnet-stream-ranges : r .kind ≡ 2 → PnetStreamRanges top r
-  unfolding inRange ranged limit fieldsOf kinds
+  pub pnet-stream-ranges : r .kind ≡ 2 → PnetStreamRanges g r
+  unfolding inRange ranged limit fieldsOf lineOf kinds
   pnet-stream-ranges k =
-      let t = tests _ _ _ _ (rw k at e) in
+      let t = tests _ _ _ _ _ (rw k at e) in
       record {
-        master = within-range 1 (r .a) top (t .for-a);
+        master = within-range 1 (r .a) (g .masters) (t .for-a);
         cycle = within-range 1 (r .b) 1548 (t .for-b);
         spacing = within-range 1 (r .c) 1000000000 (t .for-c);
         deadline = within-range 1 (r .d) (r .c) (t .for-d);
+        no-e = eqb-true (r .e) 0 (t .for-e);
       }
 
   pub ring-ranges : r .kind ≡ 3 → RingRanges r
-  unfolding inRange ranged limit fieldsOf kinds
+  unfolding inRange ranged limit fieldsOf lineOf kinds
   ring-ranges k =
-      let t = tests _ _ _ _ (rw k at e) in
+      let t = tests _ _ _ _ _ (rw k at e) in
       record {
         masters = within-range 1 (r .a) 32 (t .for-a);
         latency = within-range 1 (r .b) 100000 (t .for-b);
         message = within-range 1 (r .c) 100000 (t .for-c);
         no-d = eqb-true (r .d) 0 (t .for-d);
+        no-e = eqb-true (r .e) 0 (t .for-e);
       }
 
-  pub ring-stream-ranges : r .kind ≡ 4 → RingStreamRanges top long r
-  unfolding inRange ranged limit fieldsOf kinds
+  pub ring-stream-ranges : r .kind ≡ 4 → RingStreamRanges g r
+  unfolding inRange ranged limit fieldsOf lineOf kinds
   ring-stream-ranges k =
-      let t = tests _ _ _ _ (rw k at e) in
+      let t = tests _ _ _ _ _ (rw k at e) in
       record {
-        master = within-range 1 (r .a) top (t .for-a);
-        cycle = within-range 1 (r .b) long (t .for-b);
+        master = within-range 1 (r .a) (g .masters) (t .for-a);
+        cycle = within-range 1 (r .b) (g .message) (t .for-b);
         deadline = within-range 1 (r .c) 1000000000 (t .for-c);
         no-d = eqb-true (r .d) 0 (t .for-d);
+        no-e = eqb-true (r .e) 0 (t .for-e);
       }
 
   pub exchange-ranges : r .kind ≡ 5 → ExchangeRanges r
-  unfolding inRange ranged limit fieldsOf kinds
+  unfolding inRange ranged limit fieldsOf lineOf kinds
   exchange-ranges k =
-      let t = tests _ _ _ _ (rw k at e) in
+      let t = tests _ _ _ _ _ (rw k at e) in
       record {
         exchange = within-range 1 (r .a) 1000000 (t .for-a);
         no-b = eqb-true (r .b) 0 (t .for-b);
         no-c = eqb-true (r .c) 0 (t .for-c);
         no-d = eqb-true (r .d) 0 (t .for-d);
+        no-e = eqb-true (r .e) 0 (t .for-e);
       }
 
   pub variable-ranges : r .kind ≡ 6 → VariableRanges r
-  unfolding inRange ranged limit fieldsOf kinds
+  unfolding inRange ranged limit fieldsOf lineOf kinds
   variable-ranges k =
-      let t = tests _ _ _ _ (rw k at e) in
+      let t = tests _ _ _ _ _ (rw k at e) in
       record {
         identifier = within-range 0 (r .a) 65535 (t .for-a);
         period = within-range 1 (r .b) 1000000000 (t .for-b);
         no-c = eqb-true (r .c) 0 (t .for-c);
         no-d = eqb-true (r .d) 0 (t .for-d);
+        no-e = eqb-true (r .e) 0 (t .for-e);
       }

@@ -11,7 +11,7 @@ use lib.ListN.{length, getD, take, List·getD-eq-default}
 use Rattle.sheet_record.specs.declared.Met.{Met}
 use Rattle.sheet_record.specs.declared.Record.{Record}
 use Rattle.sheet_record.specs.Numbers.{be}
-use Rattle.sheet_record.specs.Kinds.{Field, kinds, fieldsOf, widths, sizeOf, known, fieldAt, decode, whole, nothing, metAt, metOf}
+use Rattle.sheet_record.specs.Kinds.{Field, kinds, lineOf, fieldsOf, widths, sizeOf, known, fieldAt, decode, whole, nothing, metAt, metOf, streamMet, isStreamOf}
 use Rattle.sheet_record.specs.Widths.{widthAt, Wide}
 use Rattle.sheet_record.proofs.Tables.{steps, size-is}
 
@@ -37,36 +37,37 @@ module _ (s : List ℕ) (at : ℕ) where
   met-unknown e = simp e
 
   pub met-past : length s ≤ at → found-at nothing at ≡ metAt s at
-  unfolding known fieldsOf kinds
+  unfolding known fieldsOf lineOf kinds
   met-past h = met-unknown (ap known (List·getD-eq-default s 0 h))
 
-  module _ (wa wb wc wd : ℕ) (w : Wide (getD s at 0) wa wb wc wd) where
-    pub met-cut : length s < at + (1 + wa + wb + wc + wd) → found-at nothing at ≡ metAt s at
+  module _ (wa wb wc wd we : ℕ) (w : Wide (getD s at 0) wa wb wc wd we) where
+    pub met-cut : length s < at + (1 + wa + wb + wc + wd + we) → found-at nothing at ≡ metAt s at
     unfolding metAt whole
     met-cut h =
-        let l : length s < at + sizeOf (getD s at 0) = omega (arith, size-is (getD s at 0) wa wb wc wd w) in
+        let l : length s < at + sizeOf (getD s at 0) = omega (arith, size-is (getD s at 0) wa wb wc wd we w) in
         simp (w .is-known, lt-leb (at + sizeOf (getD s at 0)) (length s) l)
 
     field-read : (j p v : ℕ) → p ≡ at + 1 + widths (take j fields) → v ≡ widthAt fields j → be s p v ≡ fieldAt s (at + 1) fields j
     field-read j p v e q = rw (e, q) (sym (field-is s (at + 1) fields j))
 
     -- the record, its fields read one behind the other
-    pub decode-is : (k a b c d : ℕ) → k ≡ getD s at 0 → a ≡ be s (at + 1) wa → b ≡ be s (at + 1 + wa) wb
-        → c ≡ be s (at + 1 + wa + wb) wc → d ≡ be s (at + 1 + wa + wb + wc) wd
-        → record { kind = k; a = a; b = b; c = c; d = d } ≡ decode s at
+    pub decode-is : (k a b c d e : ℕ) → k ≡ getD s at 0 → a ≡ be s (at + 1) wa → b ≡ be s (at + 1 + wa) wb
+        → c ≡ be s (at + 1 + wa + wb) wc → d ≡ be s (at + 1 + wa + wb + wc) wd → e ≡ be s (at + 1 + wa + wb + wc + wd) we
+        → record { kind = k; a = a; b = b; c = c; d = d; e = e } ≡ decode s at
     unfolding decode widths
-    decode-is k a b c d ek ea eb ec ed =
-        let t = steps (getD s at 0) wa wb wc wd w in
+    decode-is k a b c d e ek ea eb ec ed ee =
+        let t = steps (getD s at 0) wa wb wc wd we w in
         let fa = field-read 0 (at + 1) wa (omega arith) (w .a) in
         let fb = field-read 1 (at + 1 + wa) wb (omega (arith, t .to-b)) (w .b) in
         let fc = field-read 2 (at + 1 + wa + wb) wc (omega (arith, t .to-c)) (w .c) in
         let fd = field-read 3 (at + 1 + wa + wb + wc) wd (omega (arith, t .to-d)) (w .d) in
+        let fe = field-read 4 (at + 1 + wa + wb + wc + wd) we (omega (arith, t .to-e)) (w .e) in
         cc
 
-    pub met-whole : (r : Record) (n : ℕ) → r ≡ decode s at → n ≡ at + 1 + wa + wb + wc + wd → n ≤ length s → found-at r n ≡ metAt s at
+    pub met-whole : (r : Record) (n : ℕ) → r ≡ decode s at → n ≡ at + 1 + wa + wb + wc + wd + we → n ≤ length s → found-at r n ≡ metAt s at
     unfolding metAt whole
     met-whole r n e q h =
-        let z : n ≡ at + sizeOf (getD s at 0) = omega (arith, size-is (getD s at 0) wa wb wc wd w) in
+        let z : n ≡ at + sizeOf (getD s at 0) = omega (arith, size-is (getD s at 0) wa wb wc wd we w) in
         let l : at + sizeOf (getD s at 0) ≤ length s = omega arith in
         rw (e, z) (simp (w .is-known, le-leb (at + sizeOf (getD s at 0)) (length s) l))
 
@@ -90,3 +91,20 @@ module _ (s : List ℕ) (at kind : ℕ) where
       either : (b : Bool) → found-at nothing at ≡ cond b (metAt s at) (found-at nothing at)
       either true = e
       either false = refl
+
+-- ---- A stream of one bus alone
+
+module _ (s : List ℕ) (at bus : ℕ) where
+  -- where one stands, it is the record at the place
+  pub stream-same : isStreamOf bus (getD s at 0) ≡ true → streamMet s at bus ≡ metAt s at
+  unfolding streamMet
+  stream-same e = rw e
+
+  pub stream-other : isStreamOf bus (getD s at 0) ≡ false → found-at nothing at ≡ streamMet s at bus
+  unfolding streamMet
+  stream-other e = rw e
+
+  -- where one kind alone is a stream of the bus, it is met
+  pub stream-kind : (kind : ℕ) → ((k : ℕ) → isStreamOf bus k ≡ eqb k kind) → metOf s at kind ≡ streamMet s at bus
+  unfolding streamMet metOf
+  stream-kind kind e = rw (e (getD s at 0))

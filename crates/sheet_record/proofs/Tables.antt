@@ -8,7 +8,7 @@ use borrow.Author.Tests.{leb-true, le-leb, lt-leb}
 use lib.Dec.{leb}
 use lib.ListN.{length, getD, take}
 use lib.Seq.{take-all}
-use Rattle.sheet_record.specs.Kinds.{Field, kinds, fieldsOf, widths, sizeOf, some, known}
+use Rattle.sheet_record.specs.Kinds.{Field, Kind, no-kind, kinds, lineOf, fieldsOf, widths, sizeOf, some, known}
 use Rattle.sheet_record.specs.Widths.{widthAt, Wide}
 
 -- ---- Tests
@@ -18,19 +18,24 @@ both-true true b e = (refl, e)
 both-true false b e = (e, cc)
 
 -- a test holds of every line of a table
-abbrev everywhere : (List Field → Bool) → List (List Field) → Bool
+abbrev everywhere : (Kind → Bool) → List Kind → Bool
 everywhere p [] = true
-everywhere p (fs ∷ t) = p fs && everywhere p t
+everywhere p (l ∷ t) = p l && everywhere p t
 
-everywhere-at : (p : List Field → Bool) → p [] ≡ true → (t : List (List Field)) → everywhere p t ≡ true → (k : ℕ) → p (getD t k []) ≡ true
+everywhere-at : (p : Kind → Bool) → p no-kind ≡ true → (t : List Kind) → everywhere p t ≡ true → (k : ℕ) → p (getD t k no-kind) ≡ true
 everywhere-at p none [] e k = none
-everywhere-at p none (fs ∷ t) e zero = both-true (p fs) (everywhere p t) e .0
-everywhere-at p none (fs ∷ t) e (suc k) = everywhere-at p none t (both-true (p fs) (everywhere p t) e .1) k
+everywhere-at p none (l ∷ t) e zero = both-true (p l) (everywhere p t) e .0
+everywhere-at p none (l ∷ t) e (suc k) = everywhere-at p none t (both-true (p l) (everywhere p t) e .1) k
 
 -- and so of every kind, also of one that has no line
-pub at-every-kind : (p : List Field → Bool) → p [] ≡ true → everywhere p kinds ≡ true → (k : ℕ) → p (fieldsOf k) ≡ true
+pub at-every-line : (p : Kind → Bool) → p no-kind ≡ true → everywhere p kinds ≡ true → (k : ℕ) → p (lineOf k) ≡ true
+unfolding lineOf
+at-every-line p none e k = everywhere-at p none kinds e k
+
+-- a test of the fields alone
+pub at-every-kind : (p : List Field → Bool) → p [] ≡ true → everywhere (λ l. p (l .fields)) kinds ≡ true → (k : ℕ) → p (fieldsOf k) ≡ true
 unfolding fieldsOf
-at-every-kind p none e k = everywhere-at p none kinds e k
+at-every-kind p none e k = at-every-line (λ l. p (l .fields)) none e k
 
 -- ---- What the tests show
 
@@ -38,9 +43,9 @@ pub size-at-most : (k : ℕ) → sizeOf k ≤ 12
 unfolding sizeOf widths kinds
 size-at-most k = leb-true (1 + widths (fieldsOf k)) 12 (at-every-kind (λ fs. leb (1 + widths fs) 12) refl refl k)
 
-pub fields-at-most : (k : ℕ) → length (fieldsOf k) ≤ 4
+pub fields-at-most : (k : ℕ) → length (fieldsOf k) ≤ 5
 unfolding kinds
-fields-at-most k = leb-true (length (fieldsOf k)) 4 (at-every-kind (λ fs. leb (length fs) 4) refl refl k)
+fields-at-most k = leb-true (length (fieldsOf k)) 5 (at-every-kind (λ fs. leb (length fs) 5) refl refl k)
 
 -- every field's width is at most four bytes
 abbrev narrowLine : List Field → Bool
@@ -61,7 +66,7 @@ width-at-most k j = narrow-at (fieldsOf k) (at-every-kind narrowLine refl refl k
 
 -- the known kinds are 1..6
 pub known-within : (k : ℕ) → (leb 1 k && leb k 6) ≡ known k
-unfolding known fieldsOf kinds
+unfolding known fieldsOf lineOf kinds
 known-within zero = refl
 known-within (suc zero) = refl
 known-within (suc (suc zero)) = refl
@@ -99,7 +104,7 @@ no-fields k e = some-false (fieldsOf k) e
 -- ---- Widths
 
 -- the widths of a known kind's fields
-pub wide : (k : ℕ) → known k ≡ true → Wide k (widthAt (fieldsOf k) 0) (widthAt (fieldsOf k) 1) (widthAt (fieldsOf k) 2) (widthAt (fieldsOf k) 3)
+pub wide : (k : ℕ) → known k ≡ true → Wide k (widthAt (fieldsOf k) 0) (widthAt (fieldsOf k) 1) (widthAt (fieldsOf k) 2) (widthAt (fieldsOf k) 3) (widthAt (fieldsOf k) 4)
 wide k e =
     record {
       is-known = e;
@@ -107,10 +112,12 @@ wide k e =
       b = refl;
       c = refl;
       d = refl;
+      e = refl;
       a-at-most = width-at-most k 0;
       b-at-most = width-at-most k 1;
       c-at-most = width-at-most k 2;
       d-at-most = width-at-most k 3;
+      e-at-most = width-at-most k 4;
     }
 
 -- one field more
@@ -121,30 +128,33 @@ widths-more [] (suc j) = refl
 widths-more (f ∷ fs) zero = omega arith
 widths-more (f ∷ fs) (suc j) = omega (arith, widths-more fs j)
 
--- how far field b, c, d and the end stand from field a
-pub record Steps (fs : List Field) (wa wb wc wd : ℕ) : Type 0 where
+-- how far field b, c, d, e and the end stand from field a
+pub record Steps (fs : List Field) (wa wb wc wd we : ℕ) : Type 0 where
   pub to-b : widths (take 1 fs) ≡ wa
   pub to-c : widths (take 2 fs) ≡ wa + wb
   pub to-d : widths (take 3 fs) ≡ wa + wb + wc
-  pub to-end : widths fs ≡ wa + wb + wc + wd
+  pub to-e : widths (take 4 fs) ≡ wa + wb + wc + wd
+  pub to-end : widths fs ≡ wa + wb + wc + wd + we
 
-pub steps : (k wa wb wc wd : ℕ) → Wide k wa wb wc wd → Steps (fieldsOf k) wa wb wc wd
+pub steps : (k wa wb wc wd we : ℕ) → Wide k wa wb wc wd we → Steps (fieldsOf k) wa wb wc wd we
 unfolding widths
-steps k wa wb wc wd w =
+steps k wa wb wc wd we w =
     let fs = fieldsOf k in
     let b = widths-more fs 0 in
     let c = widths-more fs 1 in
     let d = widths-more fs 2 in
     let e = widths-more fs 3 in
-    let all : widths (take 4 fs) ≡ widths fs = ap widths (take-all 4 fs (fields-at-most k)) in
+    let f = widths-more fs 4 in
+    let all : widths (take 5 fs) ≡ widths fs = ap widths (take-all 5 fs (fields-at-most k)) in
     record {
       to-b = omega (arith, w .a);
       to-c = omega (arith, w .a, w .b);
       to-d = omega (arith, w .a, w .b, w .c);
-      to-end = omega (arith, w .a, w .b, w .c, w .d);
+      to-e = omega (arith, w .a, w .b, w .c, w .d);
+      to-end = omega (arith, w .a, w .b, w .c, w .d, w .e);
     }
 
 -- a record is its kind byte and its fields
-pub size-is : (k wa wb wc wd : ℕ) → Wide k wa wb wc wd → sizeOf k ≡ 1 + wa + wb + wc + wd
+pub size-is : (k wa wb wc wd we : ℕ) → Wide k wa wb wc wd we → sizeOf k ≡ 1 + wa + wb + wc + wd + we
 unfolding sizeOf
-size-is k wa wb wc wd w = omega (arith, steps k wa wb wc wd w .to-end)
+size-is k wa wb wc wd we w = omega (arith, steps k wa wb wc wd we w .to-end)

@@ -6,7 +6,7 @@ ghost use lib.Dec.{eqb};
 ghost use lib.ListN.{length, getD};
 ghost use Rattle.sheet_record.specs.Numbers.{be};
 ghost use Rattle.sheet_record.specs.Kinds;
-ghost use Rattle.sheet_record.specs.Kinds.{inRange, metAt, metOf, nothing};
+ghost use Rattle.sheet_record.specs.Kinds.{busOf, isFirst, isStreamOf, inRange, metAt, metOf, streamMet, nothing};
 ghost use Rattle.sheet_record.specs.Widths.{Wide};
 
 // One record: its kind, and its fields in the order of the page. A field that the kind does not have is 0.
@@ -16,6 +16,13 @@ pub struct Record {
     pub b: u32,
     pub c: u32,
     pub d: u32,
+    pub e: u32,
+}
+
+// What the records before one set for it: the masters N or n, and the longest message M of its master.
+pub struct Given {
+    pub masters: u32,
+    pub message: u32,
 }
 
 // The record at a place, and the place just after it.
@@ -45,6 +52,40 @@ pub fn known(kind: u8) -> bool
     (1 <= kind) & (kind <= 6)
 }
 
+// The bus of a kind, by the kind of its first record; 0 where the kind is not known.
+pub fn bus_of(kind: u8) -> u8
+    ensures { λ r. ⌜ r ≡ busOf kind ⌝ }
+{
+    match kind {
+        1 => 1,
+        2 => 1,
+        3 => 3,
+        4 => 3,
+        5 => 5,
+        6 => 5,
+        _ => 0,
+    }
+}
+
+// A sheet begins with this kind.
+pub fn is_first(kind: u8) -> bool
+    ensures { λ r. ⌜ r ≡ isFirst kind ⌝ }
+{
+    (kind == 1) | ((kind == 3) | (kind == 5))
+}
+
+// This kind is a stream of a bus.
+pub fn is_stream_of(bus: u8, kind: u8) -> bool
+    ensures { λ r. ⌜ r ≡ isStreamOf bus kind ⌝ }
+{
+    match bus {
+        1 => kind == 2,
+        3 => kind == 4,
+        5 => kind == 6,
+        _ => false,
+    }
+}
+
 // No record at a place.
 fn nothing_at(at: usize) -> Met
     ensures { λ r. ⌜ r ≡ record { found = nothing; next = at } ⌝ }
@@ -55,33 +96,36 @@ fn nothing_at(at: usize) -> Met
         b: 0,
         c: 0,
         d: 0,
+        e: 0,
     };
     Met { found, next: at }
 }
 
 // The record at a place whose kind has fields of these widths, if it ends within the sheet.
-fn whole_at(s: &[u8], at: usize, wa: usize, wb: usize, wc: usize, wd: usize) -> Met
+fn whole_at(s: &[u8], at: usize, wa: usize, wb: usize, wc: usize, wd: usize, we: usize) -> Met
     requires { ⌜ at < length (now s) ⌝ }
-    requires { ⌜ Wide (getD (now s) at 0) wa wb wc wd ⌝ }
+    requires { ⌜ Wide (getD (now s) at 0) wa wb wc wd we ⌝ }
     ensures { λ r. ⌜ r ≡ metAt (now (s .entry)) at ⌝ }
 {
-    if s.len() - at < 1 + wa + wb + wc + wd {
+    if s.len() - at < 1 + wa + wb + wc + wd + we {
         return nothing_at(at);
     }
     let at_a = at + 1;
     let at_b = at_a + wa;
     let at_c = at_b + wb;
     let at_d = at_c + wc;
+    let at_e = at_d + wd;
     let found = Record {
         kind: s[at],
         a: number(s, at_a, wa),
         b: number(s, at_b, wb),
         c: number(s, at_c, wc),
         d: number(s, at_d, wd),
+        e: number(s, at_e, we),
     };
     Met {
         found,
-        next: at_d + wd,
+        next: at_e + we,
     }
 }
 
@@ -98,12 +142,12 @@ pub fn record_of(s: &[u8], at: usize, kind: u8) -> Met
         return nothing_at(at);
     }
     match kind {
-        1 => whole_at(s, at, 1, 0, 0, 0),
-        2 => whole_at(s, at, 1, 2, 4, 4),
-        3 => whole_at(s, at, 1, 4, 4, 0),
-        4 => whole_at(s, at, 1, 4, 4, 0),
-        5 => whole_at(s, at, 4, 0, 0, 0),
-        6 => whole_at(s, at, 2, 4, 0, 0),
+        1 => whole_at(s, at, 1, 0, 0, 0, 0),
+        2 => whole_at(s, at, 1, 2, 4, 4, 0),
+        3 => whole_at(s, at, 1, 4, 4, 0, 0),
+        4 => whole_at(s, at, 1, 4, 4, 0, 0),
+        5 => whole_at(s, at, 4, 0, 0, 0, 0),
+        6 => whole_at(s, at, 2, 4, 0, 0, 0),
         _ => nothing_at(at),
     }
 }
@@ -118,11 +162,26 @@ pub fn record_at(s: &[u8], at: usize) -> Met
     record_of(s, at, s[at])
 }
 
-// A record of a kind with every field in its range, behind a first record with `top` masters and the longest message `long`.
-// A field that the kind does not have is 0. All tests are made at once, with no branch between them.
-pub fn in_range_of(kind: u8, top: u32, long: u32, r: Record) -> bool
-    ensures { λ ok. ⌜ ok ≡ (eqb (r .kind) kind && inRange top long r) ⌝ }
+// The stream of a bus at a place and the place just after it; nothing, and the place itself, where no whole stream of that bus stands. All
+// that a planner meets of a sheet behind its first record comes from here.
+pub fn stream_at(s: &[u8], at: usize, bus: u8) -> Met
+    ensures { λ r. ⌜ r ≡ streamMet (now (s .entry)) at bus ⌝ }
 {
+    match bus {
+        1 => record_of(s, at, 2),
+        3 => record_of(s, at, 4),
+        5 => record_of(s, at, 6),
+        _ => nothing_at(at),
+    }
+}
+
+// A record of a kind with every field in its range, behind what is given. A field that the kind does not have is 0. All tests are made at
+// once, with no branch between them.
+pub fn in_range_of(kind: u8, given: Given, r: Record) -> bool
+    ensures { λ ok. ⌜ ok ≡ (eqb (r .kind) kind && inRange given r) ⌝ }
+{
+    let masters = given.masters;
+    let message = given.message;
     if r.kind != kind {
         return false;
     }
@@ -130,33 +189,55 @@ pub fn in_range_of(kind: u8, top: u32, long: u32, r: Record) -> bool
     let b = r.b;
     let c = r.c;
     let d = r.d;
+    let e = r.e;
     match kind {
-        1 => (1 <= a) & (a <= 32) & (b == 0) & (c == 0) & (d == 0),
+        1 => (1 <= a) & (a <= 32) & (b == 0) & (c == 0) & (d == 0) & (e == 0),
         2 => (1 <= a)
-            & (a <= top)
+            & (a <= masters)
             & (1 <= b)
             & (b <= 1548)
             & (1 <= c)
             & (c <= 1000000000)
             & (1 <= d)
-            & (d <= c),
-        3 => (1 <= a) & (a <= 32) & (1 <= b) & (b <= 100000) & (1 <= c) & (c <= 100000) & (d == 0),
-        4 => (1 <= a)
-            & (a <= top)
+            & (d <= c)
+            & (e == 0),
+        3 => (1 <= a)
+            & (a <= 32)
             & (1 <= b)
-            & (b <= long)
+            & (b <= 100000)
+            & (1 <= c)
+            & (c <= 100000)
+            & (d == 0)
+            & (e == 0),
+        4 => (1 <= a)
+            & (a <= masters)
+            & (1 <= b)
+            & (b <= message)
             & (1 <= c)
             & (c <= 1000000000)
-            & (d == 0),
-        5 => (1 <= a) & (a <= 1000000) & (b == 0) & (c == 0) & (d == 0),
-        6 => (a <= 65535) & (1 <= b) & (b <= 1000000000) & (c == 0) & (d == 0),
-        _ => (a == 0) & (b == 0) & (c == 0) & (d == 0),
+            & (d == 0)
+            & (e == 0),
+        5 => (1 <= a) & (a <= 1000000) & (b == 0) & (c == 0) & (d == 0) & (e == 0),
+        6 => (a <= 65535) & (1 <= b) & (b <= 1000000000) & (c == 0) & (d == 0) & (e == 0),
+        _ => (a == 0) & (b == 0) & (c == 0) & (d == 0) & (e == 0),
     }
 }
 
 // Every field of a record in its range, whatever its kind.
-pub fn in_range(top: u32, long: u32, r: Record) -> bool
-    ensures { λ ok. ⌜ ok ≡ inRange top long r ⌝ }
+pub fn in_range(given: Given, r: Record) -> bool
+    ensures { λ ok. ⌜ ok ≡ inRange given r ⌝ }
 {
-    in_range_of(r.kind, top, long, r)
+    in_range_of(r.kind, given, r)
+}
+
+// A stream of a bus with every field in its range.
+pub fn stream_in_range(bus: u8, given: Given, r: Record) -> bool
+    ensures { λ ok. ⌜ ok ≡ (isStreamOf bus (r .kind) && inRange given r) ⌝ }
+{
+    match bus {
+        1 => in_range_of(2, given, r),
+        3 => in_range_of(4, given, r),
+        5 => in_range_of(6, given, r),
+        _ => false,
+    }
 }

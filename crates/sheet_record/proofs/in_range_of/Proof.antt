@@ -5,19 +5,20 @@ use Prim.Native.Nat.{ℕ}
 use native.Mathlib.Omega.{arith}
 use borrow.Author.Tests.{le-leb, ne-eqb}
 use lib.Dec.{eqb}
+use Rattle.sheet_record.specs.declared.Given.{Given}
 use Rattle.sheet_record.specs.declared.Record.{Record}
-use Rattle.sheet_record.specs.Kinds.{kinds, fieldsOf, numbers, limit, within, ranged, inRange}
+use Rattle.sheet_record.specs.Kinds.{kinds, lineOf, fieldsOf, numbers, limit, within, ranged, inRange}
 use Rattle.sheet_record.proofs.Tables.{unknown, no-fields}
 use Rattle.sheet_record.proofs.Ranges.{of-kind}
 use Rattle.sheet_record.proofs.in_range_of.Statement.{statement}
 use Rattle.sheet_record.proofs.in_range_of.Tie as tie
 
 -- a record of the kind asked for is in range by that kind's fields
-by-fields : (kind top long : ℕ) (r : Record) → r .kind ≡ kind
-    → (eqb (r .kind) kind && inRange top long r) ≡ ranged top long r (fieldsOf kind) (numbers r)
+by-fields : (kind : ℕ) (g : Given) (r : Record) → r .kind ≡ kind
+    → (eqb (r .kind) kind && inRange g r) ≡ ranged g r (fieldsOf kind) (numbers r)
 unfolding inRange
-by-fields kind top long r e =
-    of-kind (r .kind) kind (inRange top long r) e ∙ ap (λ (k : ℕ). ranged top long r (fieldsOf k) (numbers r)) e
+by-fields kind g r e =
+    of-kind (r .kind) kind (inRange g r) e ∙ ap (λ (k : ℕ). ranged g r (fieldsOf k) (numbers r)) e
 
 returns : tie.Need-returns
 returns c =
@@ -29,34 +30,34 @@ same : (c : tie.Else1) → c .before .before .args .r .kind ≡ c .before .befor
 same c = omega (arith, c .if1 .left)
 
 -- so it is judged by that kind's fields
-judged : (c : tie.Else1) → (eqb (c .before .before .args .r .kind) (c .before .before .args .kind) && inRange (c .before .before .args .top) (c .before .before .args .long) (c .before .before .args .r))
-    ≡ ranged (c .before .before .args .top) (c .before .before .args .long) (c .before .before .args .r) (fieldsOf (c .before .before .args .kind)) (numbers (c .before .before .args .r))
+judged : (c : tie.Else1) → (eqb (c .before .before .args .r .kind) (c .before .before .args .kind) && inRange (c .before .before .args .given) (c .before .before .args .r))
+    ≡ ranged (c .before .before .args .given) (c .before .before .args .r) (fieldsOf (c .before .before .args .kind)) (numbers (c .before .before .args .r))
 judged c =
     let a = c .before .before .args in
-    by-fields (a .kind) (a .top) (a .long) (a .r) (same c)
+    by-fields (a .kind) (a .given) (a .r) (same c)
 
 returns-2 : tie.Need-returns-2
-unfolding ranged within limit fieldsOf kinds
+unfolding ranged within limit fieldsOf lineOf kinds
 returns-2 c = rw (judged (c .before), c .match .keys1) (simp (and-assoc, and-true))
 
 returns-3 : tie.Need-returns-3
-unfolding ranged within limit fieldsOf kinds
+unfolding ranged within limit fieldsOf lineOf kinds
 returns-3 c = rw (judged (c .before), c .match .keys2) (simp (and-assoc, and-true))
 
 returns-4 : tie.Need-returns-4
-unfolding ranged within limit fieldsOf kinds
+unfolding ranged within limit fieldsOf lineOf kinds
 returns-4 c = rw (judged (c .before), c .match .keys3) (simp (and-assoc, and-true))
 
 returns-5 : tie.Need-returns-5
-unfolding ranged within limit fieldsOf kinds
+unfolding ranged within limit fieldsOf lineOf kinds
 returns-5 c = rw (judged (c .before), c .match .keys4) (simp (and-assoc, and-true))
 
 returns-6 : tie.Need-returns-6
-unfolding ranged within limit fieldsOf kinds
+unfolding ranged within limit fieldsOf lineOf kinds
 returns-6 c = rw (judged (c .before), c .match .keys5) (simp (and-assoc, and-true))
 
 returns-7 : tie.Need-returns-7
-unfolding ranged within limit fieldsOf kinds
+unfolding ranged within limit fieldsOf lineOf kinds
 returns-7 c =
     let l = le-leb 0 (c .before .before .before .args .r .a) (omega arith) in
     rw (judged (c .before), c .match .keys6) (simp (l, and-assoc, and-true))

@@ -3,7 +3,7 @@ use mathlib.Core.Path.{_≡_, refl, sym, _∙_}
 use lib.ListN.{getD}
 use native.Mathlib.Omega.{arith}
 use Rattle.sheet_record.specs.declared.Met.{Met}
-use Rattle.sheet_record.specs.Kinds.{kinds, fieldsOf, known, metAt, metOf}
+use Rattle.sheet_record.specs.Kinds.{kinds, lineOf, fieldsOf, known, metAt, metOf}
 use Rattle.sheet_record.specs.Widths.{widthAt}
 use Rattle.sheet_record.proofs.Tables.{wide, unknown}
 use Rattle.sheet_record.proofs.Records.{met-past, met-unknown, met-same, met-other, met-none}
@@ -42,27 +42,27 @@ as-asked c e =
     e ∙ sym (met-same (a .s .now) (a .at) (a .kind) (stands c))
 
 whole-at-requires : tie.Need-whole-at-requires
-unfolding widthAt fieldsOf kinds known
+unfolding widthAt fieldsOf lineOf kinds known
 whole-at-requires c κs = (search needs, rw (stands (c .before), c .match .keys1) (wide 1 refl))
 
 whole-at-requires-2 : tie.Need-whole-at-requires-2
-unfolding widthAt fieldsOf kinds known
+unfolding widthAt fieldsOf lineOf kinds known
 whole-at-requires-2 c κs = (search needs, rw (stands (c .before), c .match .keys2) (wide 2 refl))
 
 whole-at-requires-3 : tie.Need-whole-at-requires-3
-unfolding widthAt fieldsOf kinds known
+unfolding widthAt fieldsOf lineOf kinds known
 whole-at-requires-3 c κs = (search needs, rw (stands (c .before), c .match .keys3) (wide 3 refl))
 
 whole-at-requires-4 : tie.Need-whole-at-requires-4
-unfolding widthAt fieldsOf kinds known
+unfolding widthAt fieldsOf lineOf kinds known
 whole-at-requires-4 c κs = (search needs, rw (stands (c .before), c .match .keys4) (wide 4 refl))
 
 whole-at-requires-5 : tie.Need-whole-at-requires-5
-unfolding widthAt fieldsOf kinds known
+unfolding widthAt fieldsOf lineOf kinds known
 whole-at-requires-5 c κs = (search needs, rw (stands (c .before), c .match .keys5) (wide 5 refl))
 
 whole-at-requires-6 : tie.Need-whole-at-requires-6
-unfolding widthAt fieldsOf kinds known
+unfolding widthAt fieldsOf lineOf kinds known
 whole-at-requires-6 c κs = (search needs, rw (stands (c .before), c .match .keys6) (wide 6 refl))
 
 nothing-at-requires-3 : tie.Need-nothing-at-requires-3

@@ -1,0 +1,129 @@
+-- Page 01, 'Sheet records': which kinds stand first and which are the streams of a bus, in the page's words; the table's parts say the same.
+-- Assumes nothing.
+use mathlib.Core.Path.{_≡_, refl, sym, ap, _∙_}
+use mathlib.Core.Bool.{Bool, true, false, _&&_, _||_}
+use mathlib.Core.Logic.{_⊎_, inl, inr}
+use Prim.Native.Nat.{ℕ, zero, suc, _≤_}
+use native.Mathlib.Omega.{arith}
+use borrow.Author.Tests.{eqb-true, ne-eqb}
+use lib.Dec.{eqb}
+use Rattle.sheet_record.specs.Kinds.{kinds, lineOf, known, fieldsOf, busOf, partOf, isFirst, isSetting, isStream, isStreamOf, written}
+use Rattle.sheet_record.proofs.Tables.{both-true}
+
+-- ---- Kind by kind
+
+-- seven more than n, the first number that is past the page's kinds
+abbrev past : ℕ → ℕ
+past n = suc (suc (suc (suc (suc (suc (suc n))))))
+
+-- what holds of the page's six kinds, of 0 and of every number past them holds of every number
+by-kind : (P : ℕ → Type 0) → P 0 → P 1 → P 2 → P 3 → P 4 → P 5 → P 6 → ((n : ℕ) → P (past n)) → (k : ℕ) → P k
+by-kind P none p q r s t u more zero = none
+by-kind P none p q r s t u more (suc zero) = p
+by-kind P none p q r s t u more (suc (suc zero)) = q
+by-kind P none p q r s t u more (suc (suc (suc zero))) = r
+by-kind P none p q r s t u more (suc (suc (suc (suc zero)))) = s
+by-kind P none p q r s t u more (suc (suc (suc (suc (suc zero))))) = t
+by-kind P none p q r s t u more (suc (suc (suc (suc (suc (suc zero)))))) = u
+by-kind P none p q r s t u more (suc (suc (suc (suc (suc (suc (suc n))))))) = more n
+
+past-1 : (n : ℕ) → eqb (past n) 1 ≡ false
+past-1 n = ne-eqb (past n) 1 (λ e. omega arith)
+
+past-2 : (n : ℕ) → eqb (past n) 2 ≡ false
+past-2 n = ne-eqb (past n) 2 (λ e. omega arith)
+
+past-3 : (n : ℕ) → eqb (past n) 3 ≡ false
+past-3 n = ne-eqb (past n) 3 (λ e. omega arith)
+
+past-4 : (n : ℕ) → eqb (past n) 4 ≡ false
+past-4 n = ne-eqb (past n) 4 (λ e. omega arith)
+
+past-5 : (n : ℕ) → eqb (past n) 5 ≡ false
+past-5 n = ne-eqb (past n) 5 (λ e. omega arith)
+
+past-6 : (n : ℕ) → eqb (past n) 6 ≡ false
+past-6 n = ne-eqb (past n) 6 (λ e. omega arith)
+
+-- ---- What stands first
+
+pub first-is : (k : ℕ) → isFirst k ≡ (eqb k 1 || (eqb k 3 || eqb k 5))
+unfolding isFirst partOf lineOf kinds
+first-is = by-kind (λ k. isFirst k ≡ (eqb k 1 || (eqb k 3 || eqb k 5))) refl refl refl refl refl refl refl (λ n. simp (past-1 n, past-3 n, past-5 n))
+
+pub first-kinds : (k : ℕ) → isFirst k ≡ true → k ≡ 1 ⊎ k ≡ 3 ⊎ k ≡ 5
+first-kinds k e = one (eqb k 1) refl (sym (first-is k) ∙ e)
+  where
+    three : (b : Bool) → eqb k 3 ≡ b → (b || eqb k 5) ≡ true → k ≡ 1 ⊎ k ≡ 3 ⊎ k ≡ 5
+    three true q f = inr (inl (eqb-true k 3 q))
+    three false q f = inr (inr (eqb-true k 5 f))
+
+    one : (b : Bool) → eqb k 1 ≡ b → (b || (eqb k 3 || eqb k 5)) ≡ true → k ≡ 1 ⊎ k ≡ 3 ⊎ k ≡ 5
+    one true q f = inl (eqb-true k 1 q)
+    one false q f = three (eqb k 3) refl f
+
+-- ---- What stands behind it
+
+-- no kind is a setting yet
+pub no-setting : (k : ℕ) → isSetting k ≡ false
+unfolding isSetting partOf lineOf kinds
+no-setting = by-kind (λ k. isSetting k ≡ false) refl refl refl refl refl refl refl (λ n. refl)
+
+pub pnet-streams : (k : ℕ) → isStreamOf 1 k ≡ eqb k 2
+unfolding isStreamOf isStream busOf partOf lineOf kinds
+pnet-streams = by-kind (λ k. isStreamOf 1 k ≡ eqb k 2) refl refl refl refl refl refl refl (λ n. sym (past-2 n))
+
+pub ring-streams : (k : ℕ) → isStreamOf 3 k ≡ eqb k 4
+unfolding isStreamOf isStream busOf partOf lineOf kinds
+ring-streams = by-kind (λ k. isStreamOf 3 k ≡ eqb k 4) refl refl refl refl refl refl refl (λ n. sym (past-4 n))
+
+pub variables : (k : ℕ) → isStreamOf 5 k ≡ eqb k 6
+unfolding isStreamOf isStream busOf partOf lineOf kinds
+variables = by-kind (λ k. isStreamOf 5 k ≡ eqb k 6) refl refl refl refl refl refl refl (λ n. sym (past-6 n))
+
+-- a stream is that of one of the three buses
+pub stream-bus : (k : ℕ) → isStream k ≡ true → busOf k ≡ 1 ⊎ busOf k ≡ 3 ⊎ busOf k ≡ 5
+unfolding isStream busOf partOf lineOf kinds
+stream-bus =
+    by-kind (λ k. isStream k ≡ true → busOf k ≡ 1 ⊎ busOf k ≡ 3 ⊎ busOf k ≡ 5) no no (λ e. inl refl) no (λ e. inr (inl refl)) no (λ e. inr (inr refl)) (λ n. no)
+  where
+    no : {A : Type 0} → false ≡ true → A
+    no e = let z : _≡_ {A = ℕ} 0 1 = cc in absurd (omega arith)
+
+-- no bus has another number
+pub no-streams : (bus k : ℕ) → (bus ≡ 1 → ⊥) → (bus ≡ 3 → ⊥) → (bus ≡ 5 → ⊥) → isStreamOf bus k ≡ false
+unfolding isStreamOf
+no-streams bus k a b c = split (isStream k) refl
+  where
+    other : busOf k ≡ 1 ⊎ busOf k ≡ 3 ⊎ busOf k ≡ 5 → busOf k ≡ bus → ⊥
+    other (inl e) q = a (sym q ∙ e)
+    other (inr (inl e)) q = b (sym q ∙ e)
+    other (inr (inr e)) q = c (sym q ∙ e)
+
+    split : (s : Bool) → isStream k ≡ s → (s && eqb (busOf k) bus) ≡ false
+    split true e = ne-eqb (busOf k) bus (other (stream-bus k e))
+    split false e = refl
+
+-- ---- What a first record is, by its bus
+
+module _ (k : ℕ) (e : isFirst k ≡ true) where
+  pub first-bus : busOf k ≡ k
+  unfolding busOf lineOf kinds
+  first-bus = split (first-kinds k e)
+    where
+      split : k ≡ 1 ⊎ k ≡ 3 ⊎ k ≡ 5 → busOf k ≡ k
+      split (inl q) = rw q
+      split (inr (inl q)) = rw q
+      split (inr (inr q)) = rw q
+
+-- a number that is no kind has no bus
+pub no-bus : (k : ℕ) → (1 ≤ k → k ≤ 6 → ⊥) → busOf k ≡ 0
+unfolding busOf lineOf kinds
+no-bus = by-kind (λ k. (1 ≤ k → k ≤ 6 → ⊥) → busOf k ≡ 0) (λ h. refl) (λ h. absurd (h (omega arith) (omega arith))) (λ h. absurd (h (omega arith) (omega arith))) (λ h. absurd (h (omega arith) (omega arith))) (λ h. absurd (h (omega arith) (omega arith))) (λ h. absurd (h (omega arith) (omega arith))) (λ h. absurd (h (omega arith) (omega arith))) (λ n h. refl)
+
+-- ---- What is written
+
+-- all known kinds
+pub written-is : (k : ℕ) → written k ≡ known k
+unfolding written known fieldsOf lineOf kinds
+written-is = by-kind (λ k. written k ≡ known k) refl refl refl refl refl refl refl (λ n. refl)

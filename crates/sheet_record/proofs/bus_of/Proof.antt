@@ -1,0 +1,38 @@
+-- `sheet_record::bus_of` meets its contract: the page's kinds one by one, and 0 past them. Assumes nothing.
+use mathlib.Core.Path.{sym}
+use native.Mathlib.Omega.{arith}
+use Rattle.sheet_record.specs.Kinds.{kinds, lineOf, busOf}
+use Rattle.sheet_record.proofs.Parts.{no-bus}
+use Rattle.sheet_record.proofs.bus_of.Statement.{statement}
+use Rattle.sheet_record.proofs.bus_of.Tie as tie
+
+returns : tie.Need-returns
+unfolding busOf lineOf kinds
+returns c = rw (c .match .keys1)
+
+returns-2 : tie.Need-returns-2
+unfolding busOf lineOf kinds
+returns-2 c = rw (c .match .keys2)
+
+returns-3 : tie.Need-returns-3
+unfolding busOf lineOf kinds
+returns-3 c = rw (c .match .keys3)
+
+returns-4 : tie.Need-returns-4
+unfolding busOf lineOf kinds
+returns-4 c = rw (c .match .keys4)
+
+returns-5 : tie.Need-returns-5
+unfolding busOf lineOf kinds
+returns-5 c = rw (c .match .keys5)
+
+returns-6 : tie.Need-returns-6
+unfolding busOf lineOf kinds
+returns-6 c = rw (c .match .keys6)
+
+returns-7 : tie.Need-returns-7
+returns-7 c = sym (no-bus (c .before .args .kind) (λ lo hi. omega (arith, c .match .rest)))
+
+pub bus-of-spec : {M : Type 1} → statement M
+bus-of-spec =
+    tie.close (tie.spec returns returns-2 returns-3 returns-4 returns-5 returns-6 returns-7)
