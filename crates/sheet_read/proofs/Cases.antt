@@ -15,25 +15,25 @@ use Rattle.common.proofs.Checks.{Clear, passed-if, passed-then}
 use Rattle.common.proofs.Checks.Clear.{none, and}
 use Rattle.sheet_record.specs.declared.Record.{Record}
 use Rattle.sheet_record.specs.Kinds.{known, sizeOf, decode, inRange}
-use Rattle.sheet_read.specs.Sheets.{headOf, streamsOf, sheetOf, fits, overLimit, metBefore}
-use Rattle.sheet_read.specs.Whole.{placeOf, recordsOf, recordChecks, endChecks, judge, ended, readFrom, reading, Outcome, orElse}
+use Rattle.sheet_read.specs.Sheets.{Sheet, given, sheetOf, fits, overLimit, metBefore}
+use Rattle.sheet_read.specs.Whole.{placeOf, before, recordChecks, endChecks, judge, ended, readFrom, reading, Outcome, orElse}
 use Rattle.sheet_read.specs.Whole.Outcome.{Read, Not}
-use Rattle.sheet_read.proofs.Walk.{place-next, place-from, length-records, length-streams}
+use Rattle.sheet_read.proofs.Walk.{place-next, place-from}
 
 -- ---- A record
 
--- a record at a place of the sheet s passes behind the records `before`: no refusal of a record applies
-pub record Passes (s : List ℕ) (before : List Record) (at : ℕ) (r : Record) : Type 0 where
+-- a record at a place of the sheet s passes behind S: no refusal of a record applies
+pub record Passes (s : List ℕ) (S : Sheet) (at : ℕ) (r : Record) : Type 0 where
   pub is-known : known (r .kind) ≡ true
-  pub is-right : fits before (r .kind) ≡ true
+  pub is-right : fits S (r .kind) ≡ true
   pub is-whole : at + sizeOf (r .kind) ≤ length s
-  pub is-ranged : inRange (headOf before .a) (headOf before .c) r ≡ true
-  pub in-limits : overLimit (streamsOf before) r ≡ false
-  pub is-new : metBefore (streamsOf before) r ≡ false
+  pub is-ranged : inRange (given S (r .a)) r ≡ true
+  pub in-limits : overLimit (S .streams) r ≡ false
+  pub is-new : metBefore (S .streams) r ≡ false
 
-clear-then : {s : List ℕ} {before : List Record} {at : ℕ} {r : Record} → Clear (recordChecks s before at r) → Passes s before at r
+clear-then : {s : List ℕ} {S : Sheet} {at : ℕ} {r : Record} → Clear (recordChecks s S at r) → Passes s S at r
 unfolding recordChecks
-clear-then {s} {before} {at} {r} (and e₂ (and e₃ (and e₁ (and e₄ (and e₅ (and e₇ none)))))) =
+clear-then {s} {S} {at} {r} (and e₂ (and e₃ (and e₁ (and e₄ (and e₅ (and e₇ none)))))) =
     record {
       is-known = not-false _ e₂;
       is-right = not-false _ e₃;
@@ -43,15 +43,15 @@ clear-then {s} {before} {at} {r} (and e₂ (and e₃ (and e₁ (and e₄ (and e�
       is-new = e₇;
     }
 
-clear-if : {s : List ℕ} {before : List Record} {at : ℕ} {r : Record} → Passes s before at r → Clear (recordChecks s before at r)
+clear-if : {s : List ℕ} {S : Sheet} {at : ℕ} {r : Record} → Passes s S at r → Clear (recordChecks s S at r)
 unfolding recordChecks
-clear-if {s} {before} {at} {r} p =
+clear-if {s} {S} {at} {r} p =
     and (ap not (p .is-known)) (and (ap not (p .is-right)) (and (le-ltb _ _ (p .is-whole)) (and (ap not (p .is-ranged)) (and (p .in-limits) (and (p .is-new) none)))))
 
 module _ (s : List ℕ) where
   -- record i of the sheet passes
   abbrev pub PassesAt : ℕ → Type 0
-  PassesAt i = Passes s (recordsOf s i) (placeOf s i) (decode s (placeOf s i))
+  PassesAt i = Passes s (before s i) (placeOf s i) (decode s (placeOf s i))
 
   pub passes-then : (i : ℕ) → judge s i ≡ Passed → PassesAt i
   unfolding judge
@@ -156,13 +156,14 @@ module _ (s : List ℕ) where
   -- ---- The end
 
   pub ended-empty : ended s 0 ≡ Not 1 0
-  unfolding ended endChecks verdict recordsOf
+  unfolding ended endChecks verdict before sheetOf
   ended-empty = refl
 
-  pub ended-no-stream : ended s 1 ≡ Not 6 (length s)
-  unfolding ended endChecks verdict recordsOf streamsOf
-  ended-no-stream = refl
+  module _ (i : ℕ) (first : before s i .head .kind ≡ 0 → ⊥) where
+    pub ended-no-stream : length (before s i .streams) ≡ 0 → ended s i ≡ Not 6 (length s)
+    unfolding ended endChecks verdict
+    ended-no-stream e = rw (ne-eqb (before s i .head .kind) 0 first, e)
 
-  pub ended-sheet : (n : ℕ) → (n ≡ 0 → ⊥) → ended s (suc n) ≡ Read (sheetOf (recordsOf s (suc n)))
-  unfolding ended endChecks verdict
-  ended-sheet n h = rw (length-records s (suc n), length-streams s n, ne-eqb (suc n) 0 (λ e. omega arith), ne-eqb n 0 h)
+    pub ended-sheet : (length (before s i .streams) ≡ 0 → ⊥) → ended s i ≡ Read (before s i)
+    unfolding ended endChecks verdict
+    ended-sheet h = rw (ne-eqb (before s i .head .kind) 0 first, ne-eqb (length (before s i .streams)) 0 h)

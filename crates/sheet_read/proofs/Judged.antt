@@ -4,18 +4,18 @@ use mathlib.Core.Bool.{Bool, true, false, not, _&&_}
 use mathlib.Core.List.{List, [], _∷_}
 use Prim.Native.Nat.{ℕ, zero, suc, _+_, _≤_}
 use native.Mathlib.Omega.{arith}
-use borrow.Author.Tests.{eqb-true, ne-eqb, eq-eqb, leb-true, leb-false, lt-ltb, le-ltb}
+use borrow.Author.Tests.{ne-eqb, eq-eqb, leb-true, leb-false, lt-ltb, le-ltb}
 use lib.ListN.{length, getD}
 use lib.Dec.{eqb, leb, ltb}
 use Rattle.common.specs.Checks.{Check, check, Verdict, verdict}
 use Rattle.common.specs.Checks.Verdict.{Refused}
 use Rattle.sheet_record.specs.declared.Met.{Met}
 use Rattle.sheet_record.specs.declared.Record.{Record}
-use Rattle.sheet_record.specs.Kinds.{known, sizeOf, decode, inRange, whole, metAt, metOf, nothing}
-use Rattle.sheet_record.proofs.Records.{met-same}
-use Rattle.sheet_record.proofs.Ranges.{of-kind}
-use Rattle.sheet_read.specs.Sheets.{headOf, streamsOf, fits, overLimit, metBefore}
-use Rattle.sheet_read.specs.Whole.{placeOf, recordsOf, recordChecks, judge}
+use Rattle.sheet_record.specs.declared.Given.{Given}
+use Rattle.sheet_record.specs.Kinds.{known, sizeOf, decode, inRange, whole, metAt, isStreamOf, streamMet, nothing}
+use Rattle.sheet_record.proofs.Records.{stream-same}
+use Rattle.sheet_read.specs.Sheets.{given, fits, overLimit, metBefore}
+use Rattle.sheet_read.specs.Whole.{placeOf, before, recordChecks, judge}
 use Rattle.sheet_read.specs.Steps.{ownNo}
 
 -- a number that is not 0 is a refusal
@@ -107,33 +107,29 @@ module _ (s : List ℕ) (at : ℕ) where
   unfolding whole
   found-tells e f = let w : whole s at ≡ true = rw (e, f) in ap (λ (m : Met). m .found) (met-some w)
 
-  pub own-met : (isRight : Bool) (top long : ℕ)
-      → ownNo (known (getD s at 0)) isRight (not (eqb (metAt s at .next) at)) (inRange top long (metAt s at .found))
-      ≡ ownNo (known (getD s at 0)) isRight (leb (at + sizeOf (getD s at 0)) (length s)) (inRange top long (decode s at))
-  own-met isRight top long =
-      own-same (known (getD s at 0)) isRight _ _ _ _ (λ k r. next-tells k) (λ k r w. ap (inRange top long) (found-tells k w))
+  pub own-met : (isRight : Bool) (g : Given)
+      → ownNo (known (getD s at 0)) isRight (not (eqb (metAt s at .next) at)) (inRange g (metAt s at .found))
+      ≡ ownNo (known (getD s at 0)) isRight (leb (at + sizeOf (getD s at 0)) (length s)) (inRange g (decode s at))
+  own-met isRight g =
+      own-same (known (getD s at 0)) isRight _ _ _ _ (λ k r. next-tells k) (λ k r w. ap (inRange g) (found-tells k w))
 
-  -- the same where a record of the right kind alone is asked for: another one is refused before anything else is looked at
-  pub own-met-of : (kind top long : ℕ)
-      → ownNo (known (getD s at 0)) (eqb (getD s at 0) kind) (not (eqb (metOf s at kind .next) at))
-      (eqb (metOf s at kind .found .kind) kind && inRange top long (metOf s at kind .found))
-      ≡ ownNo (known (getD s at 0)) (eqb (getD s at 0) kind) (leb (at + sizeOf (getD s at 0)) (length s)) (inRange top long (decode s at))
+  -- the same where a stream of a bus alone is asked for: any other record is refused before anything else is looked at
+  pub own-met-of : (bus : ℕ) (g : Given)
+      → ownNo (known (getD s at 0)) (isStreamOf bus (getD s at 0)) (not (eqb (streamMet s at bus .next) at))
+      (isStreamOf bus (streamMet s at bus .found .kind) && inRange g (streamMet s at bus .found))
+      ≡ ownNo (known (getD s at 0)) (isStreamOf bus (getD s at 0)) (leb (at + sizeOf (getD s at 0)) (length s)) (inRange g (decode s at))
   unfolding decode
-  own-met-of kind top long = own-same (known (getD s at 0)) (eqb (getD s at 0) kind) _ _ _ _ ends ranged
+  own-met-of bus g = own-same (known (getD s at 0)) (isStreamOf bus (getD s at 0)) _ _ _ _ ends ranged
     where
-      met : eqb (getD s at 0) kind ≡ true → metOf s at kind ≡ metAt s at
-      met r = met-same s at kind (eqb-true (getD s at 0) kind r)
+      ends : known (getD s at 0) ≡ true → isStreamOf bus (getD s at 0) ≡ true
+          → not (eqb (streamMet s at bus .next) at) ≡ leb (at + sizeOf (getD s at 0)) (length s)
+      ends k r = ap (λ (m : Met). not (eqb (m .next) at)) (stream-same s at bus r) ∙ next-tells k
 
-      ends : known (getD s at 0) ≡ true → eqb (getD s at 0) kind ≡ true
-          → not (eqb (metOf s at kind .next) at) ≡ leb (at + sizeOf (getD s at 0)) (length s)
-      ends k r = ap (λ (m : Met). not (eqb (m .next) at)) (met r) ∙ next-tells k
-
-      ranged : known (getD s at 0) ≡ true → eqb (getD s at 0) kind ≡ true → leb (at + sizeOf (getD s at 0)) (length s) ≡ true
-          → (eqb (metOf s at kind .found .kind) kind && inRange top long (metOf s at kind .found)) ≡ inRange top long (decode s at)
+      ranged : known (getD s at 0) ≡ true → isStreamOf bus (getD s at 0) ≡ true → leb (at + sizeOf (getD s at 0)) (length s) ≡ true
+          → (isStreamOf bus (streamMet s at bus .found .kind) && inRange g (streamMet s at bus .found)) ≡ inRange g (decode s at)
       ranged k r w =
-          let e : metOf s at kind .found ≡ decode s at = ap (λ (m : Met). m .found) (met r) ∙ found-tells k w in
-          ap (λ (x : Record). eqb (x .kind) kind && inRange top long x) e
-          ∙ of-kind (getD s at 0) kind (inRange top long (decode s at)) (eqb-true (getD s at 0) kind r)
+          let e : streamMet s at bus .found ≡ decode s at = ap (λ (m : Met). m .found) (stream-same s at bus r) ∙ found-tells k w in
+          ap (λ (x : Record). isStreamOf bus (x .kind) && inRange g x) e ∙ ap (λ (b : Bool). b && inRange g (decode s at)) r
 
 -- ---- A record of the sheet
 
@@ -141,19 +137,19 @@ module _ (s : List ℕ) (i : ℕ) where
   -- 5 and 7, for a record that no other refusal meets
   unfoldable pub lateChecks : List Check
   lateChecks =
-      check 5 (overLimit (streamsOf (recordsOf s i)) (decode s (placeOf s i))) (placeOf s i)
-      ∷ check 7 (metBefore (streamsOf (recordsOf s i)) (decode s (placeOf s i))) (placeOf s i)
+      check 5 (overLimit (before s i .streams) (decode s (placeOf s i))) (placeOf s i)
+      ∷ check 7 (metBefore (before s i .streams) (decode s (placeOf s i))) (placeOf s i)
       ∷ []
 
   unfoldable pub ownAt : ℕ
   ownAt =
-      ownNo (known (getD s (placeOf s i) 0)) (fits (recordsOf s i) (getD s (placeOf s i) 0))
+      ownNo (known (getD s (placeOf s i) 0)) (fits (before s i) (getD s (placeOf s i) 0))
       (leb (placeOf s i + sizeOf (getD s (placeOf s i) 0)) (length s))
-      (inRange (headOf (recordsOf s i) .a) (headOf (recordsOf s i) .c) (decode s (placeOf s i)))
+      (inRange (given (before s i) (decode s (placeOf s i) .a)) (decode s (placeOf s i)))
 
   pub judge-own : judge s i ≡ numbered ownAt (placeOf s i) (verdict lateChecks)
   unfolding judge recordChecks decode lateChecks ownAt
   judge-own =
       rw (above (placeOf s i + sizeOf (getD s (placeOf s i) 0)) (length s))
-      (own-first (known (getD s (placeOf s i) 0)) (fits (recordsOf s i) (getD s (placeOf s i) 0)) (leb (placeOf s i + sizeOf (getD s (placeOf s i) 0)) (length s))
-      (inRange (headOf (recordsOf s i) .a) (headOf (recordsOf s i) .c) (decode s (placeOf s i))) (placeOf s i) lateChecks)
+      (own-first (known (getD s (placeOf s i) 0)) (fits (before s i) (getD s (placeOf s i) 0)) (leb (placeOf s i + sizeOf (getD s (placeOf s i) 0)) (length s))
+      (inRange (given (before s i) (decode s (placeOf s i) .a)) (decode s (placeOf s i))) (placeOf s i) lateChecks)

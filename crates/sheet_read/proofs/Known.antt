@@ -1,80 +1,183 @@
 -- What is known of a sheet that reads without refusal: all that a planner goes by, with nothing about bytes. Assumes nothing.
 use mathlib.Core.Path.{_≡_, refl, sym, ap, _∙_, subst}
-use mathlib.Core.Bool.{Bool, true, false, cond, _&&_, _||_}
-use mathlib.Core.List.{List, [], _∷_}
-use mathlib.Core.Logic.{_⊎_, inl, inr, ⊎-elim}
-use Prim.Native.Nat.{ℕ, zero, suc, _+_, _-_, _*_, _≤_, _<_}
+use mathlib.Core.Bool.{Bool, true, false, cond, not, _&&_, _||_}
+use mathlib.Core.List.{List, [], _∷_, _++_}
+use mathlib.Core.Logic.{_⊎_, inl, inr}
+use Prim.Native.Nat.{ℕ, zero, suc, _+_, _*_, _≤_, _<_}
 use native.Mathlib.Nat.{not-suc-le-zero, zero-mul, suc-mul}
 use native.Mathlib.Omega.{arith}
-use borrow.Author.Tests.{ltb-false, leb-false, le-leb, eqb-true, eqb-false}
-use lib.ListN.{length, getD}
+use native.Mathlib.Decide.{ℕ-discrete}
+use borrow.Author.Tests.{ltb-false, leb-false, le-leb, eqb-true, eqb-false, eq-eqb, ne-eqb}
+use lib.ListN.{length, getD, length-append, List·getD-append}
+use lib.Seq.{getD-at}
 use lib.Dec.{ltb, leb, eqb}
 use Rattle.common.specs.Sums.{when}
 use Rattle.common.specs.Checks.{verdict, Verdict}
 use Rattle.common.specs.Checks.Verdict.{Passed, Refused}
 use Rattle.common.proofs.Checks.{Clear, passed-then}
 use Rattle.common.proofs.Checks.Clear.{none, and}
+use Rattle.sheet_record.specs.declared.Given.{Given}
 use Rattle.sheet_record.specs.declared.Met.{Met}
 use Rattle.sheet_record.specs.declared.Record.{Record}
-use Rattle.sheet_record.specs.Kinds.{known, sizeOf, decode, inRange, whole, metAt, nothing}
-use Rattle.sheet_read.specs.Sheets.{Sheet, headOf, streamsOf, sheetOf, fits, countOf, mostInAll, hasMaster, overLimit, metBefore}
-use Rattle.sheet_read.specs.Whole.{placeOf, recordsOf, endChecks, ended, reading}
+use Rattle.sheet_record.specs.Kinds.{known, sizeOf, decode, inRange, whole, metAt, nothing, busOf, isFirst, isSetting, isStream, isStreamOf}
+use Rattle.sheet_record.proofs.Parts.{no-setting}
+use Rattle.sheet_read.specs.Sheets.{Sheet, sheetOf, having, busIn, given, countOf, mostInAll, hasMasters, overLimit, metBefore}
+use Rattle.sheet_read.specs.Records.{recordsIn}
+use Rattle.sheet_read.specs.Whole.{placeOf, recordsOf, before, firstStream, endChecks, ended, reading}
 use Rattle.sheet_read.specs.Whole.Outcome.{Read, Not}
-use Rattle.sheet_read.proofs.Walk.{streams-none, length-records, length-streams, stream-at, head-at, streams-more}
-use Rattle.sheet_read.proofs.Cases.{PassesAt, Upto, Stops, reading-stops}
+use Rattle.sheet_read.proofs.Walk.{before-none, head-at}
+use Rattle.sheet_read.proofs.Cases.{PassesAt, Upto, Stops, upto-front, reading-stops}
 use Rattle.sheet_read.proofs.Cases.Stops.{by-record, at-end}
 use Rattle.sheet_read.proofs.Counts.{count-more, count-none}
+use Rattle.sheet_read.proofs.Order.{Placed, fits-then, fits-behind, stream-of, nth, first-passes, head-some, adds-stream, adds-setting, behind-first, how-many, stream-at}
+use Rattle.sheet_read.proofs.Order.Placed.{as-first, as-setting, as-stream}
 
 pub record Known (s : List ℕ) (S : Sheet) : Type 0 where
   -- a stream at least, and at most 800, or 64 variables
   pub some : 1 ≤ length (S .streams)
   pub few : length (S .streams) ≤ 800
-  pub few-variables : S .head .kind ≡ 5 → length (S .streams) ≤ 64
-  -- the sheet says what stands in its records, of which it has one more than streams
-  pub says : S ≡ sheetOf (recordsOf s (suc (length (S .streams))))
-  pub ends : placeOf s (suc (length (S .streams))) ≡ length s
-  -- stream i, counted from 0, is what is met at the place of record i + 1, and the next record stands behind it
-  pub met : (i : ℕ) → i < length (S .streams) → metAt s (placeOf s (suc i)) .found ≡ getD (S .streams) i nothing
-  pub next : (i : ℕ) → i < length (S .streams) → metAt s (placeOf s (suc i)) .next ≡ placeOf s (suc (suc i))
+  pub few-variables : busIn S ≡ 5 → length (S .streams) ≤ 64
+  -- stream i, counted from 0, is what is met at its place, and the next record stands behind it
+  pub met : (i : ℕ) → i < length (S .streams) → metAt s (placeOf s (firstStream S + i)) .found ≡ getD (S .streams) i nothing
+  pub next : (i : ℕ) → i < length (S .streams) → metAt s (placeOf s (firstStream S + i)) .next ≡ placeOf s (suc (firstStream S + i))
+  -- the byte at its place is its kind
+  pub byte : (i : ℕ) → i < length (S .streams) → getD s (placeOf s (firstStream S + i)) 0 ≡ getD (S .streams) i nothing .kind
   -- the first record
-  pub head-kind : S .head .kind ≡ 1 ⊎ S .head .kind ≡ 3 ⊎ S .head .kind ≡ 5
-  pub head-ranged : inRange 0 0 (S .head) ≡ true
-  -- the streams match it, and are in range behind it
-  pub kinds : (i : ℕ) → i < length (S .streams) → getD (S .streams) i nothing .kind ≡ S .head .kind + 1
-  pub ranged : (i : ℕ) → i < length (S .streams) → inRange (S .head .a) (S .head .c) (getD (S .streams) i nothing) ≡ true
+  pub head-first : isFirst (S .head .kind) ≡ true
+  pub head-ranged : inRange (given (sheetOf []) (S .head .a)) (S .head) ≡ true
+  -- the streams are of its bus, and in range behind it
+  pub kinds : (i : ℕ) → i < length (S .streams) → isStreamOf (busIn S) (getD (S .streams) i nothing .kind) ≡ true
+  pub ranged : (i : ℕ) → i < length (S .streams) → inRange (given S (getD (S .streams) i nothing .a)) (getD (S .streams) i nothing) ≡ true
   -- at most 80 streams for one master
-  pub per-master : (k : ℕ) → (S .head .kind ≡ 5 → ⊥) → countOf k (S .streams) ≤ 80
+  pub per-master : (k : ℕ) → (busIn S ≡ 5 → ⊥) → countOf k (S .streams) ≤ 80
   -- no two variables have one identifier
-  pub distinct : S .head .kind ≡ 5 → (i j : ℕ) → i < j → j < length (S .streams)
+  pub distinct : busIn S ≡ 5 → (i j : ℕ) → i < j → j < length (S .streams)
       → getD (S .streams) i nothing .a ≡ getD (S .streams) j nothing .a → ⊥
 
--- ---- Where it comes from
+-- ---- Streams that passed one after the other
 
 pub both-fail : (a b : Bool) → (a || b) ≡ false → (a ≡ false) × (b ≡ false)
 both-fail true b e = let z : _≡_ {A = ℕ} 0 1 = cc in absurd (omega arith)
 both-fail false b e = (refl, e)
 
--- behind a first record, the kind is the one to match
-pub fits-behind : (rs : List Record) (k : ℕ) → 1 ≤ length rs → fits rs k ≡ eqb k (headOf rs .kind + 1)
-unfolding fits headOf
-fits-behind [] k l = absurd (not-suc-le-zero l)
-fits-behind (h ∷ rs) k l = refl
+-- the limits that a first record sets
+abbrev givenBy : Record → Given
+givenBy h = record { masters = h .a; message = h .c }
 
-pub first-fits : (k : ℕ) → fits [] k ≡ true → k ≡ 1 ⊎ k ≡ 3 ⊎ k ≡ 5
-unfolding fits
-first-fits k e = one (eqb k 1) refl
+record Sound (h : Record) (rs : List Record) : Type 0 where
+  few : length rs ≤ mostInAll (busOf (h .kind))
+  kinds : (i : ℕ) → i < length rs → isStreamOf (busOf (h .kind)) (getD rs i nothing .kind) ≡ true
+  ranged : (i : ℕ) → i < length rs → inRange (givenBy h) (getD rs i nothing) ≡ true
+  per-master : (k : ℕ) → (busOf (h .kind) ≡ 5 → ⊥) → countOf k rs ≤ 80
+  distinct : busOf (h .kind) ≡ 5 → (i j : ℕ) → i < j → j < length rs → getD rs i nothing .a ≡ getD rs j nothing .a → ⊥
+
+sound-none : (h : Record) → Sound h []
+unfolding countOf
+sound-none h =
+    record {
+      few = omega arith;
+      kinds = λ i l. absurd (not-suc-le-zero l);
+      ranged = λ i l. absurd (not-suc-le-zero l);
+      per-master = λ k e. omega arith;
+      distinct = λ e i j l k. absurd (not-suc-le-zero k);
+    }
+
+-- what holds of some records and of one more
+each-more : (P : Record → Type 0) (rs : List Record) (r : Record) → ((i : ℕ) → i < length rs → P (getD rs i nothing)) → P r
+    → (i : ℕ) → i < length (rs ++ (r ∷ [])) → P (getD (rs ++ (r ∷ [])) i nothing)
+each-more P rs r all one i l = split (ℕ-discrete i (length rs))
   where
-    three : (b : Bool) → eqb k 3 ≡ b → (b || eqb k 5) ≡ true → k ≡ 1 ⊎ k ≡ 3 ⊎ k ≡ 5
-    three true q f = inr (inl (eqb-true k 3 q))
-    three false q f = inr (inr (eqb-true k 5 f))
+    split : Dec (i ≡ length rs) → P (getD (rs ++ (r ∷ [])) i nothing)
+    split (yes e) = subst P (sym (getD-at rs r [] nothing i (sym e))) one
+    split (no e) =
+        let k : i < length rs = omega (arith, e, length-append rs (r ∷ [])) in
+        subst P (sym (List·getD-append rs (r ∷ []) nothing i k)) (all i k)
 
-    one : (b : Bool) → eqb k 1 ≡ b → k ≡ 1 ⊎ k ≡ 3 ⊎ k ≡ 5
-    one true q = inl (eqb-true k 1 q)
-    one false q = three (eqb k 3) refl (rw q at e)
+-- one more stream that passes
+module _ (h : Record) (rs : List Record) (sound : Sound h rs) (r : Record) (its : isStreamOf (busOf (h .kind)) (r .kind) ≡ true)
+    (in-limits : overLimit rs r ≡ false) (is-new : metBefore rs r ≡ false) where
+  of-bus : busOf (r .kind) ≡ busOf (h .kind)
+  of-bus = stream-of (busOf (h .kind)) (r .kind) its .1
 
-none-or-some : (m : ℕ) → m ≡ 0 ⊎ 1 ≤ m
-none-or-some zero = inl refl
-none-or-some (suc m) = inr (omega arith)
+  limits : (leb (mostInAll (busOf (h .kind))) (length rs) ≡ false) × ((hasMasters (busOf (h .kind)) && leb 80 (countOf (r .a) rs)) ≡ false)
+  unfolding overLimit
+  limits =
+      let e : (leb (mostInAll (busOf (h .kind))) (length rs) || (hasMasters (busOf (h .kind)) && leb 80 (countOf (r .a) rs))) ≡ false = rw of-bus at in-limits in
+      both-fail (leb (mostInAll (busOf (h .kind))) (length rs)) (hasMasters (busOf (h .kind)) && leb 80 (countOf (r .a) rs)) e
+
+  more-few : length (rs ++ (r ∷ [])) ≤ mostInAll (busOf (h .kind))
+  more-few = omega (arith, length-append rs (r ∷ []), leb-false (mostInAll (busOf (h .kind))) (length rs) (limits .0))
+
+  more-counted : (k : ℕ) → (busOf (h .kind) ≡ 5 → ⊥) → countOf k (rs ++ (r ∷ [])) ≤ 80
+  unfolding hasMasters
+  more-counted k e = split (eqb (r .a) k) refl
+    where
+      split : (b : Bool) → eqb (r .a) k ≡ b → countOf k (rs ++ (r ∷ [])) ≤ 80
+      split true q =
+          let f : leb 80 (countOf (r .a) rs) ≡ false = rw (ne-eqb (busOf (h .kind)) 5 e) at (limits .1) in
+          let g : leb 80 (countOf k rs) ≡ false = rw (eqb-true (r .a) k q) at f in
+          let c : countOf k (rs ++ (r ∷ [])) ≡ countOf k rs + 1 = rw q at (count-more k rs r) in
+          omega (arith, leb-false 80 (countOf k rs) g)
+      split false q =
+          let c : countOf k (rs ++ (r ∷ [])) ≡ countOf k rs + 0 = rw q at (count-more k rs r) in
+          omega (arith, sound .per-master k e)
+
+  new-identifier : busOf (h .kind) ≡ 5 → countOf (r .a) rs ≡ 0
+  unfolding metBefore
+  new-identifier e =
+      let f : ltb 0 (countOf (r .a) rs) ≡ false = rw (of-bus, e) at is-new in
+      omega (arith, ltb-false 0 (countOf (r .a) rs) f)
+
+  more-distinct : busOf (h .kind) ≡ 5 → (i j : ℕ) → i < j → j < length (rs ++ (r ∷ [])) → getD (rs ++ (r ∷ [])) i nothing .a ≡ getD (rs ++ (r ∷ [])) j nothing .a → ⊥
+  more-distinct e i j l k q = split (ℕ-discrete j (length rs))
+    where
+      old : (x : ℕ) → x < length rs → getD (rs ++ (r ∷ [])) x nothing ≡ getD rs x nothing
+      old x m = List·getD-append rs (r ∷ []) nothing x m
+
+      split : Dec (j ≡ length rs) → ⊥
+      split (yes z) =
+          let m : i < length rs = omega arith in
+          let a : getD rs i nothing .a ≡ r .a = rw (old i m, getD-at rs r [] nothing j (sym z)) at q in
+          count-none (r .a) rs i (new-identifier e) m a
+      split (no z) =
+          let m : j < length rs = omega (arith, z, length-append rs (r ∷ [])) in
+          let a : getD rs i nothing .a ≡ getD rs j nothing .a = rw (old i (omega arith), old j m) at q in
+          sound .distinct e i j l m a
+
+  sound-more : inRange (givenBy h) r ≡ true → Sound h (rs ++ (r ∷ []))
+  sound-more is-ranged =
+      record {
+        few = more-few;
+        kinds = each-more (λ x. isStreamOf (busOf (h .kind)) (x .kind) ≡ true) rs r (sound .kinds) its;
+        ranged = each-more (λ x. inRange (givenBy h) x ≡ true) rs r (sound .ranged) is-ranged;
+        per-master = more-counted;
+        distinct = more-distinct;
+      }
+
+-- ---- The streams of a sheet
+
+module _ (s : List ℕ) where
+  sound-upto : (n : ℕ) → Upto s (suc n) → Sound (decode s 0) (before s (suc n) .streams)
+  sound-upto zero u = rw (behind-first s (u .passed 0 (omega arith)) .1) (sound-none (decode s 0))
+  sound-upto (suc n) u = step (fits-then (before s (suc n)) (nth s (suc n) .kind) (p .is-right))
+    where
+      p : PassesAt s (suc n)
+      p = u .passed (suc n) (omega arith)
+
+      earlier : Upto s (suc n)
+      earlier = upto-front s (suc (suc n)) (suc n) (omega arith) u
+
+      ih : Sound (decode s 0) (before s (suc n) .streams)
+      ih = sound-upto n earlier
+
+      step : Placed (before s (suc n)) (nth s (suc n) .kind) → Sound (decode s 0) (before s (suc (suc n)) .streams)
+      step (as-first e z) = absurd (head-some s n earlier z)
+      step (as-setting e z) = rw (adds-setting s (suc n) e .1) ih
+      step (as-stream e) =
+          let its : isStreamOf (busOf (decode s 0 .kind)) (nth s (suc n) .kind) ≡ true = rw (head-at s n) at e in
+          let ranged : inRange (givenBy (decode s 0)) (nth s (suc n)) ≡ true = rw (head-at s n) at (p .is-ranged) in
+          rw (adds-stream s (suc n) (stream-of (busIn (before s (suc n))) (nth s (suc n) .kind) e .0) .1)
+          (sound-more (decode s 0) (before s (suc n) .streams) ih (nth s (suc n)) its (p .in-limits) (p .is-new) ranged)
 
 -- a whole record of a known kind is met
 pub met-whole : (s : List ℕ) (at : ℕ) → known (getD s at 0) ≡ true → at + sizeOf (getD s at 0) ≤ length s
@@ -82,192 +185,117 @@ pub met-whole : (s : List ℕ) (at : ℕ) → known (getD s at 0) ≡ true → a
 unfolding metAt whole
 met-whole s at k l = rw (k, le-leb (at + sizeOf (getD s at 0)) (length s) l)
 
+few-kinds : (bus : ℕ) → mostInAll bus ≤ 800
+unfolding mostInAll
+few-kinds bus = split (eqb bus 5)
+  where
+    split : (b : Bool) → cond b 64 800 ≤ 800
+    split true = omega arith
+    split false = omega arith
+
+few-variables-at : (bus : ℕ) → bus ≡ 5 → mostInAll bus ≡ 64
+unfolding mostInAll
+few-variables-at bus e = rw e
+
 module _ (s : List ℕ) (m : ℕ) (u : Upto s (suc m)) where
-  -- the streams, and the first record
-  streams : List Record
-  streams = streamsOf (recordsOf s (suc m))
+  met-at : (j : ℕ) → j ≤ m → metAt s (placeOf s j) ≡ record { found = nth s j; next = placeOf s (suc j) }
+  unfolding decode placeOf
+  met-at j l = met-whole s (placeOf s j) (u .passed j (omega arith) .is-known) (u .passed j (omega arith) .is-whole)
 
-  head : Record
-  head = decode s 0
-
-  -- record i passes
-  at : (i : ℕ) → i ≤ m → PassesAt s i
-  at i l = u .passed i (omega arith)
-
-  head-kind' : head .kind ≡ 1 ⊎ head .kind ≡ 3 ⊎ head .kind ≡ 5
-  unfolding head placeOf recordsOf
-  head-kind' = first-fits (head .kind) (at 0 (omega arith) .is-right)
-
-  head-ranged' : inRange 0 0 head ≡ true
-  unfolding head placeOf recordsOf headOf
-  head-ranged' = at 0 (omega arith) .is-ranged
-
-  -- stream i
-  stream : ℕ → Record
-  stream i = decode s (placeOf s (suc i))
-
-  kind-at : (i : ℕ) → i < m → stream i .kind ≡ head .kind + 1
-  unfolding stream head
-  kind-at i l =
-      let e = at (suc i) l .is-right in
-      let f = fits-behind (recordsOf s (suc i)) (stream i .kind) (rw (length-records s (suc i)) (omega arith)) in
-      let g : eqb (stream i .kind) (headOf (recordsOf s (suc i)) .kind + 1) ≡ true = sym f ∙ e in
-      eqb-true (stream i .kind) (head .kind + 1) (rw (head-at s i) at g)
-
-  ranged-at : (i : ℕ) → i < m → inRange (head .a) (head .c) (stream i) ≡ true
-  unfolding stream head
-  ranged-at i l = rw (head-at s i) at (at (suc i) l .is-ranged)
-
-  met-at : (i : ℕ) → i < m → metAt s (placeOf s (suc i)) ≡ record { found = stream i; next = placeOf s (suc (suc i)) }
-  unfolding stream decode placeOf
-  met-at i l = met-whole s (placeOf s (suc i)) (at (suc i) l .is-known) (at (suc i) l .is-whole)
-
-  -- the streams before stream i
-  earlier : ℕ → List Record
-  earlier i = streamsOf (recordsOf s (suc i))
-
-  limits-at : (i : ℕ) → i < m → (leb (mostInAll (stream i .kind)) (length (earlier i)) ≡ false) × ((hasMaster (stream i .kind) && leb 80 (countOf (stream i .a) (earlier i))) ≡ false)
-  unfolding stream earlier overLimit
-  limits-at i l = both-fail (leb (mostInAll (stream i .kind)) (length (earlier i))) (hasMaster (stream i .kind) && leb 80 (countOf (stream i .a) (earlier i))) (at (suc i) l .in-limits)
-
-  few-at : (i : ℕ) → i < m → i < mostInAll (head .kind + 1)
-  unfolding earlier
-  few-at i l =
-      let e : leb (mostInAll (head .kind + 1)) i ≡ false = rw (kind-at i l, length-streams s i) at (limits-at i l .0) in
-      leb-false (mostInAll (head .kind + 1)) i e
-
-  -- a bus with masters
-  with-master : (head .kind ≡ 5 → ⊥) → hasMaster (head .kind + 1) ≡ true
-  unfolding hasMaster
-  with-master h = ⊎-elim (λ e. rw e) (⊎-elim (λ e. rw e) (λ e. absurd (h e))) head-kind'
-
-  count-next : (k i : ℕ) → countOf k (earlier (suc i)) ≡ countOf k (earlier i) + when (eqb (stream i .a) k) 1
-  unfolding earlier stream
-  count-next k i = ap (countOf k) (streams-more s i) ∙ count-more k (earlier i) (stream i)
-
-  count-none-yet : (k : ℕ) → countOf k (earlier 0) ≡ 0
-  unfolding earlier countOf
-  count-none-yet k = ap (countOf k) (streams-none s)
-
-  count-at : (k i : ℕ) → i ≤ m → (head .kind ≡ 5 → ⊥) → countOf k (earlier i) ≤ 80
-  count-at k zero l h = omega (arith, count-none-yet k)
-  count-at k (suc i) l h = split (eqb (stream i .a) k) refl (count-at k i (omega arith) h)
-    where
-      split : (b : Bool) → eqb (stream i .a) k ≡ b → countOf k (earlier i) ≤ 80 → countOf k (earlier (suc i)) ≤ 80
-      split true q ih =
-          let f : leb 80 (countOf (stream i .a) (earlier i)) ≡ false = rw (kind-at i l, with-master h) at (limits-at i l .1) in
-          let g : leb 80 (countOf k (earlier i)) ≡ false = rw (eqb-true (stream i .a) k q) at f in
-          let e : countOf k (earlier (suc i)) ≡ countOf k (earlier i) + 1 = rw q at (count-next k i) in
-          omega (arith, leb-false 80 (countOf k (earlier i)) g)
-      split false q ih =
-          let e : countOf k (earlier (suc i)) ≡ countOf k (earlier i) + 0 = rw q at (count-next k i) in
-          omega arith
-
-  stream-of : (i j : ℕ) → i < j → getD (earlier j) i nothing ≡ stream i
-  unfolding earlier stream
-  stream-of i j l = stream-at s j i l
-
-  new-at : (j : ℕ) → j < m → head .kind ≡ 5 → countOf (stream j .a) (earlier j) ≡ 0
-  unfolding metBefore stream earlier
-  new-at j l h =
-      let e : (eqb (stream j .kind) 6 && ltb 0 (countOf (stream j .a) (earlier j))) ≡ false = at (suc j) l .is-new in
-      let f : ltb 0 (countOf (stream j .a) (earlier j)) ≡ false = rw (kind-at j l, h) at e in
-      omega (arith, ltb-false 0 (countOf (stream j .a) (earlier j)) f)
-
-  distinct-at : head .kind ≡ 5 → (i j : ℕ) → i < j → j < m → stream i .a ≡ stream j .a → ⊥
-  unfolding earlier
-  distinct-at h i j l l' e =
-      count-none (stream j .a) (earlier j) i (new-at j l' h) (rw (length-streams s j) l) (ap (λ (r : Record). r .a) (stream-of i j l) ∙ e)
-
-  few-streams : 1 ≤ m → m ≤ mostInAll (head .kind + 1)
-  few-streams h =
-      let l : m - 1 < m = omega arith in
-      omega (arith, few-at (m - 1) l)
-
-  few-kinds : (k : ℕ) → mostInAll k ≤ 800
-  unfolding mostInAll
-  few-kinds k = split (eqb k 6)
-    where
-      split : (b : Bool) → cond b 64 800 ≤ 800
-      split true = omega arith
-      split false = omega arith
-
-  few-sixes : (k : ℕ) → k ≡ 5 → mostInAll (k + 1) ≡ 64
-  unfolding mostInAll
-  few-sixes k e = rw e
-
-  -- all streams have one size, so each place is known at once
-  pub place-is : (j : ℕ) → j ≤ m → placeOf s (suc j) ≡ sizeOf (decode s 0 .kind) + j * sizeOf (decode s 0 .kind + 1)
-  unfolding placeOf decode stream head
-  place-is zero l = omega (arith, zero-mul (sizeOf (decode s 0 .kind + 1)))
-  place-is (suc j) l =
-      let k : getD s (placeOf s (suc j)) 0 ≡ decode s 0 .kind + 1 = kind-at j l in
-      omega (arith, place-is j (omega arith), ap sizeOf k, suc-mul j (sizeOf (decode s 0 .kind + 1)))
-
-  pub first-kinds : decode s 0 .kind ≡ 1 ⊎ decode s 0 .kind ≡ 3 ⊎ decode s 0 .kind ≡ 5
-  unfolding head
-  first-kinds = head-kind'
-
-  pub streams-few : m ≤ mostInAll (decode s 0 .kind + 1)
-  unfolding head
-  streams-few = ⊎-elim (λ e. omega (arith, e)) few-streams (none-or-some m)
-
-  known-there : 1 ≤ m → placeOf s (suc m) ≡ length s → Known s (sheetOf (recordsOf s (suc m)))
-  unfolding sheetOf earlier stream head
-  known-there h e =
-      let n = length-streams s m in
+  known-there : 1 ≤ length (before s (suc m) .streams) → Known s (before s (suc m))
+  unfolding before recordsOf placeOf decode
+  known-there h =
+      let S = before s (suc m) in
       let q = head-at s m in
-      let few' = few-streams h in
-      let got : (i : ℕ) → i < m → getD (streamsOf (recordsOf s (suc m))) i nothing ≡ stream i = λ i l. stream-of i m l in
+      let d = sound-upto s m u in
+      let p = u .passed 0 (omega arith) in
+      let inside : (i : ℕ) → i < length (S .streams) → firstStream S + i ≤ m = λ i l. omega (arith, how-many s m u) in
       record {
-        some = omega (arith, n);
-        few = omega (arith, n, few', few-kinds (head .kind + 1));
-        few-variables = λ k. omega (arith, n, few', few-sixes (head .kind) (ap (λ (r : Record). r .kind) (sym q) ∙ k));
-        says = rw n refl;
-        ends = rw n e;
-        met = λ i l. let l' : i < m = rw n at l in ap (λ (x : Met). x .found) (met-at i l') ∙ sym (got i l');
-        next = λ i l. let l' : i < m = rw n at l in ap (λ (x : Met). x .next) (met-at i l');
-        head-kind = rw q head-kind';
-        head-ranged = rw q head-ranged';
-        kinds = λ i l. let l' : i < m = rw n at l in rw (got i l', q) (kind-at i l');
-        ranged = λ i l. let l' : i < m = rw n at l in rw (got i l', q) (ranged-at i l');
-        per-master = λ k h'. count-at k m (omega arith) (rw q at h');
-        distinct =
-            λ k i j l l' e'.
-            let j' : j < m = rw n at l' in
-            let i' : i < m = omega arith in
-            distinct-at (rw q at k) i j l j' (rw (got i i', got j j') at e');
+        some = h;
+        few = omega (arith, d .few, few-kinds (busOf (decode s 0 .kind)));
+        few-variables = λ e. omega (arith, d .few, few-variables-at (busOf (decode s 0 .kind)) (rw q at e));
+        met = λ i l. ap (λ (x : Met). x .found) (met-at (firstStream S + i) (inside i l)) ∙ sym (stream-at s m u i l);
+        next = λ i l. ap (λ (x : Met). x .next) (met-at (firstStream S + i) (inside i l));
+        byte = λ i l. ap (λ (r : Record). r .kind) (sym (stream-at s m u i l));
+        head-first = rw q (first-passes s p);
+        head-ranged = rw q (p .is-ranged);
+        kinds = λ i l. rw q (d .kinds i l);
+        ranged = λ i l. rw q (d .ranged i l);
+        per-master = λ k e. d .per-master k (rw q at e);
+        distinct = λ e i j l k. d .distinct (rw q at e) i j l k;
       }
+
+  -- ---- How long it is, as long as no kind is a setting
+
+  no-settings : (rs : List Record) → having isSetting rs ≡ []
+  unfolding having
+  no-settings [] = refl
+  no-settings (r ∷ rs) = rw (no-setting (r .kind)) (no-settings rs)
+
+  pub settings-none : before s (suc m) .settings ≡ []
+  unfolding before sheetOf
+  settings-none = no-settings (recordsOf s (suc m))
+
+  -- every record behind the first is a stream
+  pub all-streams : length (before s (suc m) .streams) ≡ m
+  all-streams = omega (arith, how-many s m u, ap length settings-none)
+
+  pub streams-few : m ≤ mostInAll (busOf (decode s 0 .kind))
+  streams-few = omega (arith, all-streams, sound-upto s m u .few)
+
+  pub later-stream : (j : ℕ) → j < m → isStreamOf (busOf (decode s 0 .kind)) (nth s (suc j) .kind) ≡ true
+  later-stream j l =
+      let v = upto-front s (suc m) (suc j) (omega arith) u in
+      let e = sym (fits-behind (before s (suc j)) (nth s (suc j) .kind) (head-some s j v)) ∙ u .passed (suc j) (omega arith) .is-right in
+      rw (head-at s j) at e
+
+  -- where the streams are no longer than w, neither are the places higher
+  pub place-bound : (w : ℕ) → ((k : ℕ) → isStreamOf (busOf (decode s 0 .kind)) k ≡ true → sizeOf k ≤ w) → (j : ℕ) → j ≤ m
+      → placeOf s (suc j) ≤ sizeOf (decode s 0 .kind) + j * w
+  unfolding placeOf decode
+  place-bound w short zero l = omega (arith, zero-mul w)
+  place-bound w short (suc j) l =
+      omega (arith, place-bound w short j (omega arith), short (nth s (suc j) .kind) (later-stream j l), suc-mul j w)
+
+  pub first-record : isFirst (decode s 0 .kind) ≡ true
+  first-record = first-passes s (u .passed 0 (omega arith))
 
 -- ---- The law
 
 -- a sheet that ends without a refusal has its first record and a stream
-clear-end : (s : List ℕ) (i : ℕ) → Clear (endChecks (length s) (recordsOf s i)) → (m : ℕ) × (i ≡ suc m) × (1 ≤ m)
-unfolding endChecks
-clear-end s zero (and f (and g none)) = absurd (eqb-false (length (recordsOf s 0)) 0 f (length-records s 0))
-clear-end s (suc m) (and f (and g none)) = (m, refl, omega (arith, eqb-false m 0 (rw (length-streams s m) at g)))
-
-ended-read : (s : List ℕ) (i : ℕ) (S : Sheet) → ended s i ≡ Read S → (m : ℕ) × (i ≡ suc m) × (1 ≤ m) × (S ≡ sheetOf (recordsOf s i))
-unfolding ended
-ended-read s i S e = split (verdict (endChecks (length s) (recordsOf s i))) refl
+ended-read : (s : List ℕ) (i : ℕ) (S : Sheet) → ended s i ≡ Read S → (m : ℕ) × (i ≡ suc m) × (1 ≤ length (before s i .streams)) × (S ≡ before s i)
+unfolding ended endChecks
+ended-read s i S e = split (verdict (endChecks (length s) (before s i))) refl
   where
-    split : (v : Verdict) → verdict (endChecks (length s) (recordsOf s i)) ≡ v → (m : ℕ) × (i ≡ suc m) × (1 ≤ m) × (S ≡ sheetOf (recordsOf s i))
+    some : (n : ℕ) → eqb n 0 ≡ false → 1 ≤ n
+    some zero f = absurd (eqb-false 0 0 f refl)
+    some (suc n) f = omega arith
+
+    behind : (i' : ℕ) → eqb (before s i' .head .kind) 0 ≡ false → (m : ℕ) × (i' ≡ suc m)
+    unfolding before sheetOf
+    behind zero f = absurd (eqb-false (before s 0 .head .kind) 0 f refl)
+    behind (suc m) f = (m, refl)
+
+    clear : Clear (endChecks (length s) (before s i)) → (m : ℕ) × (i ≡ suc m) × (1 ≤ length (before s i .streams))
+    clear (and f (and g none)) = let b = behind i f in (b .0, b .1, some (length (before s i .streams)) g)
+
+    split : (v : Verdict) → verdict (endChecks (length s) (before s i)) ≡ v → (m : ℕ) × (i ≡ suc m) × (1 ≤ length (before s i .streams)) × (S ≡ before s i)
     split Passed q =
-        let c = clear-end s i (passed-then (endChecks (length s) (recordsOf s i)) q) in
-        let f : Read (sheetOf (recordsOf s i)) ≡ Read S = rw q at e in
+        let c = clear (passed-then (endChecks (length s) (before s i)) q) in
+        let f : Read (before s i) ≡ Read S = rw q at e in
         (c .0, c .1, c .2, cc)
     split (Refused n p) q =
         let f : Not n p ≡ Read S = rw q at e in
         let z : _≡_ {A = ℕ} 0 1 = cc in
         absurd (omega arith)
 
--- a sheet is read to its end: m streams behind its first record, and all records pass
+-- a sheet is read to its end: m records behind its first, and all records pass
 pub record ReadsTo (s : List ℕ) (S : Sheet) : Type 0 where
   pub m : ℕ
-  pub some : 1 ≤ m
+  pub some : 1 ≤ length (S .streams)
   pub upto : Upto s (suc m)
   pub ends : placeOf s (suc m) ≡ length s
-  pub says : S ≡ sheetOf (recordsOf s (suc m))
+  pub says : S ≡ before s (suc m)
 
 pub reading-whole : (s : List ℕ) (S : Sheet) → reading s ≡ Read S → ReadsTo s S
 reading-whole s S e = split (reading-stops s)
@@ -276,9 +304,9 @@ reading-whole s S e = split (reading-stops s)
     split (by-record i n p u l j q) = let z : _≡_ {A = ℕ} 0 1 = cc in absurd (omega arith)
     split (at-end i u l q) =
         let r = ended-read s i S (sym q ∙ e) in
-        record { m = r .0; some = r .2; upto = rw (r .1) at u; ends = rw (r .1) at l; says = rw (r .1) at (r .3) }
+        record { m = r .0; some = rw (r .3) (r .2); upto = rw (r .1) at u; ends = rw (r .1) at l; says = rw (r .1) at (r .3) }
 
 pub reading-read : (s : List ℕ) (S : Sheet) → reading s ≡ Read S → Known s S
 reading-read s S e =
     let r = reading-whole s S e in
-    subst (Known s) (sym (r .says)) (known-there s (r .m) (r .upto) (r .some) (r .ends))
+    subst (Known s) (sym (r .says)) (known-there s (r .m) (r .upto) (subst (λ (x : Sheet). 1 ≤ length (x .streams)) (r .says) (r .some)))

@@ -1,16 +1,40 @@
 -- Page 01, 'Sheet records': the walk from record to record, by places and by records. Assumes nothing.
-use mathlib.Core.Path.{_≡_, refl, _∙_}
+use mathlib.Core.Path.{_≡_, refl, ap, _∙_}
+use mathlib.Core.Bool.{Bool, true, false, cond}
 use mathlib.Core.List.{List, [], _∷_, _++_}
 use Prim.Native.Nat.{ℕ, zero, suc, _≤_, _<_}
-use native.Mathlib.Nat.{not-suc-le-zero, add-comm}
+use native.Mathlib.Nat.{not-suc-le-zero}
 use native.Mathlib.Numerals.{add-one}
 use native.Mathlib.Omega.{arith}
 use native.Mathlib.Decide.{ℕ-discrete}
-use lib.ListN.{length, getD, take, length-append, length-drop, List·getD-append}
-use lib.Seq.{getD-at, getD-drop, drop-append-le, take-append-le, take-all}
-use Rattle.sheet_record.specs.Kinds.{sizeOf, decode, nothing}
-use Rattle.sheet_read.specs.Sheets.{headOf, streamsOf}
-use Rattle.sheet_read.specs.Whole.{placeOf, recordsOf}
+use lib.ListN.{length, getD, take, length-append, List·getD-append}
+use lib.Seq.{getD-at, take-append-le, take-all}
+use Rattle.sheet_record.specs.declared.Record.{Record}
+use Rattle.sheet_record.specs.Kinds.{sizeOf, decode, nothing, isSetting, isStream}
+use Rattle.sheet_read.specs.Sheets.{headOf, having, sheetOf}
+use Rattle.sheet_read.specs.Whole.{placeOf, recordsOf, before}
+
+-- ---- Records of such a kind
+
+module _ (such : ℕ → Bool) where
+  pub having-append : (rs qs : List Record) → having such (rs ++ qs) ≡ having such rs ++ having such qs
+  unfolding having
+  having-append [] qs = refl
+  having-append (r ∷ rs) qs = split (such (r .kind)) (having-append rs qs)
+    where
+      split : (b : Bool) → having such (rs ++ qs) ≡ having such rs ++ having such qs
+          → cond b (r ∷ having such (rs ++ qs)) (having such (rs ++ qs)) ≡ cond b (r ∷ having such rs) (having such rs) ++ having such qs
+      split true e = ap (λ (t : List Record). r ∷ t) e
+      split false e = e
+
+  -- one record alone
+  pub having-it : (r : Record) → such (r .kind) ≡ true → having such (r ∷ []) ≡ r ∷ []
+  unfolding having
+  having-it r e = rw e
+
+  pub not-having : (r : Record) → such (r .kind) ≡ false → having such (r ∷ []) ≡ []
+  unfolding having
+  not-having r e = rw e
 
 -- ---- Places
 
@@ -59,26 +83,22 @@ module _ (s : List ℕ) where
           take-append-le i (recordsOf s n) (decode s (placeOf s n) ∷ []) (omega (arith, length-records n)) ∙ ih l
 
   -- the first record stands at 0, whatever comes behind it
-  pub head-at : (n : ℕ) → headOf (recordsOf s (suc n)) ≡ decode s 0
-  unfolding headOf placeOf
+  pub head-at : (n : ℕ) → before s (suc n) .head ≡ decode s 0
+  unfolding before sheetOf headOf placeOf
   head-at n = record-at (suc n) 0 (omega arith)
 
-  pub length-streams : (n : ℕ) → length (streamsOf (recordsOf s (suc n))) ≡ n
-  unfolding streamsOf
-  length-streams n = rw (length-drop, length-records (suc n)) (omega arith)
+  -- ---- What stands before the next record
 
-  pub stream-at : (n i : ℕ) → i < n → getD (streamsOf (recordsOf s (suc n))) i nothing ≡ decode s (placeOf s (suc i))
-  unfolding streamsOf
-  stream-at n i h = getD-drop 1 (recordsOf s (suc n)) i nothing ∙ (rw (add-comm 1 i, add-one) (record-at (suc n) (suc i) (omega arith)))
+  -- before the first, nothing
+  pub before-none : before s 0 ≡ sheetOf []
+  unfolding before recordsOf
+  before-none = refl
 
-  -- behind the first record there is no stream yet
-  pub streams-none : streamsOf (recordsOf s 1) ≡ []
-  unfolding streamsOf recordsOf
-  streams-none = refl
+  -- behind record i, its settings and its streams are those before it, and the record where it is one
+  pub settings-more : (i : ℕ) → before s (suc i) .settings ≡ before s i .settings ++ having isSetting (decode s (placeOf s i) ∷ [])
+  unfolding before sheetOf recordsOf
+  settings-more i = having-append isSetting (recordsOf s i) (decode s (placeOf s i) ∷ [])
 
-  -- one more stream
-  pub streams-more : (n : ℕ) → streamsOf (recordsOf s (suc (suc n))) ≡ streamsOf (recordsOf s (suc n)) ++ (decode s (placeOf s (suc n)) ∷ [])
-  unfolding streamsOf recordsOf
-  streams-more n =
-      let l : 1 ≤ length (recordsOf s (suc n)) = rw (length-records (suc n)) (omega arith) in
-      drop-append-le 1 (recordsOf s (suc n)) (decode s (placeOf s (suc n)) ∷ []) l
+  pub streams-more : (i : ℕ) → before s (suc i) .streams ≡ before s i .streams ++ having isStream (decode s (placeOf s i) ∷ [])
+  unfolding before sheetOf recordsOf
+  streams-more i = having-append isStream (recordsOf s i) (decode s (placeOf s i) ∷ [])

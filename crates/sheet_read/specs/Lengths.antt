@@ -2,7 +2,7 @@
 use Prim.Native.Nat.{ℕ, _+_, _*_}
 use lib.ListN.{length}
 use Rattle.common.specs.Sums.{greatest}
-use Rattle.sheet_record.specs.Kinds.{kinds, sizeOf}
+use Rattle.sheet_record.specs.Kinds.{kinds, sizeOf, pnet}
 use Rattle.sheet_read.specs.Sheets.{mostInAll}
 
 -- the longest record of the page's table: 12 bytes
@@ -13,7 +13,7 @@ longest-record = greatest sizeOf (length kinds)
 -- the longest sheet: a P-NET segment and 800 streams, 9,602 bytes
 unfoldable pub longest-sheet : ℕ
 unfolding sizeOf mostInAll longest-record
-longest-sheet = sizeOf 1 + mostInAll 2 * longest-record
+longest-sheet = sizeOf 1 + mostInAll pnet * longest-record
 
 -- that, and one record more, which is then one too many: 9,614 bytes
 unfoldable pub enough : ℕ

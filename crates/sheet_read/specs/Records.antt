@@ -9,11 +9,11 @@ use Rattle.sheet_record.specs.declared.Record.{Record}
 use Rattle.sheet_write.specs.declared.Put.the-variants as put
 use Rattle.sheet_record.specs.Kinds.{known, encode, inRange, nothing}
 use Rattle.sheet_write.specs.Writing.{putAnswer, putBytes}
-use Rattle.sheet_read.specs.Sheets.{Sheet, headOf, streamsOf, fits, overLimit, metBefore}
+use Rattle.sheet_read.specs.Sheets.{Sheet, sheetOf, given, fits, overLimit, metBefore}
 
--- the records of a sheet, the first one first
+-- the records of a sheet: the first one, its settings, its streams
 unfoldable pub recordsIn : Sheet → List Record
-recordsIn S = S .head ∷ S .streams
+recordsIn S = S .head ∷ (S .settings ++ S .streams)
 
 -- their bytes, one record after the other
 unfoldable pub bytesOf : List Record → List ℕ
@@ -26,15 +26,15 @@ bytesOf (r ∷ rs) = encode r ++ bytesOf rs
 -- r may stand behind these records
 pub record Follows (before : List Record) (r : Record) : Type 0 where
   pub is-known : known (r .kind) ≡ true
-  pub is-right : fits before (r .kind) ≡ true
-  pub is-ranged : inRange (headOf before .a) (headOf before .c) r ≡ true
-  pub in-limits : overLimit (streamsOf before) r ≡ false
-  pub is-new : metBefore (streamsOf before) r ≡ false
+  pub is-right : fits (sheetOf before) (r .kind) ≡ true
+  pub is-ranged : inRange (given (sheetOf before) (r .a)) r ≡ true
+  pub in-limits : overLimit (sheetOf before .streams) r ≡ false
+  pub is-new : metBefore (sheetOf before .streams) r ≡ false
 
 -- each record may stand behind those before it, and there is a stream
 pub record Right (rs : List Record) : Type 0 where
   pub each : (i : ℕ) → i < length rs → Follows (take i rs) (getD rs i nothing)
-  pub some : 2 ≤ length rs
+  pub some : 1 ≤ length (sheetOf rs .streams)
 
 -- ---- Writing
 

@@ -7,9 +7,9 @@ use mathlib.Core.List.{List}
 use mathlib.Core.Logic.{_⊎_}
 use lib.ListN.{length}
 use Rattle.sheet_record.specs.declared.Record.{Record}
-use Rattle.sheet_record.specs.Kinds.{sizeOf, decode, inRange}
-use Rattle.sheet_read.specs.Sheets.{headOf, streamsOf, countOf, mostInAll, hasMaster}
-use Rattle.sheet_read.specs.Whole.{placeOf, recordsOf}
+use Rattle.sheet_record.specs.Kinds.{sizeOf, decode, inRange, busOf}
+use Rattle.sheet_read.specs.Sheets.{given, countOf, mostInAll, hasMasters}
+use Rattle.sheet_read.specs.Whole.{placeOf, before}
 
 -- ---- What is asked of record i of the sheet s
 
@@ -19,7 +19,7 @@ recordAt s i = decode s (placeOf s i)
 
 -- the streams before it
 abbrev pub streamsBefore : List ℕ → ℕ → List Record
-streamsBefore s i = streamsOf (recordsOf s i)
+streamsBefore s i = before s i .streams
 
 -- its kind is 1..6
 pub record KnownKind (s : List ℕ) (i : ℕ) : Type 0 where
@@ -37,12 +37,12 @@ pub record Complete (s : List ℕ) (i : ℕ) : Type 0 where
 
 -- every field is in its range, behind the N or n and the M of the first record
 pub record Ranged (s : List ℕ) (i : ℕ) : Type 0 where
-  pub fields : inRange (headOf (recordsOf s i) .a) (headOf (recordsOf s i) .c) (recordAt s i) ≡ true
+  pub fields : inRange (given (before s i) (recordAt s i .a)) (recordAt s i) ≡ true
 
 -- it is not one stream more than a limit allows: 800 in all, 80 for one master, 64 variables
 pub record InLimits (s : List ℕ) (i : ℕ) : Type 0 where
-  pub in-all : length (streamsBefore s i) < mostInAll (recordAt s i .kind)
-  pub of-master : hasMaster (recordAt s i .kind) ≡ true → countOf (recordAt s i .a) (streamsBefore s i) < 80
+  pub in-all : length (streamsBefore s i) < mostInAll (busOf (recordAt s i .kind))
+  pub of-master : hasMasters (busOf (recordAt s i .kind)) ≡ true → countOf (recordAt s i .a) (streamsBefore s i) < 80
 
 -- it is a variable, and an earlier one, record j, has its identifier
 pub record MetBefore (s : List ℕ) (i : ℕ) : Type 0 where

@@ -1,35 +1,81 @@
--- Page 01, 'Sheet records': what a sheet says, and the limits on its records. Assumes nothing.
-use Prim.Native.Nat.{ℕ, _+_, max}
+-- Page 01, 'Sheet records': what a sheet says, what it sets for the records behind it, and the limits on them. What stands before a record is
+-- a sheet too, one that may yet grow. Assumes nothing.
+use Prim.Native.Nat.{ℕ, suc, _+_, max}
 use mathlib.Core.List.{List, [], _∷_}
-use mathlib.Core.Bool.{Bool, cond, _&&_, _||_}
-use lib.ListN.{length, getD, drop}
+use mathlib.Core.Bool.{Bool, true, false, cond, not, _&&_, _||_}
+use lib.ListN.{length, getD}
 use lib.Dec.{ltb, leb, eqb}
 use Rattle.common.specs.Sums.{when}
+use Rattle.sheet_record.specs.declared.Given.{Given}
 use Rattle.sheet_record.specs.declared.Record.{Record}
-use Rattle.sheet_record.specs.Kinds.{nothing}
+use Rattle.sheet_record.specs.Kinds.{nothing, worldfip, busOf, partOf, isSetting, isStream, Part, Times}
+use Rattle.sheet_record.specs.Kinds.Part.{no-part, first, setting, stream}
+use Rattle.sheet_record.specs.Kinds.Times.{once, often}
 
--- what a sheet says: its first record, and its streams (or variables) in sheet order
+-- its first record, its settings, and its streams (or variables) in sheet order
 pub record Sheet : Type 0 where
   pub head : Record
+  pub settings : List Record
   pub streams : List Record
 
--- the streams among the records of a sheet: those behind the first
-unfoldable pub streamsOf : List Record → List Record
-streamsOf rs = drop 1 rs
+-- ---- What some records say
 
--- the first record, and `nothing` where there is none
+-- the first, and `nothing` where there is none
 unfoldable pub headOf : List Record → Record
 headOf rs = getD rs 0 nothing
 
--- what these records say
-unfoldable pub sheetOf : List Record → Sheet
-unfolding headOf streamsOf
-sheetOf rs = record { head = headOf rs; streams = streamsOf rs }
+-- those of such a kind
+unfoldable pub having : (ℕ → Bool) → List Record → List Record
+having such [] = []
+having such (r ∷ rs) = cond (such (r .kind)) (r ∷ having such rs) (having such rs)
 
--- a kind is right for its position: 1, 3 or 5 first, and behind it 2, 4 or 6 to match
-unfoldable pub fits : List Record → ℕ → Bool
-fits [] k = eqb k 1 || (eqb k 3 || eqb k 5)
-fits (h ∷ rs) k = eqb k (h .kind + 1)
+unfoldable pub sheetOf : List Record → Sheet
+unfolding headOf having isSetting isStream
+sheetOf rs = record { head = headOf rs; settings = having isSetting rs; streams = having isStream rs }
+
+-- ---- What a sheet sets for a record behind it
+
+-- the bus that it is for
+abbrev pub busIn : Sheet → ℕ
+busIn S = busOf (S .head .kind)
+
+-- N or n, of P-NET and PROFIBUS
+abbrev pub mastersOf : Sheet → ℕ
+mastersOf S = S .head .a
+
+-- M of master y, of PROFIBUS
+abbrev pub messageOf : Sheet → ℕ → ℕ
+messageOf S y = S .head .c
+
+-- the limits of a record of master y
+abbrev pub given : Sheet → ℕ → Given
+given S y = record { masters = mastersOf S; message = messageOf S y }
+
+-- ---- Positions
+
+-- how many of these records are of kind k
+unfoldable pub ofKind : ℕ → List Record → ℕ
+ofKind k [] = 0
+ofKind k (r ∷ rs) = when (eqb (r .kind) k) 1 + ofKind k rs
+
+-- a setting of kind k may stand behind these
+abbrev pub again : Times → ℕ → List Record → Bool
+again once k settings = eqb (ofKind k settings) 0
+again often k settings = true
+
+-- kind k may stand behind S for its part: first where there is nothing, a setting behind its first record and before the streams, a stream
+-- behind a first record of its bus
+abbrev pub placed : Sheet → ℕ → Part → Bool
+placed S k no-part = false
+placed S k first = eqb (S .head .kind) 0
+placed S k (setting h t) = eqb (S .head .kind) h && (eqb (length (S .streams)) 0 && again t k (S .settings))
+placed S k stream = eqb (busIn S) (busOf k)
+
+unfoldable pub fits : Sheet → ℕ → Bool
+unfolding partOf busOf ofKind
+fits S k = placed S k (partOf k)
+
+-- ---- Limits
 
 -- how many of these records have x in their first field: the master of a stream, the identifier of a variable
 unfoldable pub countOf : ℕ → List Record → ℕ
@@ -41,20 +87,20 @@ unfoldable pub longestOf : ℕ → List Record → ℕ
 longestOf x [] = 0
 longestOf x (r ∷ rs) = max (when (eqb (r .a) x) (r .b)) (longestOf x rs)
 
--- streams in all, by their kind: 800, and 64 variables
+-- streams in all, by the bus: 800, and 64 variables
 unfoldable pub mostInAll : ℕ → ℕ
-mostInAll k = cond (eqb k 6) 64 800
+mostInAll bus = cond (eqb bus worldfip) 64 800
 
 -- a variable has no master
-unfoldable pub hasMaster : ℕ → Bool
-hasMaster k = eqb k 2 || eqb k 4
+unfoldable pub hasMasters : ℕ → Bool
+hasMasters bus = not (eqb bus worldfip)
 
 -- behind these streams, r is one more than a limit allows: in all, or of its master
 unfoldable pub overLimit : List Record → Record → Bool
-unfolding mostInAll hasMaster countOf
-overLimit before r = leb (mostInAll (r .kind)) (length before) || (hasMaster (r .kind) && leb 80 (countOf (r .a) before))
+unfolding mostInAll hasMasters countOf busOf
+overLimit before r = leb (mostInAll (busOf (r .kind))) (length before) || (hasMasters (busOf (r .kind)) && leb 80 (countOf (r .a) before))
 
 -- a variable whose identifier was met before
 unfoldable pub metBefore : List Record → Record → Bool
-unfolding countOf
-metBefore before r = eqb (r .kind) 6 && ltb 0 (countOf (r .a) before)
+unfolding countOf busOf
+metBefore before r = eqb (busOf (r .kind)) worldfip && ltb 0 (countOf (r .a) before)

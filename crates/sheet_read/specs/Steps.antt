@@ -3,16 +3,16 @@
 -- Words of inner contracts alone. Assumes nothing.
 use Prim.Native.Nat.{ℕ, zero, suc, _+_, _<_, max}
 use mathlib.Core.Path.{_≡_}
-use mathlib.Core.List.{List}
+use mathlib.Core.List.{List, []}
 use mathlib.Core.Bool.{Bool, false, cond, _||_}
 use lib.ListN.{length, getD, set}
 use lib.Dec.{leb, eqb}
 use Rattle.sheet_record.specs.declared.Record.{Record}
 use Rattle.sheet_record.specs.Kinds.{decode}
 use Rattle.common.specs.Checks.Verdict.{Passed}
-use Rattle.sheet_read.specs.Sheets.{Sheet, sheetOf, mostInAll}
-use Rattle.sheet_read.specs.Whole.{placeOf, recordsOf, judge, reading}
-use Rattle.sheet_read.specs.Whole.Outcome.{Read}
+use Rattle.sheet_read.specs.Sheets.{Sheet, busIn, sheetOf}
+use Rattle.sheet_read.specs.Whole.{Outcome, placeOf, firstStream, judge, reading}
+use Rattle.sheet_read.specs.Whole.Outcome.{Read, Not}
 
 -- by the record itself: known, right for its position, whole, every field in its range
 unfoldable pub ownNo : Bool → Bool → Bool → Bool → ℕ
@@ -25,10 +25,10 @@ among x (suc n) ids = among x n ids || eqb (getD ids n 0) x
 
 -- by the n streams before it
 unfoldable pub lateNo : List ℕ → List ℕ → ℕ → Record → ℕ
-unfolding mostInAll among
+unfolding among
 lateNo counts ids n r =
-    cond (leb (mostInAll (r .kind)) n) 5
-    (cond (eqb (r .kind) 6) (cond (among (r .a) n ids) 7 0) (cond (leb 80 (getD counts (r .a) 0)) 5 0))
+    cond (eqb (r .kind) 6) (cond (leb 64 n) 5 (cond (among (r .a) n ids) 7 0))
+    (cond (leb 800 n) 5 (cond (leb 80 (getD counts (r .a) 0)) 5 0))
 
 -- what is kept once it passed
 unfoldable pub countsWith : List ℕ → Record → List ℕ
@@ -49,13 +49,23 @@ pub record Begun (s : List ℕ) (head : Record) (first : ℕ) : Type 0 where
 
 -- ---- What a planner goes by
 
--- what the first record and n streams behind it say
-unfoldable pub sheetIn : List ℕ → ℕ → Sheet
-unfolding sheetOf recordsOf
-sheetIn s n = sheetOf (recordsOf s (suc n))
+-- the sheet that was read, and one without records where it was refused
+abbrev pub sheetBy : Outcome → Sheet
+sheetBy (Read S) = S
+sheetBy (Not n p) = sheetOf []
 
--- these bytes are an accepted sheet of a kind with n streams, and the first of them stands at a place
-pub record Ready (s : List ℕ) (kind first n : ℕ) : Type 0 where
-  pub reads : reading s ≡ Read (sheetIn s n)
-  pub bus : sheetIn s n .head .kind ≡ kind
-  pub starts : first ≡ placeOf s 1
+unfoldable pub sheetIn : List ℕ → Sheet
+unfolding reading sheetOf
+sheetIn s = sheetBy (reading s)
+
+-- where stream i of an accepted sheet stands, counted from 0
+unfoldable pub streamPlace : List ℕ → ℕ → ℕ
+unfolding placeOf sheetIn
+streamPlace s i = placeOf s (firstStream (sheetIn s) + i)
+
+-- these bytes are an accepted sheet of a bus with n streams, and the first of them stands at a place
+pub record Ready (s : List ℕ) (bus first n : ℕ) : Type 0 where
+  pub reads : reading s ≡ Read (sheetIn s)
+  pub on-bus : busIn (sheetIn s) ≡ bus
+  pub number : length (sheetIn s .streams) ≡ n
+  pub starts : first ≡ streamPlace s 0

@@ -9,8 +9,8 @@ use Rattle.common.specs.Checks.{Check, check, Verdict, verdict}
 use Rattle.common.specs.Checks.Verdict.{Passed, Refused}
 use Rattle.common.specs.Runs.{tab}
 use Rattle.sheet_record.specs.declared.Record.{Record}
-use Rattle.sheet_record.specs.Kinds.{known, sizeOf, decode, inRange}
-use Rattle.sheet_read.specs.Sheets.{Sheet, countOf, longestOf, headOf, streamsOf, sheetOf, fits, overLimit, metBefore}
+use Rattle.sheet_record.specs.Kinds.{worldfip, known, sizeOf, decode, inRange}
+use Rattle.sheet_read.specs.Sheets.{Sheet, busIn, given, countOf, longestOf, sheetOf, fits, overLimit, metBefore}
 use Rattle.sheet_read.specs.declared.Reading.{Reading}
 use Rattle.sheet_read.specs.declared.Reading.the-variants as answer
 
@@ -28,25 +28,30 @@ unfolding decode placeOf
 recordsOf s zero = []
 recordsOf s (suc n) = recordsOf s n ++ (decode s (placeOf s n) ∷ [])
 
+-- what stands before record i
+unfoldable pub before : List ℕ → ℕ → Sheet
+unfolding sheetOf recordsOf
+before s i = sheetOf (recordsOf s i)
+
 -- ---- The refusals of reading
 
--- those of a record r of the sheet s that stands at a place behind the records `before`
-unfoldable pub recordChecks : List ℕ → List Record → ℕ → Record → List Check
+-- those of a record r of the sheet s, at a place behind S
+unfoldable pub recordChecks : List ℕ → Sheet → ℕ → Record → List Check
 unfolding known fits sizeOf inRange overLimit metBefore
-recordChecks s before at r =
+recordChecks s S at r =
     check 2 (not (known (r .kind))) at
-    ∷ check 3 (not (fits before (r .kind))) at
+    ∷ check 3 (not (fits S (r .kind))) at
     ∷ check 1 (ltb (length s) (at + sizeOf (r .kind))) at
-    ∷ check 4 (not (inRange (headOf before .a) (headOf before .c) r)) at
-    ∷ check 5 (overLimit (streamsOf before) r) at
-    ∷ check 7 (metBefore (streamsOf before) r) at
+    ∷ check 4 (not (inRange (given S (r .a)) r)) at
+    ∷ check 5 (overLimit (S .streams) r) at
+    ∷ check 7 (metBefore (S .streams) r) at
     ∷ []
 
--- those of a sheet of n bytes that ends behind these records
-unfoldable pub endChecks : ℕ → List Record → List Check
-endChecks n before =
-    check 1 (eqb (length before) 0) 0
-    ∷ check 6 (eqb (length (streamsOf before)) 0) n
+-- those of a sheet of n bytes that ends behind S: no first record, no stream
+unfoldable pub endChecks : ℕ → Sheet → List Check
+endChecks n S =
+    check 1 (eqb (S .head .kind) 0) 0
+    ∷ check 6 (eqb (length (S .streams)) 0) n
     ∷ []
 
 -- ---- The whole reading
@@ -62,13 +67,13 @@ orElse (Refused n p) o = Not n p
 
 -- record i is refused with a number and a place, or passes
 unfoldable pub judge : List ℕ → ℕ → Verdict
-unfolding verdict recordChecks recordsOf decode placeOf
-judge s i = verdict (recordChecks s (recordsOf s i) (placeOf s i) (decode s (placeOf s i)))
+unfolding verdict recordChecks before decode placeOf
+judge s i = verdict (recordChecks s (before s i) (placeOf s i) (decode s (placeOf s i)))
 
 -- the sheet ends behind its first i records
 unfoldable pub ended : List ℕ → ℕ → Outcome
-unfolding verdict endChecks recordsOf sheetOf
-ended s i = orElse (verdict (endChecks (length s) (recordsOf s i))) (Read (sheetOf (recordsOf s i)))
+unfolding verdict endChecks before
+ended s i = orElse (verdict (endChecks (length s) (before s i))) (Read (before s i))
 
 -- reading from record i on; a record has a byte at least, so n records are enough for n bytes
 unfoldable pub readFrom : List ℕ → ℕ → ℕ → Outcome
@@ -84,9 +89,13 @@ reading s = readFrom s (length s) 0
 
 -- ---- The answer of the code
 
+-- the number of a sheet's first stream among its records, counted from 0
+abbrev pub firstStream : Sheet → ℕ
+firstStream S = suc (length (S .settings))
+
 -- a sheet: its first record, how many streams it has, and where the first of them stands; a refusal: its number and place
 abbrev pub told : List ℕ → Outcome → Reading
-told s (Read S) = answer.Accepted (S .head) (length (S .streams)) (placeOf s 1)
+told s (Read S) = answer.Accepted (S .head) (length (S .streams)) (placeOf s (firstStream S))
 told s (Not n p) = answer.Refused n p
 
 -- how many streams master k has, and the longest C of them
@@ -101,7 +110,7 @@ longestOfMaster S k = longestOf k (S .streams)
 -- lent memory of 33 places: place k has a figure of master k. It keeps what it had on a refusal, and for WorldFIP, whose variables have no
 -- master
 abbrev pub byMaster : (Sheet → ℕ → ℕ) → Outcome → List ℕ → List ℕ
-byMaster figure (Read S) old = cond (eqb (S .head .kind) 5) old (tab (figure S) 33)
+byMaster figure (Read S) old = cond (eqb (busIn S) worldfip) old (tab (figure S) 33)
 byMaster figure (Not n p) old = old
 
 unfoldable pub countsTold : Outcome → List ℕ → List ℕ

@@ -1,14 +1,9 @@
 // Reading a whole sheet, page 01 'Sheet records' and 'Numbered refusals' 1..7.
-use sheet_record::Met;
+use sheet_record::Given;
 use sheet_record::Record;
 ghost use mathlib.Core.Path.{_≡_};
-ghost use mathlib.Core.Bool.{_&&_};
-ghost use mathlib.Core.List.{[]};
-ghost use mathlib.Core.Logic.{_⊎_};
-ghost use Prim.Native.Nat.{_+_, _≤_, max};
-ghost use lib.Dec.{eqb};
-ghost use Rattle.sheet_record.specs.Kinds.{known, inRange, metOf};
-ghost use Rattle.sheet_read.specs.Sheets.{fits};
+ghost use Prim.Native.Nat.{_≤_, max};
+ghost use Rattle.sheet_record.specs.Kinds.{known};
 ghost use Rattle.sheet_read.specs.Steps;
 ghost use Rattle.sheet_read.specs.Steps.{ownNo, lateNo, countsWith, longestsWith, idsWith, Begun};
 ghost use Rattle.sheet_read.specs.Whole.{told, countsTold, longestsTold, reading};
@@ -29,13 +24,6 @@ pub enum Reading {
         no: u8,
         place: usize,
     },
-}
-
-// A sheet begins with kind 1, 3 or 5.
-fn begins(kind: u8) -> bool
-    ensures { λ r. ⌜ r ≡ fits [] kind ⌝ }
-{
-    (kind == 1) | ((kind == 3) | (kind == 5))
 }
 
 // The refusal of a record by itself, in the order 2, 3, 1, 4; 0 if there is none.
@@ -119,31 +107,6 @@ fn keep(counts: &mut [u8; 33], longests: &mut [u32; 33], ids: &mut [u32; 64], n:
     }
 }
 
-// The record at a place that a stream behind the first record of a bus can be. The kind stands as a constant for each bus, so that the
-// compiler makes a reader of its own for each.
-fn stream_at(s: &[u8], at: usize, bus: u8) -> Met
-    requires { ⌜ bus ≡ 1 ⊎ (bus ≡ 3 ⊎ bus ≡ 5) ⌝ }
-    ensures { λ r. ⌜ r ≡ metOf (now (s .entry)) at (bus + 1) ⌝ }
-{
-    match bus {
-        1 => sheet_record::record_of(s, at, 2),
-        3 => sheet_record::record_of(s, at, 4),
-        _ => sheet_record::record_of(s, at, 6),
-    }
-}
-
-// The same of its ranges.
-fn stream_in_range(bus: u8, top: u32, long: u32, r: Record) -> bool
-    requires { ⌜ bus ≡ 1 ⊎ (bus ≡ 3 ⊎ bus ≡ 5) ⌝ }
-    ensures { λ ok. ⌜ ok ≡ (eqb (r .kind) (bus + 1) && inRange top long r) ⌝ }
-{
-    match bus {
-        1 => sheet_record::in_range_of(2, top, long, r),
-        3 => sheet_record::in_range_of(4, top, long, r),
-        _ => sheet_record::in_range_of(6, top, long, r),
-    }
-}
-
 // Reads the streams behind a first record that passed, up to the sheet's end or the first refusal.
 fn read_streams(
     s: &[u8],
@@ -157,6 +120,11 @@ fn read_streams(
     ensures { λ _. ⌜ now (counted .exit) ≡ countsTold (reading (now (s .entry))) (now (counted .entry)) ⌝ }
     ensures { λ _. ⌜ now (longest .exit) ≡ longestsTold (reading (now (s .entry))) (now (longest .entry)) ⌝ }
 {
+    let bus = sheet_record::bus_of(head.kind);
+    let given = Given {
+        masters: head.a,
+        message: head.c,
+    };
     let mut counts: [u8; 33] = [0; 33];
     let mut longests: [u32; 33] = [0; 33];
     let mut ids: [u32; 64] = [0; 64];
@@ -164,10 +132,11 @@ fn read_streams(
     let mut at = first;
     while at < s.len() {
         let kind = s[at];
-        let met = stream_at(s, at, head.kind);
+        let met = sheet_record::stream_at(s, at, bus);
         let stream = met.found;
-        let ranged = stream_in_range(head.kind, head.a, head.c, stream);
-        let own = own_no(kind, kind == head.kind + 1, met.next != at, ranged);
+        let right = sheet_record::is_stream_of(bus, kind);
+        let ranged = sheet_record::stream_in_range(bus, given, stream);
+        let own = own_no(kind, right, met.next != at, ranged);
         if own != 0 {
             return Reading::Refused { no: own, place: at };
         }
@@ -193,7 +162,7 @@ fn read_streams(
         streams: n,
         first,
     };
-    if head.kind == 5 {
+    if bus == 5 {
         return accepted;
     }
     *counted = counts;
@@ -214,8 +183,13 @@ pub fn read_gathering(s: &[u8], counts: &mut [u8; 33], longests: &mut [u32; 33])
     let kind = s[0];
     let met = sheet_record::record_at(s, 0);
     let head = met.found;
-    let ranged = sheet_record::in_range(0, 0, head);
-    let own = own_no(kind, begins(kind), met.next != 0, ranged);
+    let right = sheet_record::is_first(kind);
+    let none = Given {
+        masters: 0,
+        message: 0,
+    };
+    let ranged = sheet_record::in_range(none, head);
+    let own = own_no(kind, right, met.next != 0, ranged);
     if own != 0 {
         return Reading::Refused { no: own, place: 0 };
     }
