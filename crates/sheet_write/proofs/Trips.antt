@@ -1,10 +1,9 @@
 -- A record and its bytes: what is encoded decodes to itself, wherever it stands; what is decoded encodes to the bytes that stand there;
 -- and decoding looks at no other bytes. Assumes nothing.
 use mathlib.Core.Path.{_≡_, refl, sym, ap, _∙_}
-use mathlib.Core.Bool.{Bool, true, false, _&&_}
+use mathlib.Core.Bool.{Bool, true, false, _&&_, true≢false}
 use mathlib.Core.List.{List, [], _∷_, _++_, append-assoc}
 use Prim.Native.Nat.{ℕ, zero, suc, _+_, _^_, _≤_, _<_}
-use native.Mathlib.Nat.{le-refl}
 use native.Mathlib.Numerals.{add-one}
 use native.Mathlib.Omega.{arith}
 use borrow.Author.Tests.{le-leb, leb-true, ltb-true, eqb-true}
@@ -14,14 +13,14 @@ use lib.Seq.{getD-at, getD-take, take-add, drop-drop, drop-cons}
 use Rattle.sheet_record.specs.declared.Record.{Record}
 use Rattle.sheet_record.specs.Numbers.{be, digits}
 use Rattle.sheet_record.specs.Kinds.{Field, Limit, kinds, fieldsOf, widths, sizeOf, known, fieldAt, decode, body, numbers, encode, whole, limit, within, ranged, inRange}
-use Rattle.sheet_record.specs.Kinds.Limit.{is, masters, message, spacing}
+use Rattle.sheet_record.specs.Kinds.Limit.{is, masters, message, own, less}
 use Rattle.sheet_record.specs.Widths.{widthAt}
-use Rattle.sheet_write.specs.Writing.{mostMasters, mostMessage}
+use Rattle.sheet_write.specs.Writing.{greatest}
 use Rattle.sheet_record.proofs.Numbers.{length-digits, be-digits, be-same, digits-be}
 use Rattle.sheet_record.proofs.Tables.{both-true, at-every-kind, wide, size-is, fields-at-most}
 use Rattle.sheet_write.proofs.Stored.{encode-is}
 use Rattle.sheet_record.proofs.Records.{decode-is}
-use Rattle.sheet_record.proofs.Ranges.{within-range, limit-mono}
+use Rattle.sheet_record.proofs.Ranges.{within-range}
 
 -- ---- Whole records
 
@@ -61,78 +60,75 @@ data Fit : List Field → List ℕ → Type 0 where
   over : {x : ℕ} {xs : List ℕ} → x ≡ 0 → Fit [] xs → Fit [] (x ∷ xs)
   more : {f : Field} {fs : List Field} {x : ℕ} {xs : List ℕ} → x < 256 ^ f .width → Fit fs xs → Fit (f ∷ fs) (x ∷ xs)
 
--- a record with the longest spacing
-abbrev longest : Record
-longest = record { kind = 0; a = 0; b = 0; c = 1000000000; d = 0 }
+-- a limit is less than m; one that another field sets is so if the test `other` says it of that field
+abbrev below : (ℕ → Bool) → ℕ → Limit → Bool
+below other m (is n) = ltb n m
+below other m masters = ltb (greatest .masters) m
+below other m message = ltb (greatest .message) m
+below other m (own i) = other i
+below other m (less i j) = other i
 
--- the third field, if there is one, has a limit of its own, at most that spacing
-abbrev spacingLimit : Limit → Bool
-spacingLimit (is n) = leb n 1000000000
-spacingLimit masters = true
-spacingLimit message = true
-spacingLimit spacing = false
+-- field i's own limit is less than m, and no other field sets it; 0 where there is no field
+abbrev belowAt : ℕ → List Field → ℕ → Bool
+belowAt m [] i = ltb 0 m
+belowAt m (f ∷ fs) zero = below (λ i. false) m (f .most)
+belowAt m (f ∷ fs) (suc i) = belowAt m fs i
 
-abbrev spacingFirst : List Field → Bool
-spacingFirst [] = true
-spacingFirst (f ∷ fs) = spacingLimit (f .most)
-
--- every limit fits the field's bytes
-abbrev roomyLine : List Field → Bool
-roomyLine [] = true
-roomyLine (f ∷ fs) = ltb (limit mostMasters mostMessage longest (f .most)) (256 ^ f .width) && roomyLine fs
-
-module _ (r : Record) (short : r .c ≤ 1000000000) where
-  ranged-fits : (fs : List Field) (xs : List ℕ) → length fs ≤ length xs → roomyLine fs ≡ true → ranged mostMasters mostMessage r fs xs ≡ true → Fit fs xs
-  unfolding ranged
-  ranged-fits [] [] l q e = none
-  ranged-fits [] (x ∷ xs) l q e =
-      let b = both-true (eqb x 0) (ranged mostMasters mostMessage r [] xs) e in
-      over (eqb-true x 0 (b .0)) (ranged-fits [] xs (omega arith) q (b .1))
-  ranged-fits (f ∷ fs) [] l q e = absurd (omega arith)
-  ranged-fits (f ∷ fs) (x ∷ xs) l q e =
-      let b = both-true (within (f .least) x (limit mostMasters mostMessage r (f .most))) (ranged mostMasters mostMessage r fs xs) e in
-      let t = both-true (ltb (limit mostMasters mostMessage longest (f .most)) (256 ^ f .width)) (roomyLine fs) q in
-      let w = within-range (f .least) x (limit mostMasters mostMessage r (f .most)) (b .0) in
-      let m = limit-mono mostMasters mostMasters mostMessage mostMessage r longest (f .most) (le-refl 32) (le-refl 100000) short in
-      let h : x < 256 ^ f .width = omega (arith, w .most, m, ltb-true (limit mostMasters mostMessage longest (f .most)) (256 ^ f .width) (t .0)) in
-      more h (ranged-fits fs xs (omega arith) (t .1) (b .1))
-
-spacing-limit : (r : Record) (l : Limit) → spacingLimit l ≡ true → limit mostMasters mostMessage r l ≤ 1000000000
-unfolding limit
-spacing-limit r (is n) q = leb-true n 1000000000 q
-spacing-limit r masters q = omega arith
-spacing-limit r message q = omega arith
-spacing-limit r spacing q = let z : _≡_ {A = ℕ} 0 1 = cc in absurd (omega arith)
+-- every limit of these fields, which are some of `all`, fits its field's bytes
+abbrev roomy : List Field → List Field → Bool
+roomy all [] = true
+roomy all (f ∷ fs) = below (belowAt (256 ^ f .width) all) (256 ^ f .width) (f .most) && roomy all fs
 
 module _ (r : Record) where
-  -- the fields behind the first
-  ranged-rest : (fs : List Field) (x : ℕ) (xs : List ℕ) → ranged mostMasters mostMessage r fs (x ∷ xs) ≡ true
-      → ranged mostMasters mostMessage r (drop 1 fs) xs ≡ true
-  unfolding ranged
-  ranged-rest [] x xs e = both-true (eqb x 0) (ranged mostMasters mostMessage r [] xs) e .1
-  ranged-rest (f ∷ fs) x xs e = both-true (within (f .least) x (limit mostMasters mostMessage r (f .most))) (ranged mostMasters mostMessage r fs xs) e .1
+  limit-below : (other : ℕ → Bool) (m : ℕ) → ((i : ℕ) → other i ≡ true → getD (numbers r) i 0 < m)
+      → (l : Limit) → below other m l ≡ true → limit greatest r l < m
+  unfolding limit
+  limit-below other m h (is n) q = ltb-true n m q
+  limit-below other m h masters q = ltb-true (greatest .masters) m q
+  limit-below other m h message q = ltb-true (greatest .message) m q
+  limit-below other m h (own i) q = h i q
+  limit-below other m h (less i j) q = omega (arith, h i q)
 
-  first-short : (fs : List Field) (x : ℕ) (xs : List ℕ) → spacingFirst fs ≡ true → ranged mostMasters mostMessage r fs (x ∷ xs) ≡ true → x ≤ 1000000000
-  unfolding ranged
-  first-short [] x xs q e = omega (arith, eqb-true x 0 (both-true (eqb x 0) (ranged mostMasters mostMessage r [] xs) e .0))
-  first-short (f ∷ fs) x xs q e =
-      let b = both-true (within (f .least) x (limit mostMasters mostMessage r (f .most))) (ranged mostMasters mostMessage r fs xs) e in
-      omega (arith, within-range (f .least) x (limit mostMasters mostMessage r (f .most)) (b .0) .most, spacing-limit r (f .most) q)
+  -- a limit that no other field sets
+  plain-below : (m : ℕ) (l : Limit) → below (λ i. false) m l ≡ true → limit greatest r l < m
+  plain-below m = limit-below (λ i. false) m (λ i e. absurd (true≢false (sym e)))
 
-  spacing-short : inRange mostMasters mostMessage r ≡ true → r .c ≤ 1000000000
-  unfolding inRange kinds
-  spacing-short e =
-      let fs = fieldsOf (r .kind) in
-      let b = ranged-rest fs (r .a) (r .b ∷ r .c ∷ r .d ∷ []) e in
-      let c = ranged-rest (drop 1 fs) (r .b) (r .c ∷ r .d ∷ []) b in
-      first-short (drop 1 (drop 1 fs)) (r .c) (r .d ∷ []) (at-every-kind (λ fs. spacingFirst (drop 1 (drop 1 fs))) refl refl (r .kind)) c
+  number-below : (m : ℕ) (fs : List Field) (xs : List ℕ) (i : ℕ) → ranged greatest r fs xs ≡ true → belowAt m fs i ≡ true → getD xs i 0 < m
+  unfolding ranged
+  number-below m [] [] i e q = ltb-true 0 m q
+  number-below m [] (x ∷ xs) zero e q = omega (arith, ltb-true 0 m q, eqb-true x 0 (both-true (eqb x 0) (ranged greatest r [] xs) e .0))
+  number-below m [] (x ∷ xs) (suc i) e q = number-below m [] xs i (both-true (eqb x 0) (ranged greatest r [] xs) e .1) q
+  number-below m (f ∷ fs) [] zero e q = omega (arith, plain-below m (f .most) q)
+  number-below m (f ∷ fs) [] (suc i) e q = number-below m fs [] i e q
+  number-below m (f ∷ fs) (x ∷ xs) zero e q =
+      let b = both-true (within (f .least) x (limit greatest r (f .most))) (ranged greatest r fs xs) e in
+      omega (arith, within-range (f .least) x (limit greatest r (f .most)) (b .0) .most, plain-below m (f .most) q)
+  number-below m (f ∷ fs) (x ∷ xs) (suc i) e q =
+      number-below m fs xs i (both-true (within (f .least) x (limit greatest r (f .most))) (ranged greatest r fs xs) e .1) q
+
+  module _ (all : List Field) (in-all : ranged greatest r all (numbers r) ≡ true) where
+    ranged-fits : (fs : List Field) (xs : List ℕ) → length fs ≤ length xs → roomy all fs ≡ true → ranged greatest r fs xs ≡ true → Fit fs xs
+    unfolding ranged
+    ranged-fits [] [] l q e = none
+    ranged-fits [] (x ∷ xs) l q e =
+        let b = both-true (eqb x 0) (ranged greatest r [] xs) e in
+        over (eqb-true x 0 (b .0)) (ranged-fits [] xs (omega arith) q (b .1))
+    ranged-fits (f ∷ fs) [] l q e = absurd (omega arith)
+    ranged-fits (f ∷ fs) (x ∷ xs) l q e =
+        let m = 256 ^ f .width in
+        let b = both-true (within (f .least) x (limit greatest r (f .most))) (ranged greatest r fs xs) e in
+        let t = both-true (below (belowAt m all) m (f .most)) (roomy all fs) q in
+        let w = within-range (f .least) x (limit greatest r (f .most)) (b .0) in
+        let s = limit-below (belowAt m all) m (λ i. number-below m all (numbers r) i in-all) (f .most) (t .0) in
+        let h : x < m = omega (arith, w .most, s) in
+        more h (ranged-fits fs xs (omega arith) (t .1) (b .1))
 
 -- a record in range fits its fields
-in-range-fits : (r : Record) → inRange mostMasters mostMessage r ≡ true → Fit (fieldsOf (r .kind)) (numbers r)
-unfolding inRange kinds limit
+in-range-fits : (r : Record) → inRange greatest r ≡ true → Fit (fieldsOf (r .kind)) (numbers r)
+unfolding inRange kinds
 in-range-fits r e =
     let fs = fieldsOf (r .kind) in
-    ranged-fits r (spacing-short r e) fs (numbers r) (fields-at-most (r .kind)) (at-every-kind roomyLine refl refl (r .kind)) e
+    ranged-fits r fs e fs (numbers r) (fields-at-most (r .kind)) (at-every-kind (λ fs. roomy fs fs) refl refl (r .kind)) e
 
 -- ---- Encoded, then decoded
 
@@ -149,7 +145,7 @@ fields-back (more {f} {fs} {x} {xs} h t) p q (suc j) =
     let n : length p + f .width ≡ length (p ++ d) = omega (arith, length-append p d, length-digits (f .width) x) in
     rw (e, n) (fields-back t (p ++ d) q j)
 
-module _ (r : Record) (e : inRange mostMasters mostMessage r ≡ true) (p q : List ℕ) where
+module _ (r : Record) (e : inRange greatest r ≡ true) (p q : List ℕ) where
   kind-back : getD (p ++ (encode r ++ q)) (length p) 0 ≡ r .kind
   unfolding encode
   kind-back = getD-at p (r .kind) (body (fieldsOf (r .kind)) (numbers r) ++ q) 0 (length p) refl
@@ -190,25 +186,28 @@ module _ (s : List ℕ) (at : ℕ) (bytes : (i : ℕ) → getD s i 0 < 256) wher
       let wb = widthAt (fieldsOf k) 1 in
       let wc = widthAt (fieldsOf k) 2 in
       let wd = widthAt (fieldsOf k) 3 in
+      let we = widthAt (fieldsOf k) 4 in
       let w = wide k (h .is-known) in
-      let z = size-is k wa wb wc wd w in
+      let z = size-is k wa wb wc wd we w in
       let a = at + 1 in
       let b = a + wa in
       let c = b + wb in
       let d = c + wc in
-      let n : sizeOf k ≡ suc (wa + (wb + (wc + wd))) = omega arith in
-      let r : Record = record { kind = k; a = be s a wa; b = be s b wb; c = be s c wc; d = be s d wd } in
-      let q : encode r ≡ k ∷ (take wa (drop a s) ++ (take wb (drop b s) ++ (take wc (drop c s) ++ take wd (drop d s)))) =
-      encode-is r wa wb wc wd w
+      let f = d + wd in
+      let n : sizeOf k ≡ suc (wa + (wb + (wc + (wd + we)))) = omega arith in
+      let r : Record = record { kind = k; a = be s a wa; b = be s b wb; c = be s c wc; d = be s d wd; e = be s f we } in
+      let q : encode r ≡ k ∷ (take wa (drop a s) ++ (take wb (drop b s) ++ (take wc (drop c s) ++ (take wd (drop d s) ++ take we (drop f s))))) =
+      encode-is r wa wb wc wd we w
       ∙ simp (
         digits-be s a wa bytes (omega (arith, h .ends)),
         digits-be s b wb bytes (omega (arith, h .ends)),
         digits-be s c wc bytes (omega (arith, h .ends)),
         digits-be s d wd bytes (omega (arith, h .ends)),
+        digits-be s f we bytes (omega (arith, h .ends)),
       ) in
       let l : at < length s = omega (arith, h .ends) in
-      rw (n, drop-cons s at 0 l, ← add-one at, take-run wa (wb + (wc + wd)) a s, take-run wb (wc + wd) b s, take-run wc wd c s)
-      (sym q ∙ ap encode (decode-is s at wa wb wc wd w k (r .a) (r .b) (r .c) (r .d) refl refl refl refl refl))
+      rw (n, drop-cons s at 0 l, ← add-one at, take-run wa (wb + (wc + (wd + we))) a s, take-run wb (wc + (wd + we)) b s, take-run wc (wd + we) c s, take-run wd we d s)
+      (sym q ∙ ap encode (decode-is s at wa wb wc wd we w k (r .a) (r .b) (r .c) (r .d) (r .e) refl refl refl refl refl refl))
 
 -- ---- Decoding looks at the record's own bytes only
 
@@ -225,7 +224,7 @@ decode-same s t at same =
     let fs = fieldsOf (getD t at 0) in
     let k = same at (omega arith) (omega arith) in
     let f : (j : ℕ) → fieldAt s (at + 1) fs j ≡ fieldAt t (at + 1) fs j = λ j. fields-same s t (at + 1) fs j (λ i lo hi. same i (omega arith) (omega arith)) in
-    rw (k, f 0, f 1, f 2, f 3)
+    rw (k, f 0, f 1, f 2, f 3, f 4)
 
 -- so a sheet that is cut behind the record gives the same record
 pub decode-take : (s : List ℕ) (n at : ℕ) → at + sizeOf (getD s at 0) ≤ n → decode (take n s) at ≡ decode s at

@@ -1,6 +1,6 @@
 -- Laws of the writer, page 01 'Sheet records': a refusal changes nothing, and a record without one is put. Assumes nothing.
 use mathlib.Core.Path.{_≡_, refl, ap, _∙_}
-use mathlib.Core.Bool.{true, false, not}
+use mathlib.Core.Bool.{Bool, true, false, not, _||_}
 use mathlib.Core.List.{List, _∷_, _++_}
 use Prim.Native.Nat.{ℕ, _+_, _≤_, _<_, _^_}
 use borrow.Author.Tests.{lt-ltb, le-ltb, ltb-false, not-false}
@@ -16,9 +16,10 @@ use Rattle.sheet_record.specs.declared.Record.{Record}
 use Rattle.sheet_write.specs.declared.Put.{Put}
 use Rattle.sheet_write.specs.declared.Put.the-variants as put
 use Rattle.sheet_record.specs.Numbers.{pasted}
-use Rattle.sheet_record.specs.Kinds.{known, sizeOf, encode, decode, whole, inRange}
-use Rattle.sheet_write.specs.Writing.{mostMasters, mostMessage, needed, writeChecks, putBy, pastedBy, putAnswer, putBytes}
+use Rattle.sheet_record.specs.Kinds.{Kind, kinds, lineOf, fieldsOf, some, known, written, sizeOf, encode, decode, whole, inRange}
+use Rattle.sheet_write.specs.Writing.{greatest, needed, writeChecks, putBy, pastedBy, putAnswer, putBytes}
 use Rattle.sheet_record.proofs.Numbers.{length-pasted, pasted-front}
+use Rattle.sheet_record.proofs.Tables.{at-every-line}
 use Rattle.sheet_write.proofs.Trips.{length-encode, decode-encode, whole-encode}
 
 -- what a call answers and leaves in the buffer
@@ -34,15 +35,15 @@ module _ (b : List ℕ) (at : ℕ) (r : Record) where
   unfolding putAnswer putBytes
   passed-written c = let e = passed-if c in (rw e, rw e)
 
-  pub unknown-written : known (r .kind) ≡ false → Written b at r (put.Refused 2 at) b
+  pub unknown-written : written (r .kind) ≡ false → Written b at r (put.Refused 2 at) b
   unfolding writeChecks
   unknown-written k = refused-written (here (ap not k))
 
-  pub range-written : known (r .kind) ≡ true → inRange mostMasters mostMessage r ≡ false → Written b at r (put.Refused 4 at) b
+  pub range-written : written (r .kind) ≡ true → inRange greatest r ≡ false → Written b at r (put.Refused 4 at) b
   unfolding writeChecks
   range-written k ok = refused-written (later (ap not k) (here (ap not ok)))
 
-  module _ (k : known (r .kind) ≡ true) (ok : inRange mostMasters mostMessage r ≡ true) where
+  module _ (k : written (r .kind) ≡ true) (ok : inRange greatest r ≡ true) where
     -- no room: 13, with the length that the whole buffer needs
     pub short-written : length b < at + sizeOf (r .kind) → (p : ℕ) → needed (at + sizeOf (r .kind)) ≡ p → Written b at r (put.Refused 13 p) b
     unfolding writeChecks
@@ -67,6 +68,19 @@ needed-none n h = simp (le-ltb n (2 ^ 64) h)
 
 -- ---- A record that was written
 
+-- what the writer puts is a known kind
+abbrev knownIf : Kind → Bool
+knownIf l = not (l .written) || some (l .fields)
+
+pub written-known : (k : ℕ) → written k ≡ true → known k ≡ true
+unfolding written known fieldsOf lineOf kinds
+written-known k e = split (written k) (known k) e (at-every-line knownIf refl refl k)
+  where
+    split : (w b : Bool) → w ≡ true → (not w || b) ≡ true → b ≡ true
+    split true b e t = t
+    split false true e t = refl
+    split false false e t = e
+
 -- what the buffer b then holds: the record, up to the place that was answered, and before and after it what it had
 pub record Stands (b now : List ℕ) (at : ℕ) (r : Record) (e : ℕ) : Type 0 where
   pub ends : e ≡ at + sizeOf (r .kind)
@@ -81,7 +95,7 @@ next-passed : (v : Verdict) (end e : ℕ) → putBy v end ≡ put.Next e → (v 
 next-passed Passed end e q = (refl, cc)
 next-passed (Refused n p) end e q = (cc, cc)
 
-pasted-stands : (b : List ℕ) (at : ℕ) (r : Record) → known (r .kind) ≡ true → inRange mostMasters mostMessage r ≡ true → at + sizeOf (r .kind) ≤ length b
+pasted-stands : (b : List ℕ) (at : ℕ) (r : Record) → known (r .kind) ≡ true → inRange greatest r ≡ true → at + sizeOf (r .kind) ≤ length b
     → Stands b (pasted b at (encode r)) at r (at + sizeOf (r .kind))
 pasted-stands b at r k ok fits =
     let n = length-encode r in
@@ -104,9 +118,9 @@ clear-rest : {c : Check} {cs : List Check} → Clear (c ∷ cs) → (c .given �
 clear-rest (and e t) = (e, t)
 
 -- a record whose writing answers a place stands there
-pub written : (b : List ℕ) (at : ℕ) (r : Record) (e : ℕ) → putAnswer (length b) at r ≡ put.Next e → Stands b (putBytes b at r) at r e
+pub written-stands : (b : List ℕ) (at : ℕ) (r : Record) (e : ℕ) → putAnswer (length b) at r ≡ put.Next e → Stands b (putBytes b at r) at r e
 unfolding putAnswer putBytes writeChecks
-written b at r e q =
+written-stands b at r e q =
     let z = at + sizeOf (r .kind) in
     let v = next-passed (verdict (writeChecks (length b) at r)) z e q in
     let c₁ = clear-rest (passed-then (writeChecks (length b) at r) (v .0)) in
@@ -114,7 +128,7 @@ written b at r e q =
     let c₃ = clear-rest (c₂ .1) in
     let fits = ltb-false (length b) z (c₃ .0) in
     let same : putBytes b at r ≡ pasted b at (encode r) = simp (v .0) in
-    rw (v .1, same) (pasted-stands b at r (not-false (known (r .kind)) (c₁ .0)) (not-false (inRange mostMasters mostMessage r) (c₂ .0)) fits)
+    rw (v .1, same) (pasted-stands b at r (written-known (r .kind) (not-false (written (r .kind)) (c₁ .0))) (not-false (inRange greatest r) (c₂ .0)) fits)
 
 refused-kept : (v : Verdict) (end n p : ℕ) (new b : List ℕ) → putBy v end ≡ put.Refused n p → pastedBy v new b ≡ b
 refused-kept Passed end n p new b q = cc

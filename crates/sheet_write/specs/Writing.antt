@@ -7,17 +7,15 @@ use lib.Dec.{ltb}
 use Rattle.common.specs.Checks.{Check, check, Verdict, verdict}
 use Rattle.common.specs.Checks.Verdict.{Passed, Refused}
 use Rattle.sheet_record.specs.Numbers.{pasted}
-use Rattle.sheet_record.specs.Kinds.{known, sizeOf, encode, inRange}
+use Rattle.sheet_record.specs.Kinds.{written, sizeOf, encode, inRange}
+use Rattle.sheet_record.specs.declared.Given.{Given}
 use Rattle.sheet_record.specs.declared.Record.{Record}
 use Rattle.sheet_write.specs.declared.Put.{Put}
 use Rattle.sheet_write.specs.declared.Put.the-variants as put
 
 -- limits that need another record are taken at their greatest: 32 masters, a longest message of 100,000
-abbrev pub mostMasters : ℕ
-mostMasters = 32
-
-abbrev pub mostMessage : ℕ
-mostMessage = 100000
+abbrev pub greatest : Given
+greatest = record { masters = 32; message = 100000 }
 
 -- the length that the whole buffer needs, and 0 where it can't be counted in 64 bits
 unfoldable pub needed : ℕ → ℕ
@@ -25,10 +23,10 @@ needed end = cond (ltb end (2 ^ 64)) end 0
 
 -- kind, ranges, room, in this order, for a buffer of n bytes
 unfoldable pub writeChecks : ℕ → ℕ → Record → List Check
-unfolding known inRange needed sizeOf
+unfolding written inRange needed sizeOf
 writeChecks n at r =
-    check 2 (not (known (r .kind))) at
-    ∷ check 4 (not (inRange mostMasters mostMessage r)) at
+    check 2 (not (written (r .kind))) at
+    ∷ check 4 (not (inRange greatest r)) at
     ∷ check 13 (ltb n (at + sizeOf (r .kind))) (needed (at + sizeOf (r .kind)))
     ∷ []
 
@@ -37,8 +35,8 @@ putBy Passed end = put.Next end
 putBy (Refused n p) end = put.Refused n p
 
 abbrev pub pastedBy : Verdict → List ℕ → List ℕ → List ℕ
-pastedBy Passed written b = written
-pastedBy (Refused n p) written b = b
+pastedBy Passed new b = new
+pastedBy (Refused n p) new b = b
 
 -- the answer: the place just after the record, or the refusal
 unfoldable pub putAnswer : ℕ → ℕ → Record → Put

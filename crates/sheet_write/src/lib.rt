@@ -1,4 +1,5 @@
 // Writing one record of a sheet, page 01 'Sheet records'.
+use sheet_record::Given;
 use sheet_record::Record;
 use sheet_record::in_range;
 use sheet_record::known;
@@ -8,9 +9,10 @@ ghost use mathlib.Core.Path.{_≡_};
 ghost use Prim.Native.Nat.{_+_, _≤_};
 ghost use lib.ListN.{length};
 ghost use Rattle.sheet_record.specs.Numbers.{digits, pasted};
+ghost use Rattle.sheet_record.specs.Kinds;
 ghost use Rattle.sheet_record.specs.Kinds.{encode, inRange};
 ghost use Rattle.sheet_record.specs.Widths.{Wide};
-ghost use Rattle.sheet_write.specs.Writing.{mostMasters, mostMessage, putAnswer, putBytes};
+ghost use Rattle.sheet_write.specs.Writing.{greatest, putAnswer, putBytes};
 
 // What writing a record answers: the place just after it, or the refusal's number and place.
 pub enum Put {
@@ -42,20 +44,30 @@ fn put_two(buf: &mut [u8], at: usize, w: usize, x: u32, v: usize, y: u32)
 }
 
 // Puts the bytes of a record whose kind has fields of these widths.
-fn store(buf: &mut [u8], at: usize, r: Record, wa: usize, wb: usize, wc: usize, wd: usize)
-    requires { ⌜ at + (1 + wa + wb + wc + wd) ≤ length (now buf) ⌝ }
-    requires { ⌜ Wide (r .kind) wa wb wc wd ⌝ }
+fn store(
+    buf: &mut [u8],
+    at: usize,
+    r: Record,
+    wa: usize,
+    wb: usize,
+    wc: usize,
+    wd: usize,
+    we: usize,
+)
+    requires { ⌜ at + (1 + wa + wb + wc + wd + we) ≤ length (now buf) ⌝ }
+    requires { ⌜ Wide (r .kind) wa wb wc wd we ⌝ }
     ensures { λ _. ⌜ now (buf .exit) ≡ pasted (now (buf .entry)) at (encode r) ⌝ }
 {
     buf[at] = r.kind;
     put_two(buf, at + 1, wa, r.a, wb, r.b);
     put_two(buf, at + 1 + wa + wb, wc, r.c, wd, r.d);
+    put_number(buf, at + 1 + wa + wb + wc + wd, we, r.e);
 }
 
 // The greatest place that can be counted.
 const LAST: usize = 18446744073709551615;
 
-// Writes a record that is in range, if there is room: its length is not added to a place that is too high for it.
+// Writes a record that the writer puts and that is in range, if there is room: its length is not added to a place that is too high for it.
 fn put_whole(
     buf: &mut [u8],
     at: usize,
@@ -64,13 +76,15 @@ fn put_whole(
     wb: usize,
     wc: usize,
     wd: usize,
+    we: usize,
 ) -> Put
-    requires { ⌜ inRange mostMasters mostMessage r ≡ true ⌝ }
-    requires { ⌜ Wide (r .kind) wa wb wc wd ⌝ }
+    requires { ⌜ Kinds.written (r .kind) ≡ true ⌝ }
+    requires { ⌜ inRange greatest r ≡ true ⌝ }
+    requires { ⌜ Wide (r .kind) wa wb wc wd we ⌝ }
     ensures { λ p. ⌜ p ≡ putAnswer (length (now (buf .entry))) at r ⌝ }
     ensures { λ _. ⌜ now (buf .exit) ≡ putBytes (now (buf .entry)) at r ⌝ }
 {
-    let size = 1 + wa + wb + wc + wd;
+    let size = 1 + wa + wb + wc + wd + we;
     if LAST - size < at {
         return Put::Refused { no: 13, place: 0 };
     }
@@ -78,8 +92,15 @@ fn put_whole(
     if buf.len() < end {
         return Put::Refused { no: 13, place: end };
     }
-    store(buf, at, r, wa, wb, wc, wd);
+    store(buf, at, r, wa, wb, wc, wd, we);
     Put::Next(end)
+}
+
+// The writer puts this kind: all that are known.
+fn written(kind: u8) -> bool
+    ensures { λ r. ⌜ r ≡ Kinds.written kind ⌝ }
+{
+    known(kind)
 }
 
 // Writes one record at a place. Refused with 2, 4 or 13, in this order, and then no byte changes.
@@ -88,20 +109,24 @@ pub fn put_record(buf: &mut [u8], at: usize, r: Record) -> Put
     ensures { λ _. ⌜ now (buf .exit) ≡ putBytes (now (buf .entry)) at r ⌝ }
 {
     let kind = r.kind;
-    if !known(kind) {
+    if !written(kind) {
         return Put::Refused { no: 2, place: at };
     }
     // Limits that need another record are taken at their greatest.
-    if !in_range(32, 100000, r) {
+    let given = Given {
+        masters: 32,
+        message: 100000,
+    };
+    if !in_range(given, r) {
         return Put::Refused { no: 4, place: at };
     }
     match kind {
-        1 => put_whole(buf, at, r, 1, 0, 0, 0),
-        2 => put_whole(buf, at, r, 1, 2, 4, 4),
-        3 => put_whole(buf, at, r, 1, 4, 4, 0),
-        4 => put_whole(buf, at, r, 1, 4, 4, 0),
-        5 => put_whole(buf, at, r, 4, 0, 0, 0),
-        // 6, the known kind that is left
-        _ => put_whole(buf, at, r, 2, 4, 0, 0),
+        1 => put_whole(buf, at, r, 1, 0, 0, 0, 0),
+        2 => put_whole(buf, at, r, 1, 2, 4, 4, 0),
+        3 => put_whole(buf, at, r, 1, 4, 4, 0, 0),
+        4 => put_whole(buf, at, r, 1, 4, 4, 0, 0),
+        5 => put_whole(buf, at, r, 4, 0, 0, 0, 0),
+        // 6, the kind that is left
+        _ => put_whole(buf, at, r, 2, 4, 0, 0, 0),
     }
 }

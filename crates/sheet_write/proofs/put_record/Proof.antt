@@ -1,23 +1,29 @@
 -- `sheet_write::put_record` meets its contract: 2, then 4, then what `put_whole` answers at the kind's widths. Assumes nothing.
 use mathlib.Core.Path.{_≡_, refl, sym, _∙_}
+use mathlib.Core.Bool.{true}
 use native.Mathlib.Nat.{le-antisymm}
 use native.Mathlib.Omega.{arith}
 use borrow.Author.Tests.{not-true, not-false}
-use Rattle.sheet_record.specs.Kinds.{kinds, fieldsOf, known}
+use Rattle.sheet_record.specs.Kinds.{kinds, lineOf, fieldsOf, known, written, inRange}
 use Rattle.sheet_record.specs.Widths.{widthAt}
+use Rattle.sheet_write.specs.Writing.{greatest}
 use Rattle.sheet_record.proofs.Tables.{wide, known-bounds}
-use Rattle.sheet_write.proofs.Writing.{unknown-written, range-written}
+use Rattle.sheet_write.proofs.Writing.{unknown-written, range-written, written-known}
 use borrow.Author.Needs.{needs}
 use Rattle.sheet_write.proofs.put_record.Statement.{statement}
 use Rattle.sheet_write.proofs.put_record.Tie as tie
 
-known-requires : tie.Need-known-requires
-known-requires c κs = search needs
+written-requires : tie.Need-written-requires
+written-requires c κs = search needs
 
 returns : tie.Need-returns
 returns c =
     let a = c .before .before .before .args in
-    unknown-written (a .buf .now) (a .at) (a .r) (sym (c .before .known .ensures) ∙ not-true _ (c .if1 .taken))
+    unknown-written (a .buf .now) (a .at) (a .r) (sym (c .before .written .ensures) ∙ not-true _ (c .if1 .taken))
+
+-- past the first test, the writer puts the kind
+put-kind : (c : tie.Else1) → written (c .before .before .before .args .r .kind) ≡ true
+put-kind c = sym (c .before .written .ensures) ∙ not-false _ (c .if1 .left)
 
 in-range-requires : tie.Need-in-range-requires
 in-range-requires c κs = search needs
@@ -25,36 +31,39 @@ in-range-requires c κs = search needs
 returns-2 : tie.Need-returns-2
 returns-2 c =
     let a = c .before .before .before .before .before .args in
-    let k = sym (c .before .before .before .known .ensures) ∙ not-false _ (c .before .before .if1 .left) in
-    range-written (a .buf .now) (a .at) (a .r) k (sym (c .before .in-range .ensures) ∙ not-true _ (c .if2 .taken))
+    range-written (a .buf .now) (a .at) (a .r) (put-kind (c .before .before)) (sym (c .before .in-range .ensures) ∙ not-true _ (c .if2 .taken))
+
+-- past the second, the record is in range
+in-its-ranges : (c : tie.Else2) → inRange greatest (c .before .before .before .before .before .args .r) ≡ true
+in-its-ranges c = sym (c .before .in-range .ensures) ∙ not-false _ (c .if2 .left)
 
 put-whole-requires : tie.Need-put-whole-requires
-unfolding widthAt fieldsOf kinds known
-put-whole-requires c κs = (sym (c .before .before .before .in-range .ensures) ∙ not-false _ (c .before .before .if2 .left), rw (c .before .match .keys1) (wide 1 refl))
+unfolding widthAt fieldsOf lineOf kinds known
+put-whole-requires c κs = (put-kind (c .before .before .before .before), (in-its-ranges (c .before .before), rw (c .before .match .keys1) (wide 1 refl)))
 
 put-whole-requires-2 : tie.Need-put-whole-requires-2
-unfolding widthAt fieldsOf kinds known
-put-whole-requires-2 c κs = (sym (c .before .before .before .in-range .ensures) ∙ not-false _ (c .before .before .if2 .left), rw (c .before .match .keys2) (wide 2 refl))
+unfolding widthAt fieldsOf lineOf kinds known
+put-whole-requires-2 c κs = (put-kind (c .before .before .before .before), (in-its-ranges (c .before .before), rw (c .before .match .keys2) (wide 2 refl)))
 
 put-whole-requires-3 : tie.Need-put-whole-requires-3
-unfolding widthAt fieldsOf kinds known
-put-whole-requires-3 c κs = (sym (c .before .before .before .in-range .ensures) ∙ not-false _ (c .before .before .if2 .left), rw (c .before .match .keys3) (wide 3 refl))
+unfolding widthAt fieldsOf lineOf kinds known
+put-whole-requires-3 c κs = (put-kind (c .before .before .before .before), (in-its-ranges (c .before .before), rw (c .before .match .keys3) (wide 3 refl)))
 
 put-whole-requires-4 : tie.Need-put-whole-requires-4
-unfolding widthAt fieldsOf kinds known
-put-whole-requires-4 c κs = (sym (c .before .before .before .in-range .ensures) ∙ not-false _ (c .before .before .if2 .left), rw (c .before .match .keys4) (wide 4 refl))
+unfolding widthAt fieldsOf lineOf kinds known
+put-whole-requires-4 c κs = (put-kind (c .before .before .before .before), (in-its-ranges (c .before .before), rw (c .before .match .keys4) (wide 4 refl)))
 
 put-whole-requires-5 : tie.Need-put-whole-requires-5
-unfolding widthAt fieldsOf kinds known
-put-whole-requires-5 c κs = (sym (c .before .before .before .in-range .ensures) ∙ not-false _ (c .before .before .if2 .left), rw (c .before .match .keys5) (wide 5 refl))
+unfolding widthAt fieldsOf lineOf kinds known
+put-whole-requires-5 c κs = (put-kind (c .before .before .before .before), (in-its-ranges (c .before .before), rw (c .before .match .keys5) (wide 5 refl)))
 
 put-whole-requires-6 : tie.Need-put-whole-requires-6
-unfolding widthAt fieldsOf kinds known
+unfolding widthAt fieldsOf lineOf kinds known
 put-whole-requires-6 c κs =
     let k = c .before .before .before .before .before .before .before .args .r .kind in
-    let b = known-bounds k (sym (c .before .before .before .before .before .known .ensures) ∙ not-false _ (c .before .before .before .before .if1 .left)) in
+    let b = known-bounds k (written-known k (put-kind (c .before .before .before .before))) in
     let e : k ≡ 6 = le-antisymm (b .1) (omega arith) in
-    (sym (c .before .before .before .in-range .ensures) ∙ not-false _ (c .before .before .if2 .left), rw e (wide 6 refl))
+    (put-kind (c .before .before .before .before), (in-its-ranges (c .before .before), rw e (wide 6 refl)))
 
 same-length : tie.Need-same-length
 same-length c = c .before .before .put-whole .kept .0
@@ -96,7 +105,7 @@ pub put-record-spec : {M : Type 1} → statement M
 put-record-spec =
     tie.close
     (tie.spec
-    known-requires
+    written-requires
     returns
     in-range-requires
     returns-2

@@ -23,6 +23,9 @@ add-size-3 c = search needs
 add-size-4 : tie.Need-add-size-4
 add-size-4 c = search needs
 
+add-size-5 : tie.Need-add-size-5
+add-size-5 c = search needs
+
 sub-if1 : tie.Need-sub-if1
 sub-if1 c = search needs
 
@@ -30,9 +33,9 @@ returns : tie.Need-returns
 returns c =
     let start = c .before .before in
     let a = start .args in
-    let w = start .pre .1 in
-    let z = size-is (a .r .kind) (a .wa) (a .wb) (a .wc) (a .wd) w in
-    short-written (a .buf .now) (a .at) (a .r) (w .is-known) (start .pre .0) (omega arith) 0 (needed-none (a .at + sizeOf (a .r .kind)) (omega arith))
+    let w = start .pre .1 .1 in
+    let z = size-is (a .r .kind) (a .wa) (a .wb) (a .wc) (a .wd) (a .we) w in
+    short-written (a .buf .now) (a .at) (a .r) (start .pre .0) (start .pre .1 .0) (omega arith) 0 (needed-none (a .at + sizeOf (a .r .kind)) (omega arith))
 
 add-end : tie.Need-add-end
 add-end c = search needs
@@ -41,11 +44,11 @@ returns-2 : tie.Need-returns-2
 returns-2 c =
     let start = c .before .before .before in
     let a = start .args in
-    let w = start .pre .1 in
-    let z = size-is (a .r .kind) (a .wa) (a .wb) (a .wc) (a .wd) w in
-    let e : needed (a .at + sizeOf (a .r .kind)) ≡ a .at + (1 + a .wa + a .wb + a .wc + a .wd) =
+    let w = start .pre .1 .1 in
+    let z = size-is (a .r .kind) (a .wa) (a .wb) (a .wc) (a .wd) (a .we) w in
+    let e : needed (a .at + sizeOf (a .r .kind)) ≡ a .at + (1 + a .wa + a .wb + a .wc + a .wd + a .we) =
     needed-is (a .at + sizeOf (a .r .kind)) (omega arith) ∙ omega arith in
-    short-written (a .buf .now) (a .at) (a .r) (w .is-known) (start .pre .0) (omega arith) (a .at + (1 + a .wa + a .wb + a .wc + a .wd)) e
+    short-written (a .buf .now) (a .at) (a .r) (start .pre .0) (start .pre .1 .0) (omega arith) (a .at + (1 + a .wa + a .wb + a .wc + a .wd + a .we)) e
 
 store-requires : tie.Need-store-requires
 store-requires c κs = search needs
@@ -57,9 +60,9 @@ returns-3 : tie.Need-returns-3
 returns-3 c =
     let start = c .before .before .before .before .before .before .before in
     let a = start .args in
-    let w = start .pre .1 in
-    let z = size-is (a .r .kind) (a .wa) (a .wb) (a .wc) (a .wd) w in
-    let p = room-written (a .buf .now) (a .at) (a .r) (w .is-known) (start .pre .0) (omega arith) in
+    let w = start .pre .1 .1 in
+    let z = size-is (a .r .kind) (a .wa) (a .wb) (a .wc) (a .wd) (a .we) w in
+    let p = room-written (a .buf .now) (a .at) (a .r) (start .pre .0) (start .pre .1 .0) (omega arith) in
     (ap (λ (n : ℕ). Next (a .at + n)) (sym z) ∙ p .0, c .before .before .store .ensures ∙ p .1)
 
 pub put-whole-spec : {M : Type 1} → statement M
@@ -70,6 +73,7 @@ put-whole-spec =
     add-size-2
     add-size-3
     add-size-4
+    add-size-5
     sub-if1
     returns
     add-end
