@@ -1,45 +1,64 @@
 -- The reader's state behind n streams that passed, and what the next record makes of it. Assumes nothing.
 use mathlib.Core.Path.{_≡_, refl, sym, ap, _∙_}
-use mathlib.Core.Bool.{Bool, true, false, not, _&&_}
+use mathlib.Core.Bool.{Bool, true, false, cond, not, _&&_, _||_}
 use mathlib.Core.List.{List, [], _∷_}
 use mathlib.Core.Logic.{_⊎_, inl, inr, ⊎-elim}
 use Prim.Native.Nat.{ℕ, zero, suc, _+_, _≤_, _<_}
 use native.Mathlib.Numerals.{add-one}
 use native.Mathlib.Omega.{arith}
+use native.Mathlib.Decide.{ℕ-discrete}
 use borrow.Author.Tests.{eqb-true, ne-eqb, eq-eqb}
 use lib.ListN.{length, getD, replicate}
-use lib.Dec.{eqb, leb}
+use lib.Dec.{eqb, leb, ltb}
 use Rattle.common.proofs.Runs.{tab-places}
 use Rattle.common.specs.Checks.{check, Verdict, verdict}
 use Rattle.common.specs.Checks.Verdict.{Passed, Refused}
+use Rattle.sheet_record.specs.declared.Given.{Given}
 use Rattle.sheet_record.specs.declared.Record.{Record}
 use Rattle.sheet_record.specs.declared.Met.{Met}
-use Rattle.sheet_record.specs.Kinds.{known, sizeOf, decode, inRange, whole, metAt, metOf}
-use Rattle.sheet_record.proofs.Records.{met-same}
+use Rattle.sheet_record.specs.Kinds.{known, sizeOf, decode, inRange, whole, metAt, busOf, isFirst, isStreamOf, streamMet}
+use Rattle.sheet_record.proofs.Records.{stream-same}
+use Rattle.sheet_record.proofs.Parts.{first-kinds, first-bus, pnet-streams, ring-streams}
 use Rattle.sheet_record.proofs.Ranges.{segment-ranges, pnet-stream-ranges, ring-ranges, ring-stream-ranges}
-use Rattle.sheet_read.specs.Sheets.{Sheet, headOf, streamsOf, sheetOf, fits, hasMaster, mostInAll, countOf, overLimit, metBefore}
-use Rattle.sheet_read.specs.Whole.{placeOf, recordsOf, judge, ended, reading, told, streamsOfMaster, longestOfMaster, byMaster, countsTold, longestsTold, Outcome}
+use Rattle.sheet_read.specs.Sheets.{Sheet, sheetOf, busIn, given, fits, mostInAll, hasMasters, countOf, overLimit, metBefore}
+use Rattle.sheet_read.specs.Whole.{placeOf, recordsOf, before, firstStream, judge, ended, reading, told, streamsOfMaster, longestOfMaster, byMaster, countsTold, longestsTold, Outcome}
 use Rattle.sheet_read.specs.Whole.Outcome.{Read, Not}
 use Rattle.sheet_read.specs.Steps.{ownNo, lateNo, countsWith, longestsWith, idsWith, Begun}
 use Rattle.sheet_read.specs.declared.Reading.the-variants as answer
-use Rattle.sheet_read.proofs.Walk.{head-at, length-records, length-streams, streams-none, streams-more, place-next, place-from}
+use Rattle.sheet_read.proofs.Walk.{head-at, place-next, place-from}
 use Rattle.sheet_read.proofs.Cases.{Upto, passes-then, upto-none, upto-more, upto-place, stops-once, ended-empty, ended-no-stream, ended-sheet}
 use Rattle.sheet_read.proofs.Cases.Stops.{by-record, at-end}
 use Rattle.sheet_read.proofs.Judged.{numbered, met-some, own-met, own-met-of, lateChecks, ownAt, judge-own}
-use Rattle.sheet_read.proofs.Kept.{Figures, Keeps, keeps-none, keeps-more, late-variable, late-stream, not-late-variable}
-use Rattle.sheet_read.proofs.Known.{fits-behind, first-fits}
+use Rattle.sheet_read.proofs.Kept.{Figures, Keeps, keeps-none, keeps-more, late-variable, late-stream, variable, no-variable, not-late-variable}
+use Rattle.sheet_read.proofs.Order.{nth, stream-of, fits-first, fits-behind, first-passes, head-some, behind-first, adds-stream}
+use Rattle.sheet_read.proofs.Known.{settings-none, all-streams}
 
 -- ---- Masters
 
--- N and n are at most 32
-masters-at-most : (r : Record) → r .kind ≡ 1 ⊎ r .kind ≡ 3 → inRange 0 0 r ≡ true → r .a ≤ 32
-masters-at-most r (inl e) h = segment-ranges 0 0 r h e .masters .most
-masters-at-most r (inr e) h = ring-ranges 0 0 r h e .masters .most
+-- what a first record is given
+abbrev no-limits : Given
+no-limits = record { masters = 0; message = 0 }
 
--- a stream's master is at most N, or n
-master-at-most : (top long : ℕ) (r : Record) → r .kind ≡ 2 ⊎ r .kind ≡ 4 → inRange top long r ≡ true → r .a ≤ top
-master-at-most top long r (inl e) h = pnet-stream-ranges top long r h e .master .most
-master-at-most top long r (inr e) h = ring-stream-ranges top long r h e .master .most
+-- what it sets
+abbrev limits-of : Record → Given
+limits-of h = record { masters = h .a; message = h .c }
+
+-- a stream's master is one of the 32 that are counted: it is at most N, or n
+master-counted : (h r : Record) → isFirst (h .kind) ≡ true → inRange no-limits h ≡ true → isStreamOf (busOf (h .kind)) (r .kind) ≡ true
+    → inRange (limits-of h) r ≡ true → (busOf (h .kind) ≡ 5 → ⊥) → r .a ≤ 32
+master-counted h r f i its j other = split (first-kinds (h .kind) f)
+  where
+    bus : (k : ℕ) → h .kind ≡ k → isStreamOf k (r .kind) ≡ true
+    bus k e = rw (first-bus (h .kind) f, e) at its
+
+    split : h .kind ≡ 1 ⊎ h .kind ≡ 3 ⊎ h .kind ≡ 5 → r .a ≤ 32
+    split (inl e) =
+        let k = eqb-true (r .kind) 2 (sym (pnet-streams (r .kind)) ∙ bus 1 e) in
+        omega (arith, pnet-stream-ranges (limits-of h) r j k .master .most, segment-ranges no-limits h i e .masters .most)
+    split (inr (inl e)) =
+        let k = eqb-true (r .kind) 4 (sym (ring-streams (r .kind)) ∙ bus 3 e) in
+        omega (arith, ring-stream-ranges (limits-of h) r j k .master .most, ring-ranges no-limits h i e .masters .most)
+    split (inr (inr e)) = absurd (other (first-bus (h .kind) f ∙ e))
 
 -- ---- The state
 
@@ -48,7 +67,7 @@ pub record Behind (s : List ℕ) (head : Record) (counts longests ids : List ℕ
   pub upto : Upto s (suc n)
   pub is-at : at ≡ placeOf s (suc n)
   pub is-head : head ≡ decode s 0
-  pub keeps : Keeps (head .kind + 1) (streamsOf (recordsOf s (suc n))) counts longests ids
+  pub keeps : Keeps (busOf (head .kind)) (before s (suc n) .streams) counts longests ids
 
 -- a first record that passed
 pub begun : (s : List ℕ) (head : Record) (first : ℕ) → Begun s head first → Behind s head (replicate 33 0) (replicate 33 0) (replicate 64 0) 0 first
@@ -58,7 +77,7 @@ begun s head first b =
       upto = upto-more s 0 (upto-none s) (b .some) (passes-then s 0 (b .passed));
       is-at = b .is-first;
       is-head = b .is-head;
-      keeps = rw (streams-none s) (keeps-none (head .kind + 1));
+      keeps = rw (behind-first s (passes-then s 0 (b .passed)) .1) (keeps-none (busOf (head .kind)));
     }
 
 own-passed : (a b c d : Bool) → ownNo a b c d ≡ 0 → (a ≡ true) × (b ≡ true) × (c ≡ true) × (d ≡ true)
@@ -84,25 +103,27 @@ pub told-empty : (s : List ℕ) → length s ≡ 0 → answer.Refused 1 0 ≡ to
 unfolding placeOf
 told-empty s e = ap (told s) (sym (stops-once s (at-end 0 (upto-none s) (sym e) refl) ∙ ended-empty s))
 
--- it is no stream, so no limit is met
-late-first : (r : Record) (p : ℕ) → r .kind ≡ 1 ⊎ r .kind ≡ 3 ⊎ r .kind ≡ 5 → verdict (check 5 (overLimit [] r) p ∷ check 7 (metBefore [] r) p ∷ []) ≡ Passed
-unfolding verdict overLimit metBefore mostInAll hasMaster countOf
-late-first r p (inl e) = rw e
-late-first r p (inr (inl e)) = rw e
-late-first r p (inr (inr e)) = rw e
+-- behind nothing, no limit is met
+late-first : (r : Record) (p : ℕ) → verdict (check 5 (overLimit [] r) p ∷ check 7 (metBefore [] r) p ∷ []) ≡ Passed
+unfolding verdict overLimit metBefore mostInAll hasMasters countOf
+late-first r p = split (eqb (busOf (r .kind)) 5)
+  where
+    split : (b : Bool) → verdict (check 5 (leb (cond b 64 800) 0 || (not b && leb 80 0)) p ∷ check 7 (b && ltb 0 0) p ∷ []) ≡ Passed
+    split true = refl
+    split false = refl
 
 -- the reader comes to the first record: what it meets, whether that is in range and may stand first, and the refusal of it by itself
 pub record MeetsFirst (s : List ℕ) (met : Met) (ranged right : Bool) (own : ℕ) : Type 0 where
   pub some : 0 < length s
   pub is-met : met ≡ metAt s 0
-  pub is-ranged : ranged ≡ inRange 0 0 (met .found)
-  pub is-right : right ≡ fits [] (getD s 0 0)
+  pub is-right : right ≡ isFirst (getD s 0 0)
+  pub is-ranged : ranged ≡ inRange no-limits (met .found)
   pub is-own : own ≡ ownNo (known (getD s 0 0)) right (not (eqb (met .next) 0)) ranged
 
 module _ {s : List ℕ} {met : Met} {ranged right : Bool} {own : ℕ} (m : MeetsFirst s met ranged right own) where
   first-is : own ≡ ownAt s 0
-  unfolding ownAt placeOf recordsOf headOf
-  first-is = rw (m .is-own, m .is-ranged, m .is-met, m .is-right, own-met s 0)
+  unfolding ownAt placeOf before recordsOf sheetOf
+  first-is = rw (m .is-own, m .is-ranged, m .is-met, m .is-right, own-met s 0, ← fits-first (getD s 0 0))
 
   pub refused-first : (own ≡ 0 → ⊥) → answer.Refused own 0 ≡ told s (reading s)
   unfolding placeOf
@@ -111,15 +132,14 @@ module _ {s : List ℕ} {met : Met} {ranged right : Bool} {own : ℕ} (m : Meets
       told-refused s 0 own 0 (upto-none s) (m .some) g
 
   pub begun-first : own ≡ 0 → Begun s (met .found) (met .next)
-  unfolding ownAt lateChecks placeOf recordsOf streamsOf headOf numbered decode whole
+  unfolding ownAt lateChecks placeOf before recordsOf sheetOf numbered decode whole
   begun-first z =
       let p = own-passed _ _ _ _ (sym first-is ∙ z) in
       let h : whole s 0 ≡ true = rw (p .0, p .2) in
       let q = m .is-met ∙ met-some s 0 h in
-      let k = first-fits (getD s 0 0) (p .1) in
       record {
         some = m .some;
-        passed = judge-own s 0 ∙ ap (λ (x : ℕ). numbered x 0 (verdict (lateChecks s 0))) (sym first-is ∙ z) ∙ late-first (decode s 0) 0 k;
+        passed = judge-own s 0 ∙ ap (λ (x : ℕ). numbered x 0 (verdict (lateChecks s 0))) (sym first-is ∙ z) ∙ late-first (decode s 0) 0;
         is-head = ap (λ (x : Met). x .found) q;
         is-first = ap (λ (x : Met). x .next) q;
       }
@@ -138,54 +158,48 @@ refused-keeps s no' place o counts longests e = (kept streamsOfMaster o counts e
 
 -- ---- A stream
 
-has-master : (k : ℕ) → k ≡ 2 ⊎ k ≡ 4 → hasMaster k ≡ true
-unfolding hasMaster
-has-master k (inl e) = rw e
-has-master k (inr e) = rw e
-
-not-six : (k : ℕ) → k ≡ 2 ⊎ k ≡ 4 → k ≡ 6 → ⊥
-not-six k (inl e) f = omega arith
-not-six k (inr e) f = omega arith
-
 module _ {s : List ℕ} {head : Record} {counts longests ids : List ℕ} {n at : ℕ} (b : Behind s head counts longests ids n at) where
-  pub head-kinds : head .kind ≡ 1 ⊎ head .kind ≡ 3 ⊎ head .kind ≡ 5
-  unfolding placeOf recordsOf
-  head-kinds = rw (b .is-head) (first-fits (decode s 0 .kind) (b .upto .passed 0 (omega arith) .is-right))
+  head-first : isFirst (head .kind) ≡ true
+  head-first = rw (b .is-head) (first-passes s (b .upto .passed 0 (omega arith)))
 
-  head-ranged : inRange 0 0 head ≡ true
-  unfolding placeOf recordsOf headOf
+  head-ranged : inRange no-limits head ≡ true
+  unfolding placeOf before recordsOf sheetOf
   head-ranged = rw (b .is-head) (b .upto .passed 0 (omega arith) .is-ranged)
-
-  pub kind-fits : head .kind ≤ 5
-  kind-fits = ⊎-elim (λ e. omega arith) (⊎-elim (λ e. omega arith) (λ e. omega arith)) head-kinds
 
   -- fewer streams than bytes
   pub fewer-streams : n < at
   fewer-streams = omega (arith, place-from s (suc n), b .is-at)
 
--- the reader comes to a record: what it meets, whether that is in range, and the refusal of it by itself
-pub record Meets (s : List ℕ) (head : Record) (counts longests ids : List ℕ) (n at : ℕ) (met : Met) (ranged : Bool) (own : ℕ) : Type 0 where
+  -- the streams so far are of the bus of the first record
+  bus-is : busIn (before s (suc n)) ≡ busOf (head .kind)
+  bus-is = ap (λ (r : Record). busOf (r .kind)) (head-at s n ∙ sym (b .is-head))
+
+-- the reader comes to a record: what it meets, whether that is right and in range, and the refusal of it by itself
+pub record Meets (s : List ℕ) (head : Record) (counts longests ids : List ℕ) (n at bus : ℕ) (g : Given) (met : Met) (right ranged : Bool) (own : ℕ) : Type 0 where
   pub behind : Behind s head counts longests ids n at
   pub inside : at < length s
-  pub is-met : met ≡ metOf s at (head .kind + 1)
-  pub is-ranged : ranged ≡ (eqb (met .found .kind) (head .kind + 1) && inRange (head .a) (head .c) (met .found))
-  pub is-own : own ≡ ownNo (known (getD s at 0)) (eqb (getD s at 0) (head .kind + 1)) (not (eqb (met .next) at)) ranged
+  pub is-bus : bus ≡ busOf (head .kind)
+  pub is-given : g ≡ limits-of head
+  pub is-met : met ≡ streamMet s at bus
+  pub is-right : right ≡ isStreamOf bus (getD s at 0)
+  pub is-ranged : ranged ≡ (isStreamOf bus (met .found .kind) && inRange g (met .found))
+  pub is-own : own ≡ ownNo (known (getD s at 0)) right (not (eqb (met .next) at)) ranged
 
-module _ {s : List ℕ} {head : Record} {counts longests ids : List ℕ} {n at : ℕ} {met : Met} {ranged : Bool} {own : ℕ}
-    (m : Meets s head counts longests ids n at met ranged own) where
+module _ {s : List ℕ} {head : Record} {counts longests ids : List ℕ} {n at bus : ℕ} {g : Given} {met : Met} {right ranged : Bool} {own : ℕ}
+    (m : Meets s head counts longests ids n at bus g met right ranged own) where
   here : placeOf s (suc n) < length s
   here = rw (m .behind .is-at) at (m .inside)
 
-  -- behind the first record, the kind is the one to match
-  right-is : fits (recordsOf s (suc n)) (getD s (placeOf s (suc n)) 0) ≡ eqb (getD s (placeOf s (suc n)) 0) (head .kind + 1)
+  -- behind the first record, a stream of its bus
+  right-is : fits (before s (suc n)) (getD s (placeOf s (suc n)) 0) ≡ isStreamOf (busOf (head .kind)) (getD s (placeOf s (suc n)) 0)
   right-is =
-      fits-behind (recordsOf s (suc n)) (getD s (placeOf s (suc n)) 0) (rw (length-records s (suc n)) (omega arith))
-      ∙ (rw (head-at s n, m .behind .is-head) refl)
+      fits-behind (before s (suc n)) (getD s (placeOf s (suc n)) 0) (head-some s n (m .behind .upto))
+      ∙ ap (λ (b : ℕ). isStreamOf b (getD s (placeOf s (suc n)) 0)) (bus-is (m .behind))
 
   own-is : own ≡ ownAt s (suc n)
   unfolding ownAt
   own-is =
-      rw (m .is-own, m .is-ranged, m .is-met, m .behind .is-at, own-met-of s (placeOf s (suc n)), right-is, head-at s n, m .behind .is-head)
+      rw (m .is-own, m .is-ranged, m .is-right, m .is-met, m .is-bus, m .is-given, m .behind .is-at, own-met-of s (placeOf s (suc n)), right-is, head-at s n, m .behind .is-head)
 
   pub refused-own : (own ≡ 0 → ⊥) → answer.Refused own at ≡ told s (reading s)
   refused-own h =
@@ -195,9 +209,9 @@ module _ {s : List ℕ} {head : Record} {counts longests ids : List ℕ} {n at :
 
   module _ (z : own ≡ 0) where
     own-all : (known (getD s (placeOf s (suc n)) 0) ≡ true)
-        × (fits (recordsOf s (suc n)) (getD s (placeOf s (suc n)) 0) ≡ true)
+        × (fits (before s (suc n)) (getD s (placeOf s (suc n)) 0) ≡ true)
         × (leb (placeOf s (suc n) + sizeOf (getD s (placeOf s (suc n)) 0)) (length s) ≡ true)
-        × (inRange (headOf (recordsOf s (suc n)) .a) (headOf (recordsOf s (suc n)) .c) (decode s (placeOf s (suc n))) ≡ true)
+        × (inRange (given (before s (suc n)) (nth s (suc n) .a)) (nth s (suc n)) ≡ true)
     unfolding ownAt
     own-all = own-passed _ _ _ _ (sym own-is ∙ z)
 
@@ -205,16 +219,14 @@ module _ {s : List ℕ} {head : Record} {counts longests ids : List ℕ} {n at :
     unfolding whole
     whole-here = rw (m .behind .is-at, own-all .0, own-all .2)
 
-    kind-here : getD s at 0 ≡ head .kind + 1
-    kind-here =
-        let k = getD s (placeOf s (suc n)) 0 in
-        ap (λ (p : ℕ). getD s p 0) (m .behind .is-at) ∙ eqb-true k (head .kind + 1) (sym right-is ∙ own-all .1)
+    stream-here : isStreamOf (busOf (head .kind)) (getD s at 0) ≡ true
+    stream-here = rw (m .behind .is-at) (sym right-is ∙ own-all .1)
 
     met-is : met ≡ record { found = decode s at; next = at + sizeOf (getD s at 0) }
-    met-is = m .is-met ∙ (met-same s at (head .kind + 1) kind-here ∙ met-some s at whole-here)
+    met-is = m .is-met ∙ (rw (m .is-bus) (stream-same s at (busOf (head .kind)) stream-here) ∙ met-some s at whole-here)
 
     -- the stream, and the place just after it
-    stream-is : met .found ≡ decode s (placeOf s (suc n))
+    stream-is : met .found ≡ nth s (suc n)
     stream-is = ap (λ (x : Met). x .found) met-is ∙ ap (decode s) (m .behind .is-at)
 
     next-is : met .next ≡ placeOf s (suc (suc n))
@@ -224,49 +236,34 @@ module _ {s : List ℕ} {head : Record} {counts longests ids : List ℕ} {n at :
     pub next-later : at < met .next
     next-later = omega (arith, next-is, m .behind .is-at, place-next s (suc n))
 
-    kind-is : met .found .kind ≡ head .kind + 1
+    its : isStreamOf (busOf (head .kind)) (met .found .kind) ≡ true
     unfolding decode
-    kind-is = ap (λ (x : Met). x .found .kind) met-is ∙ kind-here
+    its = rw met-is stream-here
 
-    ranged-here : inRange (head .a) (head .c) (met .found) ≡ true
+    ranged-here : inRange (limits-of head) (met .found) ≡ true
     ranged-here = rw (stream-is, m .behind .is-head) (rw (head-at s n) at (own-all .3))
 
-    stream-kinds : met .found .kind ≡ 6 ⊎ (met .found .kind ≡ 2 ⊎ met .found .kind ≡ 4)
-    stream-kinds =
-        ⊎-elim (λ e. inr (inl (omega (arith, kind-is)))) (⊎-elim (λ e. inr (inr (omega (arith, kind-is)))) (λ e. inl (omega (arith, kind-is)))) (head-kinds (m .behind))
-
-    -- a stream's master is one of the 32 that are counted
-    master-counted : met .found .kind ≡ 2 ⊎ met .found .kind ≡ 4 → met .found .a ≤ 32
-    master-counted k =
-        let l = master-at-most (head .a) (head .c) (met .found) k ranged-here in
-        let h : head .kind ≡ 1 ⊎ head .kind ≡ 3 = ⊎-elim (λ e. inl (omega (arith, kind-is))) (λ e. inr (omega (arith, kind-is))) k in
-        omega (arith, masters-at-most head h (head-ranged (m .behind)))
+    master-at-most : (busOf (head .kind) ≡ 5 → ⊥) → met .found .a ≤ 32
+    master-at-most other = master-counted head (met .found) (head-first (m .behind)) (head-ranged (m .behind)) its ranged-here other
 
     pub master-here : (met .found .kind ≡ 6 → ⊥) → met .found .a ≤ 32
-    master-here h = ⊎-elim (λ e. absurd (h e)) master-counted stream-kinds
+    master-here h =
+        master-at-most (λ e. h (variable (busOf (head .kind)) (before s (suc n) .streams) counts longests ids (met .found) (m .behind .keeps) its e))
 
-    keeps-here : Keeps (met .found .kind) (streamsOf (recordsOf s (suc n))) counts longests ids
-    keeps-here = rw kind-is (m .behind .keeps)
+    -- as many streams as records behind the first
+    how-many : length (before s (suc n) .streams) ≡ n
+    how-many = all-streams s n (m .behind .upto)
 
     -- 5 and 7, by what is kept
     late-is : verdict (lateChecks s (suc n)) ≡ numbered (lateNo counts ids n (met .found)) (placeOf s (suc n)) Passed
     unfolding lateChecks
-    late-is = rw (← stream-is) (rw (length-streams s n) at (⊎-elim variable stream stream-kinds))
+    late-is = rw (← stream-is) (rw how-many at (split (ℕ-discrete (busOf (head .kind)) 5)))
       where
-        before : List Record
-        before = streamsOf (recordsOf s (suc n))
-
-        Told : Type 0
-        Told =
-            verdict (check 5 (overLimit before (met .found)) (placeOf s (suc n)) ∷ check 7 (metBefore before (met .found)) (placeOf s (suc n)) ∷ [])
-            ≡ numbered (lateNo counts ids (length before) (met .found)) (placeOf s (suc n)) Passed
-
-        variable : met .found .kind ≡ 6 → Told
-        variable e = late-variable before counts longests ids (met .found) keeps-here e (placeOf s (suc n))
-
-        stream : met .found .kind ≡ 2 ⊎ met .found .kind ≡ 4 → Told
-        stream e =
-            late-stream before counts longests ids (met .found) keeps-here (has-master (met .found .kind) e) (not-six (met .found .kind) e) (master-counted e) (placeOf s (suc n))
+        split : Dec (busOf (head .kind) ≡ 5)
+            → verdict (check 5 (overLimit (before s (suc n) .streams) (met .found)) (placeOf s (suc n)) ∷ check 7 (metBefore (before s (suc n) .streams) (met .found)) (placeOf s (suc n)) ∷ [])
+            ≡ numbered (lateNo counts ids (length (before s (suc n) .streams)) (met .found)) (placeOf s (suc n)) Passed
+        split (yes e) = late-variable (busOf (head .kind)) (before s (suc n) .streams) counts longests ids (met .found) (m .behind .keeps) its e (placeOf s (suc n))
+        split (no e) = late-stream (busOf (head .kind)) (before s (suc n) .streams) counts longests ids (met .found) (m .behind .keeps) its e (master-at-most e) (placeOf s (suc n))
 
     judged-late : judge s (suc n) ≡ numbered (lateNo counts ids n (met .found)) (placeOf s (suc n)) Passed
     unfolding numbered
@@ -289,13 +286,17 @@ module _ {s : List ℕ} {head : Record} {counts longests ids : List ℕ} {n at :
           let r = met .found in
           let e = not-late f in
           let g : judge s (suc n) ≡ Passed = judged-late ∙ ap (λ (x : ℕ). numbered x (placeOf s (suc n)) Passed) e in
-          let few : r .kind ≡ 6 → length (streamsOf (recordsOf s (suc n))) < 64 = λ six. rw (length-streams s n) (not-late-variable counts ids n r six e) in
-          let k = keeps-more (streamsOf (recordsOf s (suc n))) counts longests ids r keeps-here master-here few in
+          let bus' = busOf (head .kind) in
+          let rs = before s (suc n) .streams in
+          let few : bus' ≡ 5 → length rs < 64 =
+          λ five. rw how-many (not-late-variable counts ids n r (variable bus' rs counts longests ids r (m .behind .keeps) its five) e) in
+          let k = keeps-more bus' rs counts longests ids r (m .behind .keeps) its master-at-most few in
+          let more = adds-stream s (suc n) (rw stream-is at (stream-of bus' (r .kind) its .0)) .1 in
           record {
             upto = rw (add-one n) (upto-more s (suc n) (m .behind .upto) here (passes-then s (suc n) g));
             is-at = rw (add-one n) next-is;
             is-head = m .behind .is-head;
-            keeps = rw (ec, el, ei, add-one n, streams-more s n, ← kind-is, ← stream-is) (rw (length-streams s n) at k);
+            keeps = rw (ec, el, ei, add-one n, more, ← stream-is) (rw how-many at k);
           }
 
 -- ---- The end
@@ -304,42 +305,41 @@ module _ {s : List ℕ} {head : Record} {counts longests ids : List ℕ} {n at :
   reading-ends : reading s ≡ ended s (suc n)
   reading-ends = stops-once s (at-end (suc n) (b .upto) (omega (arith, upto-place s (suc n) (b .upto), b .is-at)) refl)
 
+  all-here : length (before s (suc n) .streams) ≡ n
+  all-here = all-streams s n (b .upto)
+
   pub ends-empty : n ≡ 0 → answer.Refused 6 (length s) ≡ told s (reading s)
-  ends-empty e = ap (told s) (sym (reading-ends ∙ ap (λ (x : ℕ). ended s (suc x)) e ∙ ended-no-stream s))
+  ends-empty e = ap (told s) (sym (reading-ends ∙ ended-no-stream s (suc n) (head-some s n (b .upto)) (all-here ∙ e)))
 
   module _ (some : n ≡ 0 → ⊥) where
+    reads : reading s ≡ Read (before s (suc n))
+    reads = reading-ends ∙ ended-sheet s (suc n) (head-some s n (b .upto)) (λ e. some (sym all-here ∙ e))
+
     pub ends-accepted : (first : ℕ) → first ≡ placeOf s 1 → answer.Accepted head n first ≡ told s (reading s)
-    unfolding sheetOf
     ends-accepted first f =
-        let e : told s (reading s) ≡ answer.Accepted (headOf (recordsOf s (suc n))) (length (streamsOf (recordsOf s (suc n)))) (placeOf s 1) =
-        ap (told s) (reading-ends ∙ ended-sheet s n some) in
-        rw (f, b .is-head, ← head-at s n) (sym (rw (length-streams s n) at e))
+        let e : told s (reading s) ≡ answer.Accepted (before s (suc n) .head) (length (before s (suc n) .streams)) (placeOf s (firstStream (before s (suc n)))) =
+        ap (told s) reads in
+        let e' : told s (reading s) ≡ answer.Accepted (before s (suc n) .head) n (placeOf s 1) = rw (all-here, settings-none s n (b .upto)) at e in
+        rw (f, b .is-head, ← head-at s n) (sym e')
 
     -- and the figures are those of its masters
-    told-figures : (figure : Sheet → ℕ → ℕ) (xs old : List ℕ) → (head .kind ≡ 5 → ⊥) → Figures (head .kind + 1) (figure (sheetOf (recordsOf s (suc n)))) xs
+    told-figures : (figure : Sheet → ℕ → ℕ) (xs old : List ℕ) → (busOf (head .kind) ≡ 5 → ⊥) → Figures (busOf (head .kind)) (figure (before s (suc n))) xs
         → xs ≡ byMaster figure (reading s) old
-    unfolding sheetOf
     told-figures figure xs old k w =
-        let five : headOf (recordsOf s (suc n)) .kind ≡ 5 → ⊥ = λ e. k (ap (λ (r : Record). r .kind) (b .is-head ∙ sym (head-at s n)) ∙ e) in
-        let six : head .kind + 1 ≡ 6 → ⊥ = λ e. k (omega arith) in
-        rw (reading-ends, ended-sheet s n some, ne-eqb (headOf (recordsOf s (suc n)) .kind) 5 five)
-        (tab-places (figure (sheetOf (recordsOf s (suc n)))) xs 33 (w .places) (λ x l. w .each six x (omega arith)))
+        rw (reads, bus-is b, ne-eqb (busOf (head .kind)) 5 k) (tab-places (figure (before s (suc n))) xs 33 (w .places) (λ x l. w .each k x (omega arith)))
 
-    pub ends-counted : (head .kind ≡ 5 → ⊥) → (old : List ℕ) → counts ≡ countsTold (reading s) old
-    unfolding countsTold sheetOf
+    pub ends-counted : (busOf (head .kind) ≡ 5 → ⊥) → (old : List ℕ) → counts ≡ countsTold (reading s) old
+    unfolding countsTold
     ends-counted k old = told-figures streamsOfMaster counts old k (b .keeps .counted)
 
-    pub ends-longest : (head .kind ≡ 5 → ⊥) → (old : List ℕ) → longests ≡ longestsTold (reading s) old
-    unfolding longestsTold sheetOf
+    pub ends-longest : (busOf (head .kind) ≡ 5 → ⊥) → (old : List ℕ) → longests ≡ longestsTold (reading s) old
+    unfolding longestsTold
     ends-longest k old = told-figures longestOfMaster longests old k (b .keeps .longest)
 
     -- a bus without masters has none
-    module _ (five : head .kind ≡ 5) where
+    module _ (five : busOf (head .kind) ≡ 5) where
       no-figures : (figure : Sheet → ℕ → ℕ) (old : List ℕ) → old ≡ byMaster figure (reading s) old
-      unfolding sheetOf
-      no-figures figure old =
-          let z : headOf (recordsOf s (suc n)) .kind ≡ 5 = ap (λ (r : Record). r .kind) (head-at s n ∙ sym (b .is-head)) ∙ five in
-          rw (reading-ends, ended-sheet s n some, eq-eqb (headOf (recordsOf s (suc n)) .kind) 5 z)
+      no-figures figure old = rw (reads, bus-is b, eq-eqb (busOf (head .kind)) 5 five)
 
       pub ends-uncounted : (counts' longests' : List ℕ) → (counts' ≡ countsTold (reading s) counts') × (longests' ≡ longestsTold (reading s) longests')
       unfolding countsTold longestsTold

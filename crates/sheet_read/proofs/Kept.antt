@@ -15,11 +15,13 @@ use Rattle.common.specs.Checks.{check, verdict}
 use Rattle.common.specs.Checks.Verdict.{Passed}
 use Rattle.common.proofs.Runs.{zero-at}
 use Rattle.sheet_record.specs.declared.Record.{Record}
-use Rattle.sheet_record.specs.Kinds.{nothing}
-use Rattle.sheet_read.specs.Sheets.{mostInAll, hasMaster, countOf, longestOf, overLimit, metBefore}
+use Rattle.sheet_record.specs.Kinds.{kinds, lineOf, busOf, isStreamOf, nothing}
+use Rattle.sheet_record.proofs.Parts.{variables}
+use Rattle.sheet_read.specs.Sheets.{mostInAll, hasMasters, countOf, longestOf, overLimit, metBefore}
 use Rattle.sheet_read.specs.Steps.{among, lateNo, countsWith, longestsWith, idsWith}
 use Rattle.sheet_read.proofs.Counts.{count-more, longest-more, count-none, count-zero}
 use Rattle.sheet_read.proofs.Judged.{numbered}
+use Rattle.sheet_read.proofs.Order.{stream-of}
 
 -- ---- Identifiers met before
 
@@ -52,15 +54,15 @@ among-then x (suc n) ids e = split (among x n ids) refl (among-then x n ids)
 module _ (counts ids : List ℕ) (n : ℕ) (r : Record) where
   module _ (e : r .kind ≡ 6) where
     pub late-variables : 64 ≤ n → 5 ≡ lateNo counts ids n r
-    unfolding lateNo mostInAll
+    unfolding lateNo
     late-variables l = rw (e, le-leb 64 n l)
 
     pub late-met : n < 64 → among (r .a) n ids ≡ true → 7 ≡ lateNo counts ids n r
-    unfolding lateNo mostInAll
+    unfolding lateNo
     late-met l q = rw (e, lt-leb 64 n l, q)
 
     pub late-new : n < 64 → among (r .a) n ids ≡ false → 0 ≡ lateNo counts ids n r
-    unfolding lateNo mostInAll
+    unfolding lateNo
     late-new l q = rw (e, lt-leb 64 n l, q)
 
     pub not-late-variable : lateNo counts ids n r ≡ 0 → n < 64
@@ -72,15 +74,15 @@ module _ (counts ids : List ℕ) (n : ℕ) (r : Record) where
 
   module _ (e : r .kind ≡ 6 → ⊥) where
     pub late-streams : 800 ≤ n → 5 ≡ lateNo counts ids n r
-    unfolding lateNo mostInAll
+    unfolding lateNo
     late-streams l = rw (ne-eqb (r .kind) 6 e, le-leb 800 n l)
 
     pub late-master : n < 800 → 80 ≤ getD counts (r .a) 0 → 5 ≡ lateNo counts ids n r
-    unfolding lateNo mostInAll
+    unfolding lateNo
     late-master l q = rw (ne-eqb (r .kind) 6 e, lt-leb 800 n l, le-leb 80 (getD counts (r .a) 0) q)
 
     pub late-none : n < 800 → getD counts (r .a) 0 < 80 → 0 ≡ lateNo counts ids n r
-    unfolding lateNo mostInAll
+    unfolding lateNo
     late-none l q = rw (ne-eqb (r .kind) 6 e, lt-leb 800 n l, lt-leb 80 (getD counts (r .a) 0) q)
 
     pub not-late-stream : lateNo counts ids n r ≡ 0 → getD counts (r .a) 0 < 80
@@ -96,17 +98,17 @@ module _ (counts ids : List ℕ) (n : ℕ) (r : Record) where
 
 -- ---- What is kept
 
--- 33 places with a figure for each master, where streams of kind k have one
-pub record Figures (k : ℕ) (figure : ℕ → ℕ) (xs : List ℕ) : Type 0 where
+-- 33 places with a figure for each master, where the streams of a bus have one
+pub record Figures (bus : ℕ) (figure : ℕ → ℕ) (xs : List ℕ) : Type 0 where
   pub places : length xs ≡ 33
-  pub each : (k ≡ 6 → ⊥) → (x : ℕ) → x ≤ 32 → getD xs x 0 ≡ figure x
+  pub each : (bus ≡ 5 → ⊥) → (x : ℕ) → x ≤ 32 → getD xs x 0 ≡ figure x
 
--- behind these streams of kind k: how many each master has and the longest C of them, or their identifiers
-pub record Keeps (k : ℕ) (before : List Record) (counts longests ids : List ℕ) : Type 0 where
-  pub counted : Figures k (λ x. countOf x before) counts
-  pub longest : Figures k (λ x. longestOf x before) longests
+-- behind these streams of a bus: how many each master has and the longest C of them, or their identifiers
+pub record Keeps (bus : ℕ) (before : List Record) (counts longests ids : List ℕ) : Type 0 where
+  pub counted : Figures bus (λ x. countOf x before) counts
+  pub longest : Figures bus (λ x. longestOf x before) longests
   pub variables : length ids ≡ 64
-  pub named : k ≡ 6 → (i : ℕ) → i < length before → getD ids i 0 ≡ getD before i nothing .a
+  pub named : bus ≡ 5 → (i : ℕ) → i < length before → getD ids i 0 ≡ getD before i nothing .a
 
 -- an identifier is kept exactly if a stream has it
 pub among-count : (before : List Record) (ids : List ℕ) (x : ℕ) → ((i : ℕ) → i < length before → getD ids i 0 ≡ getD before i nothing .a)
@@ -129,9 +131,9 @@ among-count before ids x h = split (among x (length before) ids) refl
         different i l e = let z : true ≡ false = sym (among-yes x i (length before) ids l (h i l ∙ e)) ∙ q in let z' : _≡_ {A = ℕ} 0 1 = cc in omega arith
 
 -- nothing yet
-pub keeps-none : (k : ℕ) → Keeps k [] (replicate 33 0) (replicate 33 0) (replicate 64 0)
+pub keeps-none : (bus : ℕ) → Keeps bus [] (replicate 33 0) (replicate 33 0) (replicate 64 0)
 unfolding countOf longestOf
-keeps-none k =
+keeps-none bus =
     record {
       counted = record { places = refl; each = λ h x l. zero-at 33 x };
       longest = record { places = refl; each = λ h x l. zero-at 33 x };
@@ -144,37 +146,49 @@ either-length true xs ys e = refl
 either-length false xs ys e = sym e
 
 -- one master's figure changes, and no other's
-figures-more : (k : ℕ) (f g : ℕ → ℕ) (xs : List ℕ) (m v : ℕ) → Figures k f xs → ((k ≡ 6 → ⊥) → m ≤ 32) → ((k ≡ 6 → ⊥) → v ≡ g m)
-    → ((x : ℕ) → (m ≡ x → ⊥) → g x ≡ f x) → Figures k g (cond (eqb k 6) xs (set xs m v))
-figures-more k f g xs m v w l own other =
+figures-more : (bus k : ℕ) → ((bus ≡ 5 → ⊥) → k ≡ 6 → ⊥) → (f g : ℕ → ℕ) (xs : List ℕ) (m v : ℕ) → Figures bus f xs → ((bus ≡ 5 → ⊥) → m ≤ 32)
+    → ((bus ≡ 5 → ⊥) → v ≡ g m) → ((x : ℕ) → (m ≡ x → ⊥) → g x ≡ f x) → Figures bus g (cond (eqb k 6) xs (set xs m v))
+figures-more bus k no-variable f g xs m v w l own other =
     record {
       places = either-length (eqb k 6) xs (set xs m v) (sym (length-set xs m v)) ∙ w .places;
-      each = λ e x h. rw (ne-eqb k 6 e) (split e x h (ℕ-discrete m x));
+      each = λ e x h. rw (ne-eqb k 6 (no-variable e)) (split e x h (ℕ-discrete m x));
     }
   where
-    split : (k ≡ 6 → ⊥) → (x : ℕ) → x ≤ 32 → Dec (m ≡ x) → getD (set xs m v) x 0 ≡ g x
+    split : (bus ≡ 5 → ⊥) → (x : ℕ) → x ≤ 32 → Dec (m ≡ x) → getD (set xs m v) x 0 ≡ g x
     split e x h (yes q) =
         let b : m < length xs = omega (arith, l e, w .places) in
         ap (λ (y : ℕ). getD (set xs m v) y 0) (sym q) ∙ (getD-set-same xs m v 0 b ∙ (own e ∙ ap g q))
     split e x h (no q) = getD-set-other xs m x v 0 (λ z. q (sym z)) ∙ (w .each e x h ∙ sym (other x q))
 
-module _ (before : List Record) (counts longests ids : List ℕ) (r : Record) (keeps : Keeps (r .kind) before counts longests ids) where
+module _ (bus : ℕ) (before : List Record) (counts longests ids : List ℕ) (r : Record) (keeps : Keeps bus before counts longests ids)
+    (its : isStreamOf bus (r .kind) ≡ true) where
+  -- it is a variable exactly if the bus is WorldFIP
+  pub of-bus : busOf (r .kind) ≡ bus
+  of-bus = stream-of bus (r .kind) its .1
+
+  pub no-variable : (bus ≡ 5 → ⊥) → r .kind ≡ 6 → ⊥
+  unfolding busOf lineOf kinds
+  no-variable e six = e (sym of-bus ∙ rw six)
+
+  pub variable : bus ≡ 5 → r .kind ≡ 6
+  variable e = eqb-true (r .kind) 6 (sym (variables (r .kind)) ∙ (rw e at its))
+
   -- the verdict by what is kept: one too many, or met before
-  pub late-variable : r .kind ≡ 6 → (p : ℕ) → verdict (check 5 (overLimit before r) p ∷ check 7 (metBefore before r) p ∷ []) ≡ numbered (lateNo counts ids (length before) r) p Passed
-  unfolding verdict overLimit metBefore lateNo mostInAll hasMaster numbered
+  pub late-variable : bus ≡ 5 → (p : ℕ) → verdict (check 5 (overLimit before r) p ∷ check 7 (metBefore before r) p ∷ []) ≡ numbered (lateNo counts ids (length before) r) p Passed
+  unfolding verdict overLimit metBefore lateNo mostInAll hasMasters numbered busOf lineOf kinds
   late-variable e p =
-      rw (among-count before ids (r .a) (keeps .named e), e) (split (leb 64 (length before)) (ltb 0 (countOf (r .a) before)))
+      rw (among-count before ids (r .a) (keeps .named e), variable e) (split (leb 64 (length before)) (ltb 0 (countOf (r .a) before)))
     where
       split : (many met : Bool) → verdict (check 5 (many || false) p ∷ check 7 met p ∷ []) ≡ numbered (cond many 5 (cond met 7 0)) p Passed
       split true met = refl
       split false true = refl
       split false false = refl
 
-  pub late-stream : hasMaster (r .kind) ≡ true → (r .kind ≡ 6 → ⊥) → r .a ≤ 32 → (p : ℕ)
+  pub late-stream : (bus ≡ 5 → ⊥) → r .a ≤ 32 → (p : ℕ)
       → verdict (check 5 (overLimit before r) p ∷ check 7 (metBefore before r) p ∷ []) ≡ numbered (lateNo counts ids (length before) r) p Passed
-  unfolding verdict overLimit metBefore lateNo mostInAll numbered
-  late-stream m e l p =
-      rw (keeps .counted .each e (r .a) l, ne-eqb (r .kind) 6 e, m) (split (leb 800 (length before)) (leb 80 (countOf (r .a) before)))
+  unfolding verdict overLimit metBefore lateNo mostInAll hasMasters numbered
+  late-stream e l p =
+      rw (keeps .counted .each e (r .a) l, ne-eqb (r .kind) 6 (no-variable e), of-bus, ne-eqb bus 5 e) (split (leb 800 (length before)) (leb 80 (countOf (r .a) before)))
     where
       split : (many own : Bool) → verdict (check 5 (many || own) p ∷ check 7 false p ∷ []) ≡ numbered (cond many 5 (cond own 5 0)) p Passed
       split true own = refl
@@ -182,12 +196,12 @@ module _ (before : List Record) (counts longests ids : List ℕ) (r : Record) (k
       split false false = refl
 
   -- one stream more is kept: counted for its master, and for no other
-  more-counted : ((r .kind ≡ 6 → ⊥) → r .a ≤ 32) → Figures (r .kind) (λ x. countOf x (before ++ (r ∷ []))) (countsWith counts r)
+  more-counted : ((bus ≡ 5 → ⊥) → r .a ≤ 32) → Figures bus (λ x. countOf x (before ++ (r ∷ []))) (countsWith counts r)
   unfolding countsWith
   more-counted l =
-      figures-more (r .kind) (λ x. countOf x before) (λ x. countOf x (before ++ (r ∷ []))) counts (r .a) (getD counts (r .a) 0 + 1) (keeps .counted) l own other
+      figures-more bus (r .kind) no-variable (λ x. countOf x before) (λ x. countOf x (before ++ (r ∷ []))) counts (r .a) (getD counts (r .a) 0 + 1) (keeps .counted) l own other
     where
-      own : (r .kind ≡ 6 → ⊥) → getD counts (r .a) 0 + 1 ≡ countOf (r .a) (before ++ (r ∷ []))
+      own : (bus ≡ 5 → ⊥) → getD counts (r .a) 0 + 1 ≡ countOf (r .a) (before ++ (r ∷ []))
       own e =
           let w : countOf (r .a) (before ++ (r ∷ [])) ≡ countOf (r .a) before + 1 = rw (eq-eqb (r .a) (r .a) refl) at (count-more (r .a) before r) in
           omega (arith, keeps .counted .each e (r .a) (l e))
@@ -198,13 +212,13 @@ module _ (before : List Record) (counts longests ids : List ℕ) (r : Record) (k
           omega arith
 
   -- its C, where none of its master's is longer
-  more-longest : ((r .kind ≡ 6 → ⊥) → r .a ≤ 32) → Figures (r .kind) (λ x. longestOf x (before ++ (r ∷ []))) (longestsWith longests r)
+  more-longest : ((bus ≡ 5 → ⊥) → r .a ≤ 32) → Figures bus (λ x. longestOf x (before ++ (r ∷ []))) (longestsWith longests r)
   unfolding longestsWith
   more-longest l =
-      figures-more (r .kind) (λ x. longestOf x before) (λ x. longestOf x (before ++ (r ∷ []))) longests (r .a) (max (getD longests (r .a) 0) (r .b))
+      figures-more bus (r .kind) no-variable (λ x. longestOf x before) (λ x. longestOf x (before ++ (r ∷ []))) longests (r .a) (max (getD longests (r .a) 0) (r .b))
       (keeps .longest) l own other
     where
-      own : (r .kind ≡ 6 → ⊥) → max (getD longests (r .a) 0) (r .b) ≡ longestOf (r .a) (before ++ (r ∷ []))
+      own : (bus ≡ 5 → ⊥) → max (getD longests (r .a) 0) (r .b) ≡ longestOf (r .a) (before ++ (r ∷ []))
       own e =
           let w : longestOf (r .a) (before ++ (r ∷ [])) ≡ max (longestOf (r .a) before) (r .b) =
           rw (eq-eqb (r .a) (r .a) refl) at (longest-more (r .a) before r) in
@@ -216,9 +230,9 @@ module _ (before : List Record) (counts longests ids : List ℕ) (r : Record) (k
           omega arith
 
   -- or its identifier behind those before it
-  more-named : r .kind ≡ 6 → length before < 64 → (i : ℕ) → i < length (before ++ (r ∷ [])) → getD (idsWith ids (length before) r) i 0 ≡ getD (before ++ (r ∷ [])) i nothing .a
+  more-named : bus ≡ 5 → length before < 64 → (i : ℕ) → i < length (before ++ (r ∷ [])) → getD (idsWith ids (length before) r) i 0 ≡ getD (before ++ (r ∷ [])) i nothing .a
   unfolding idsWith
-  more-named e l i h = rw (eq-eqb (r .kind) 6 e) (split (ℕ-discrete i (length before)))
+  more-named e l i h = rw (eq-eqb (r .kind) 6 (variable e)) (split (ℕ-discrete i (length before)))
     where
       split : Dec (i ≡ length before) → getD (set ids (length before) (r .a)) i 0 ≡ getD (before ++ (r ∷ [])) i nothing .a
       split (yes q) =
@@ -228,8 +242,8 @@ module _ (before : List Record) (counts longests ids : List ℕ) (r : Record) (k
           let k : i < length before = omega (arith, q, length-append before (r ∷ [])) in
           getD-set-other ids (length before) i (r .a) 0 q ∙ (keeps .named e i k ∙ ap (λ (x : Record). x .a) (sym (List·getD-append before (r ∷ []) nothing i k)))
 
-  pub keeps-more : ((r .kind ≡ 6 → ⊥) → r .a ≤ 32) → (r .kind ≡ 6 → length before < 64)
-      → Keeps (r .kind) (before ++ (r ∷ [])) (countsWith counts r) (longestsWith longests r) (idsWith ids (length before) r)
+  pub keeps-more : ((bus ≡ 5 → ⊥) → r .a ≤ 32) → (bus ≡ 5 → length before < 64)
+      → Keeps bus (before ++ (r ∷ [])) (countsWith counts r) (longestsWith longests r) (idsWith ids (length before) r)
   unfolding idsWith
   keeps-more l h =
       record {

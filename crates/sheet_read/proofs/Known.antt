@@ -159,7 +159,8 @@ module _ (h : Record) (rs : List Record) (sound : Sound h rs) (r : Record) (its 
 module _ (s : List ℕ) where
   sound-upto : (n : ℕ) → Upto s (suc n) → Sound (decode s 0) (before s (suc n) .streams)
   sound-upto zero u = rw (behind-first s (u .passed 0 (omega arith)) .1) (sound-none (decode s 0))
-  sound-upto (suc n) u = step (fits-then (before s (suc n)) (nth s (suc n) .kind) (p .is-right))
+  sound-upto (suc n) u =
+      step (sound-upto n (upto-front s (suc (suc n)) (suc n) (omega arith) u)) (fits-then (before s (suc n)) (nth s (suc n) .kind) (p .is-right))
     where
       p : PassesAt s (suc n)
       p = u .passed (suc n) (omega arith)
@@ -167,13 +168,10 @@ module _ (s : List ℕ) where
       earlier : Upto s (suc n)
       earlier = upto-front s (suc (suc n)) (suc n) (omega arith) u
 
-      ih : Sound (decode s 0) (before s (suc n) .streams)
-      ih = sound-upto n earlier
-
-      step : Placed (before s (suc n)) (nth s (suc n) .kind) → Sound (decode s 0) (before s (suc (suc n)) .streams)
-      step (as-first e z) = absurd (head-some s n earlier z)
-      step (as-setting e z) = rw (adds-setting s (suc n) e .1) ih
-      step (as-stream e) =
+      step : Sound (decode s 0) (before s (suc n) .streams) → Placed (before s (suc n)) (nth s (suc n) .kind) → Sound (decode s 0) (before s (suc (suc n)) .streams)
+      step ih (as-first e z) = absurd (head-some s n earlier z)
+      step ih (as-setting e z) = rw (adds-setting s (suc n) e .1) ih
+      step ih (as-stream e) =
           let its : isStreamOf (busOf (decode s 0 .kind)) (nth s (suc n) .kind) ≡ true = rw (head-at s n) at e in
           let ranged : inRange (givenBy (decode s 0)) (nth s (suc n)) ≡ true = rw (head-at s n) at (p .is-ranged) in
           rw (adds-stream s (suc n) (stream-of (busIn (before s (suc n))) (nth s (suc n) .kind) e .0) .1)
@@ -264,7 +262,7 @@ module _ (s : List ℕ) (m : ℕ) (u : Upto s (suc m)) where
 
 -- a sheet that ends without a refusal has its first record and a stream
 ended-read : (s : List ℕ) (i : ℕ) (S : Sheet) → ended s i ≡ Read S → (m : ℕ) × (i ≡ suc m) × (1 ≤ length (before s i .streams)) × (S ≡ before s i)
-unfolding ended endChecks
+unfolding ended endChecks before sheetOf
 ended-read s i S e = split (verdict (endChecks (length s) (before s i))) refl
   where
     some : (n : ℕ) → eqb n 0 ≡ false → 1 ≤ n
@@ -272,7 +270,6 @@ ended-read s i S e = split (verdict (endChecks (length s) (before s i))) refl
     some (suc n) f = omega arith
 
     behind : (i' : ℕ) → eqb (before s i' .head .kind) 0 ≡ false → (m : ℕ) × (i' ≡ suc m)
-    unfolding before sheetOf
     behind zero f = absurd (eqb-false (before s 0 .head .kind) 0 f refl)
     behind (suc m) f = (m, refl)
 

@@ -4,6 +4,7 @@ pub mod Counts
 pub mod Examples
 pub mod Judged
 pub mod Kept
+pub mod Order
 pub mod Known
 pub mod Lengths
 pub mod Refusals

@@ -101,15 +101,15 @@ fits-behind S k some = split (partOf k) refl
     split (setting h t) q = let z : isSetting k ≡ true = ap isSettingPart q in never (sym (no-setting k) ∙ z)
     split stream q = eqb-sym (busIn S) (busOf k)
 
+bus-none : busOf 0 ≡ 0
+unfolding busOf lineOf kinds
+bus-none = refl
+
 -- where there is nothing, a first record
 pub fits-first : (k : ℕ) → fits (sheetOf []) k ≡ isFirst k
 unfolding fits isFirst isStream isSetting sheetOf
 fits-first k = split (partOf k) refl
   where
-    bus-none : busOf 0 ≡ 0
-    unfolding busOf lineOf kinds
-    bus-none = refl
-
     some-bus : busOf k ≡ 1 ⊎ busOf k ≡ 3 ⊎ busOf k ≡ 5 → busOf 0 ≡ busOf k → ⊥
     some-bus (inl e) q = omega (arith, bus-none)
     some-bus (inr (inl e)) q = omega (arith, bus-none)
@@ -173,23 +173,21 @@ module _ (s : List ℕ) where
   in-order zero u =
       let b = behind-first (u .passed 0 (omega arith)) in
       rw (head-at s 0, b .0, b .1)
-  in-order (suc n) u = step (fits-then (before s (suc n)) (nth (suc n) .kind) (u .passed (suc n) (omega arith) .is-right))
+  in-order (suc n) u =
+      step (in-order n (upto-front s (suc (suc n)) (suc n) (omega arith) u)) (fits-then (before s (suc n)) (nth (suc n) .kind) (u .passed (suc n) (omega arith) .is-right))
     where
-      ih : before s (suc n) .head ∷ (before s (suc n) .settings ++ before s (suc n) .streams) ≡ recordsOf s (suc n)
-      ih = in-order n (upto-front s (suc (suc n)) (suc n) (omega arith) u)
-
       same-head : before s (suc (suc n)) .head ≡ before s (suc n) .head
       same-head = head-at s (suc n) ∙ sym (head-at s n)
 
-      step : Placed (before s (suc n)) (nth (suc n) .kind)
+      step : before s (suc n) .head ∷ (before s (suc n) .settings ++ before s (suc n) .streams) ≡ recordsOf s (suc n) → Placed (before s (suc n)) (nth (suc n) .kind)
           → before s (suc (suc n)) .head ∷ (before s (suc (suc n)) .settings ++ before s (suc (suc n)) .streams) ≡ recordsOf s (suc n) ++ (nth (suc n) ∷ [])
-      step (as-first e z) = absurd (head-some n (upto-front s (suc (suc n)) (suc n) (omega arith) u) z)
-      step (as-setting e z) =
+      step ih (as-first e z) = absurd (head-some n (upto-front s (suc (suc n)) (suc n) (omega arith) u) z)
+      step ih (as-setting e z) =
           let a = adds-setting (suc n) e in
           let z' = empty-list (before s (suc n) .streams) z in
           let h : before s (suc n) .head ∷ (before s (suc n) .settings ++ []) ≡ recordsOf s (suc n) = rw z' at ih in
           rw (same-head, a .0, a .1, z', ← h) (simp (append-nil, append-assoc))
-      step (as-stream e) =
+      step ih (as-stream e) =
           let a = adds-stream (suc n) (stream-of (busIn (before s (suc n))) (nth (suc n) .kind) e .0) in
           rw (same-head, a .0, a .1, ← ih) (simp append-assoc)
 
@@ -209,4 +207,7 @@ module _ (s : List ℕ) where
         let S = before s (suc n) in
         let j = firstStream S + i in
         let e : getD (S .settings ++ S .streams) (length (S .settings) + i) nothing ≡ getD (S .streams) i nothing = getD-append-add (S .settings) (S .streams) i nothing in
-        sym e ∙ (ap (λ (rs : List Record). getD rs j nothing) (in-order n u) ∙ record-at s (suc n) j (omega (arith, how-many)))
+        let z : j ≡ suc (length (S .settings) + i) = omega arith in
+        let f : getD (recordsIn S) (suc (length (S .settings) + i)) nothing ≡ getD (recordsOf s (suc n)) j nothing =
+        ap (λ (x : ℕ). getD (recordsIn S) x nothing) (sym z) ∙ ap (λ (rs : List Record). getD rs j nothing) (in-order n u) in
+        sym e ∙ (f ∙ record-at s (suc n) j (omega (arith, how-many)))
