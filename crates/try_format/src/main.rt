@@ -1,6 +1,7 @@
 // The writer at the edges of every field, and what it wrote read back: page 01, 'Sheet records'. A line of standard input is a case in
-// hexadecimal digits: the place in 8 bytes, the room in one, and the record, its kind in one byte and its numbers in 4 each. The line that is
-// written for it has these numbers in decimal digits, the answer, and the buffer after the call, where ee is a byte that keeps what it had.
+// hexadecimal digits: the place in 8 bytes, the room in one, and the record, its kind in one byte and its numbers in 4 each; a number that is
+// left out at the end is 0. The line that is written for it has these numbers in decimal digits, the answer, and the buffer after the call, where
+// ee is a byte that keeps what it had.
 use libc::STDIN_FILENO;
 use libc::STDOUT_FILENO;
 use sheet_record::Record;
@@ -36,11 +37,12 @@ fn say_record(r: Record) {
     say_with(b" ", r.b as u64);
     say_with(b" ", r.c as u64);
     say_with(b" ", r.d as u64);
+    say_with(b" ", r.e as u64);
     say_unit(r.kind);
 }
 
 fn same(r: Record, q: Record) -> bool {
-    (r.kind == q.kind) & (r.a == q.a) & (r.b == q.b) & (r.c == q.c) & (r.d == q.d)
+    (r.kind == q.kind) & (r.a == q.a) & (r.b == q.b) & (r.c == q.c) & (r.d == q.d) & (r.e == q.e)
 }
 
 // The place behind the record, and whether the record stands there.
@@ -86,8 +88,8 @@ fn joined(a: u8, b: u8, c: u8, d: u8) -> u32 {
 }
 
 // The number of four bytes at a place, the highest first.
-fn number(c: [u8; 26], at: usize) -> u32 {
-    if 22 < at {
+fn number(c: [u8; 30], at: usize) -> u32 {
+    if 26 < at {
         return 0;
     }
     joined(c[at], c[at + 1], c[at + 2], c[at + 3])
@@ -100,13 +102,14 @@ fn room_of(asked: u8) -> usize
     if asked < 24 { asked as usize } else { 24 }
 }
 
-fn record_of(c: [u8; 26]) -> Record {
+fn record_of(c: [u8; 30]) -> Record {
     Record {
         kind: c[9],
         a: number(c, 10),
         b: number(c, 14),
         c: number(c, 18),
         d: number(c, 22),
+        e: number(c, 26),
     }
 }
 
@@ -125,7 +128,7 @@ fn try_case(at: usize, room: usize, r: Record)
 }
 
 fn try_line(line: &[u8]) {
-    let mut case = [0u8; 26];
+    let mut case = [0u8; 30];
     text_hex::put_bytes(&mut case, line);
     let at = place_of(number(case, 0), number(case, 4));
     try_case(at, room_of(case[8]), record_of(case));
