@@ -174,12 +174,16 @@ module _ {s : List ℕ} {head : Record} {counts longests ids : List ℕ} {n at :
   bus-is : busIn (before s (suc n)) ≡ busOf (head .kind)
   bus-is = ap (λ (r : Record). busOf (r .kind)) (head-at s n ∙ sym (b .is-head))
 
--- the reader comes to a record: what it meets, whether that is right and in range, and the refusal of it by itself
-pub record Meets (s : List ℕ) (head : Record) (counts longests ids : List ℕ) (n at bus : ℕ) (g : Given) (met : Met) (right ranged : Bool) (own : ℕ) : Type 0 where
-  pub behind : Behind s head counts longests ids n at
-  pub inside : at < length s
+-- what the reader holds while it goes: the bus, the limits that the first record sets, and the state
+pub record Reads (s : List ℕ) (head : Record) (bus : ℕ) (g : Given) (counts longests ids : List ℕ) (n at : ℕ) : Type 0 where
   pub is-bus : bus ≡ busOf (head .kind)
   pub is-given : g ≡ limits-of head
+  pub behind : Behind s head counts longests ids n at
+
+-- the reader comes to a record: what it meets, whether that is right and in range, and the refusal of it by itself
+pub record Meets (s : List ℕ) (head : Record) (counts longests ids : List ℕ) (n at bus : ℕ) (g : Given) (met : Met) (right ranged : Bool) (own : ℕ) : Type 0 where
+  pub reads : Reads s head bus g counts longests ids n at
+  pub inside : at < length s
   pub is-met : met ≡ streamMet s at bus
   pub is-right : right ≡ isStreamOf bus (getD s at 0)
   pub is-ranged : ranged ≡ (isStreamOf bus (met .found .kind) && inRange g (met .found))
@@ -188,24 +192,24 @@ pub record Meets (s : List ℕ) (head : Record) (counts longests ids : List ℕ)
 module _ {s : List ℕ} {head : Record} {counts longests ids : List ℕ} {n at bus : ℕ} {g : Given} {met : Met} {right ranged : Bool} {own : ℕ}
     (m : Meets s head counts longests ids n at bus g met right ranged own) where
   here : placeOf s (suc n) < length s
-  here = rw (m .behind .is-at) at (m .inside)
+  here = rw (m .reads .behind .is-at) at (m .inside)
 
   -- behind the first record, a stream of its bus
   right-is : fits (before s (suc n)) (getD s (placeOf s (suc n)) 0) ≡ isStreamOf (busOf (head .kind)) (getD s (placeOf s (suc n)) 0)
   right-is =
-      fits-behind (before s (suc n)) (getD s (placeOf s (suc n)) 0) (head-some s n (m .behind .upto))
-      ∙ ap (λ (b : ℕ). isStreamOf b (getD s (placeOf s (suc n)) 0)) (bus-is (m .behind))
+      fits-behind (before s (suc n)) (getD s (placeOf s (suc n)) 0) (head-some s n (m .reads .behind .upto))
+      ∙ ap (λ (b : ℕ). isStreamOf b (getD s (placeOf s (suc n)) 0)) (bus-is (m .reads .behind))
 
   own-is : own ≡ ownAt s (suc n)
   unfolding ownAt
   own-is =
-      rw (m .is-own, m .is-ranged, m .is-right, m .is-met, m .is-bus, m .is-given, m .behind .is-at, own-met-of s (placeOf s (suc n)), right-is, head-at s n, m .behind .is-head)
+      rw (m .is-own, m .is-ranged, m .is-right, m .is-met, m .reads .is-bus, m .reads .is-given, m .reads .behind .is-at, own-met-of s (placeOf s (suc n)), right-is, head-at s n, m .reads .behind .is-head)
 
   pub refused-own : (own ≡ 0 → ⊥) → answer.Refused own at ≡ told s (reading s)
   refused-own h =
       let g : judge s (suc n) ≡ Refused own (placeOf s (suc n)) =
       judge-own s (suc n) ∙ (rw (← own-is) (numbered-not own (placeOf s (suc n)) (verdict (lateChecks s (suc n))) h)) in
-      rw (m .behind .is-at) (told-refused s (suc n) own (placeOf s (suc n)) (m .behind .upto) here g)
+      rw (m .reads .behind .is-at) (told-refused s (suc n) own (placeOf s (suc n)) (m .reads .behind .upto) here g)
 
   module _ (z : own ≡ 0) where
     own-all : (known (getD s (placeOf s (suc n)) 0) ≡ true)
@@ -217,42 +221,42 @@ module _ {s : List ℕ} {head : Record} {counts longests ids : List ℕ} {n at b
 
     whole-here : whole s at ≡ true
     unfolding whole
-    whole-here = rw (m .behind .is-at, own-all .0, own-all .2)
+    whole-here = rw (m .reads .behind .is-at, own-all .0, own-all .2)
 
     stream-here : isStreamOf (busOf (head .kind)) (getD s at 0) ≡ true
-    stream-here = rw (m .behind .is-at) (sym right-is ∙ own-all .1)
+    stream-here = rw (m .reads .behind .is-at) (sym right-is ∙ own-all .1)
 
     met-is : met ≡ record { found = decode s at; next = at + sizeOf (getD s at 0) }
-    met-is = m .is-met ∙ (rw (m .is-bus) (stream-same s at (busOf (head .kind)) stream-here) ∙ met-some s at whole-here)
+    met-is = m .is-met ∙ (rw (m .reads .is-bus) (stream-same s at (busOf (head .kind)) stream-here) ∙ met-some s at whole-here)
 
     -- the stream, and the place just after it
     stream-is : met .found ≡ nth s (suc n)
-    stream-is = ap (λ (x : Met). x .found) met-is ∙ ap (decode s) (m .behind .is-at)
+    stream-is = ap (λ (x : Met). x .found) met-is ∙ ap (decode s) (m .reads .behind .is-at)
 
     next-is : met .next ≡ placeOf s (suc (suc n))
     unfolding placeOf
-    next-is = ap (λ (x : Met). x .next) met-is ∙ (rw (m .behind .is-at) refl)
+    next-is = ap (λ (x : Met). x .next) met-is ∙ (rw (m .reads .behind .is-at) refl)
 
     pub next-later : at < met .next
-    next-later = omega (arith, next-is, m .behind .is-at, place-next s (suc n))
+    next-later = omega (arith, next-is, m .reads .behind .is-at, place-next s (suc n))
 
     its : isStreamOf (busOf (head .kind)) (met .found .kind) ≡ true
     unfolding decode
     its = rw met-is stream-here
 
     ranged-here : inRange (limits-of head) (met .found) ≡ true
-    ranged-here = rw (stream-is, m .behind .is-head) (rw (head-at s n) at (own-all .3))
+    ranged-here = rw (stream-is, m .reads .behind .is-head) (rw (head-at s n) at (own-all .3))
 
     master-at-most : (busOf (head .kind) ≡ 5 → ⊥) → met .found .a ≤ 32
-    master-at-most other = master-counted head (met .found) (head-first (m .behind)) (head-ranged (m .behind)) its ranged-here other
+    master-at-most other = master-counted head (met .found) (head-first (m .reads .behind)) (head-ranged (m .reads .behind)) its ranged-here other
 
     pub master-here : (met .found .kind ≡ 6 → ⊥) → met .found .a ≤ 32
     master-here h =
-        master-at-most (λ e. h (variable (busOf (head .kind)) (before s (suc n) .streams) counts longests ids (met .found) (m .behind .keeps) its e))
+        master-at-most (λ e. h (variable (busOf (head .kind)) (before s (suc n) .streams) counts longests ids (met .found) (m .reads .behind .keeps) its e))
 
     -- as many streams as records behind the first
     how-many : length (before s (suc n) .streams) ≡ n
-    how-many = all-streams s n (m .behind .upto)
+    how-many = all-streams s n (m .reads .behind .upto)
 
     -- 5 and 7, by what is kept
     late-is : verdict (lateChecks s (suc n)) ≡ numbered (lateNo counts ids n (met .found)) (placeOf s (suc n)) Passed
@@ -262,8 +266,8 @@ module _ {s : List ℕ} {head : Record} {counts longests ids : List ℕ} {n at b
         split : Dec (busOf (head .kind) ≡ 5)
             → verdict (check 5 (overLimit (before s (suc n) .streams) (met .found)) (placeOf s (suc n)) ∷ check 7 (metBefore (before s (suc n) .streams) (met .found)) (placeOf s (suc n)) ∷ [])
             ≡ numbered (lateNo counts ids (length (before s (suc n) .streams)) (met .found)) (placeOf s (suc n)) Passed
-        split (yes e) = late-variable (busOf (head .kind)) (before s (suc n) .streams) counts longests ids (met .found) (m .behind .keeps) its e (placeOf s (suc n))
-        split (no e) = late-stream (busOf (head .kind)) (before s (suc n) .streams) counts longests ids (met .found) (m .behind .keeps) its e (master-at-most e) (placeOf s (suc n))
+        split (yes e) = late-variable (busOf (head .kind)) (before s (suc n) .streams) counts longests ids (met .found) (m .reads .behind .keeps) its e (placeOf s (suc n))
+        split (no e) = late-stream (busOf (head .kind)) (before s (suc n) .streams) counts longests ids (met .found) (m .reads .behind .keeps) its e (master-at-most e) (placeOf s (suc n))
 
     judged-late : judge s (suc n) ≡ numbered (lateNo counts ids n (met .found)) (placeOf s (suc n)) Passed
     unfolding numbered
@@ -273,13 +277,13 @@ module _ {s : List ℕ} {head : Record} {counts longests ids : List ℕ} {n at b
       pub refused-late : (late ≡ 0 → ⊥) → answer.Refused late at ≡ told s (reading s)
       refused-late h =
           let g : judge s (suc n) ≡ Refused late (placeOf s (suc n)) = judged-late ∙ (rw (← is-late) (numbered-not late (placeOf s (suc n)) Passed h)) in
-          rw (m .behind .is-at) (told-refused s (suc n) late (placeOf s (suc n)) (m .behind .upto) here g)
+          rw (m .reads .behind .is-at) (told-refused s (suc n) late (placeOf s (suc n)) (m .reads .behind .upto) here g)
 
       -- it passes
       pub not-late : late ≡ 0 → lateNo counts ids n (met .found) ≡ 0
       not-late f = sym is-late ∙ f
 
-      pub behind-more : (counts' longests' ids' : List ℕ) → late ≡ 0 → counts' ≡ countsWith counts (met .found)
+      behind-more : (counts' longests' ids' : List ℕ) → late ≡ 0 → counts' ≡ countsWith counts (met .found)
           → longests' ≡ longestsWith longests (met .found) → ids' ≡ idsWith ids n (met .found) → Behind s head counts' longests' ids' (n + 1) (met .next)
       unfolding numbered
       behind-more counts' longests' ids' f ec el ei =
@@ -289,15 +293,20 @@ module _ {s : List ℕ} {head : Record} {counts longests ids : List ℕ} {n at b
           let bus' = busOf (head .kind) in
           let rs = before s (suc n) .streams in
           let few : bus' ≡ 5 → length rs < 64 =
-          λ five. rw how-many (not-late-variable counts ids n r (variable bus' rs counts longests ids r (m .behind .keeps) its five) e) in
-          let k = keeps-more bus' rs counts longests ids r (m .behind .keeps) its master-at-most few in
+          λ five. rw how-many (not-late-variable counts ids n r (variable bus' rs counts longests ids r (m .reads .behind .keeps) its five) e) in
+          let k = keeps-more bus' rs counts longests ids r (m .reads .behind .keeps) its master-at-most few in
           let more = adds-stream s (suc n) (rw stream-is at (stream-of bus' (r .kind) its .0)) .1 in
           record {
-            upto = rw (add-one n) (upto-more s (suc n) (m .behind .upto) here (passes-then s (suc n) g));
+            upto = rw (add-one n) (upto-more s (suc n) (m .reads .behind .upto) here (passes-then s (suc n) g));
             is-at = rw (add-one n) next-is;
-            is-head = m .behind .is-head;
+            is-head = m .reads .behind .is-head;
             keeps = rw (ec, el, ei, add-one n, more, ← stream-is) (rw how-many at k);
           }
+
+      pub reads-more : (counts' longests' ids' : List ℕ) → late ≡ 0 → counts' ≡ countsWith counts (met .found)
+          → longests' ≡ longestsWith longests (met .found) → ids' ≡ idsWith ids n (met .found) → Reads s head bus g counts' longests' ids' (n + 1) (met .next)
+      reads-more counts' longests' ids' f ec el ei =
+          record { is-bus = m .reads .is-bus; is-given = m .reads .is-given; behind = behind-more counts' longests' ids' f ec el ei }
 
 -- ---- The end
 

@@ -3,64 +3,64 @@ use Prim.Native.Nat.{ℕ}
 use mathlib.Core.Path.{_≡_, refl}
 use mathlib.Core.List.{[], _∷_, map}
 use Rattle.sheet_record.specs.declared.Record.{Record}
-use Rattle.sheet_read.specs.Sheets.{longestOf, headOf, streamsOf}
+use Rattle.sheet_read.specs.Sheets.{longestOf, sheetOf}
 use Rattle.sheet_read.specs.Whole.{reading}
 use Rattle.sheet_read.specs.Whole.Outcome.{Read, Not}
 
 -- empty: 1 at 0
 empty : reading [] ≡ Not 1 0
-unfolding reading headOf streamsOf
+unfolding reading sheetOf
 empty = refl
 
 -- one byte 99: 2 at 0
 unknown : reading (99 ∷ []) ≡ Not 2 0
-unfolding reading headOf streamsOf
+unfolding reading sheetOf
 unknown = refl
 
 -- 1, 0: 4 at 0
 no-master : reading (1 ∷ 0 ∷ []) ≡ Not 4 0
-unfolding reading headOf streamsOf
+unfolding reading sheetOf
 no-master = refl
 
 -- 1, 33: 4 at 0
 too-many-masters : reading (1 ∷ 33 ∷ []) ≡ Not 4 0
-unfolding reading headOf streamsOf
+unfolding reading sheetOf
 too-many-masters = refl
 
 -- 1, 4: 6 at 2
 no-stream : reading (1 ∷ 4 ∷ []) ≡ Not 6 2
-unfolding reading headOf streamsOf
+unfolding reading sheetOf
 no-stream = refl
 
 -- ---- One accepted sheet of each bus
 
 rec : ℕ → ℕ → ℕ → ℕ → ℕ → Record
-rec k a b c d = record { kind = k; a = a; b = b; c = c; d = d }
+rec k a b c d = record { kind = k; a = a; b = b; c = c; d = d; e = 0 }
 
 -- P-NET: N = 2; master 1, C 203, T 1,000, D 900
 pnet :
     reading (1 ∷ 2 ∷ 2 ∷ 1 ∷ 0 ∷ 203 ∷ 0 ∷ 0 ∷ 3 ∷ 232 ∷ 0 ∷ 0 ∷ 3 ∷ 132 ∷ [])
-    ≡ Read (record { head = rec 1 2 0 0 0; streams = rec 2 1 203 1000 900 ∷ [] })
-unfolding reading headOf streamsOf rec
+    ≡ Read (record { head = rec 1 2 0 0 0; settings = []; streams = rec 2 1 203 1000 900 ∷ [] })
+unfolding reading sheetOf rec
 pnet = refl
 
 -- PROFIBUS: n = 3, L 300, M 500; master 2, C 300, D 5,000
 profibus :
     reading (3 ∷ 3 ∷ 0 ∷ 0 ∷ 1 ∷ 44 ∷ 0 ∷ 0 ∷ 1 ∷ 244 ∷ 4 ∷ 2 ∷ 0 ∷ 0 ∷ 1 ∷ 44 ∷ 0 ∷ 0 ∷ 19 ∷ 136 ∷ [])
-    ≡ Read (record { head = rec 3 3 300 500 0; streams = rec 4 2 300 5000 0 ∷ [] })
-unfolding reading headOf streamsOf rec
+    ≡ Read (record { head = rec 3 3 300 500 0; settings = []; streams = rec 4 2 300 5000 0 ∷ [] })
+unfolding reading sheetOf rec
 profibus = refl
 
 -- WorldFIP: E 400; identifier 17, period 1,000; identifier 18, period 2,000
 worldfip :
     reading (5 ∷ 0 ∷ 0 ∷ 1 ∷ 144 ∷ 6 ∷ 0 ∷ 17 ∷ 0 ∷ 0 ∷ 3 ∷ 232 ∷ 6 ∷ 0 ∷ 18 ∷ 0 ∷ 0 ∷ 7 ∷ 208 ∷ [])
-    ≡ Read (record { head = rec 5 400 0 0 0; streams = rec 6 17 1000 0 0 ∷ rec 6 18 2000 0 0 ∷ [] })
-unfolding reading headOf streamsOf rec
+    ≡ Read (record { head = rec 5 400 0 0 0; settings = []; streams = rec 6 17 1000 0 0 ∷ rec 6 18 2000 0 0 ∷ [] })
+unfolding reading sheetOf rec
 worldfip = refl
 
 -- the second with the first one's identifier: 7 at 12
 same-identifier : reading (5 ∷ 0 ∷ 0 ∷ 1 ∷ 144 ∷ 6 ∷ 0 ∷ 17 ∷ 0 ∷ 0 ∷ 3 ∷ 232 ∷ 6 ∷ 0 ∷ 17 ∷ 0 ∷ 0 ∷ 7 ∷ 208 ∷ []) ≡ Not 7 12
-unfolding reading headOf streamsOf
+unfolding reading sheetOf
 same-identifier = refl
 
 -- ---- What each master has

@@ -1,56 +1,79 @@
 -- No accepted sheet is longer than 9,602 bytes, and reading looks at the first 9,614 bytes of any sheet only. Assumes nothing.
 use mathlib.Core.Path.{_≡_, refl, sym, ap, _∙_}
-use mathlib.Core.Bool.{Bool, true, false}
+use mathlib.Core.Bool.{Bool, true, false, cond}
 use mathlib.Core.List.{List, [], _∷_, _++_}
 use mathlib.Core.Logic.{_⊎_, inl, inr}
 use Prim.Native.Nat.{ℕ, zero, suc, _+_, _*_, _≤_, _<_, zero-le}
 use native.Mathlib.Omega.{arith}
-use borrow.Author.Tests.{leb-true, leb-false, le-ltb}
+use borrow.Author.Tests.{leb-true, leb-false, le-ltb, eqb-true}
 use lib.ListN.{length, getD, take}
-use lib.Dec.{leb}
+use lib.Dec.{leb, eqb}
 use lib.Seq.{take-all, length-take-le}
 use Rattle.common.specs.Sums.{greatest}
 use Rattle.common.specs.Checks.{verdict}
 use Rattle.common.specs.Checks.Verdict.{Refused}
 use Rattle.sheet_record.specs.declared.Record.{Record}
-use Rattle.sheet_record.specs.Kinds.{kinds, fieldsOf, widths, sizeOf, decode}
+use Rattle.sheet_record.specs.Kinds.{kinds, lineOf, fieldsOf, widths, sizeOf, busOf, isFirst, isStreamOf, decode}
 use Rattle.sheet_record.proofs.Tables.{size-at-most}
+use Rattle.sheet_record.proofs.Parts.{first-kinds, first-bus, pnet-streams, ring-streams, variables}
 use Rattle.sheet_write.proofs.Trips.{decode-take, kind-take}
-use Rattle.sheet_read.specs.Sheets.{Sheet, mostInAll}
-use Rattle.sheet_read.specs.Whole.{placeOf, recordsOf, recordChecks, judge, reading, told, Outcome}
+use Rattle.sheet_read.specs.Sheets.{Sheet, sheetOf, mostInAll}
+use Rattle.sheet_read.specs.Whole.{placeOf, recordsOf, before, recordChecks, judge, reading, told, Outcome}
 use Rattle.sheet_read.specs.Whole.Outcome.{Read, Not}
 use Rattle.sheet_read.specs.Lengths.{longest-record, longest-sheet, enough}
 use Rattle.sheet_read.proofs.Cases.{Upto, Stops, passes-if, passes-then, upto-front, reading-stops, stops-once}
 use Rattle.sheet_read.proofs.Cases.Stops.{by-record, at-end}
-use Rattle.sheet_read.proofs.Known.{place-is, first-kinds, streams-few}
+use Rattle.sheet_read.proofs.Known.{place-bound, first-record, streams-few}
 
 -- ---- The constants
 
 pub longest-record-is : longest-record ≡ 12
-unfolding longest-record greatest kinds sizeOf widths fieldsOf
+unfolding longest-record greatest kinds sizeOf widths fieldsOf lineOf
 longest-record-is = refl
 
 pub longest-sheet-is : longest-sheet ≡ 9602
-unfolding longest-sheet longest-record greatest kinds sizeOf widths fieldsOf mostInAll
+unfolding longest-sheet longest-record greatest kinds sizeOf widths fieldsOf lineOf mostInAll
 longest-sheet-is = refl
 
 pub enough-is : enough ≡ 9614
-unfolding enough longest-sheet longest-record greatest kinds sizeOf widths fieldsOf mostInAll
+unfolding enough longest-sheet longest-record greatest kinds sizeOf widths fieldsOf lineOf mostInAll
 enough-is = refl
 
 -- ---- How far reading goes
 
+-- how long the streams of a bus are
+unfoldable longest-of : ℕ → ℕ
+longest-of bus = cond (eqb bus 1) 12 (cond (eqb bus 3) 10 7)
+
+stream-size : (h k : ℕ) → isFirst h ≡ true → isStreamOf (busOf h) k ≡ true → sizeOf k ≤ longest-of h
+unfolding longest-of sizeOf widths fieldsOf lineOf kinds
+stream-size h k f its = split (first-kinds h f)
+  where
+    of : (b : ℕ) → h ≡ b → isStreamOf b k ≡ true
+    of b e = rw (first-bus h f, e) at its
+
+    split : h ≡ 1 ⊎ h ≡ 3 ⊎ h ≡ 5 → sizeOf k ≤ longest-of h
+    split (inl e) = rw (e, eqb-true k 2 (sym (pnet-streams k) ∙ of 1 e)) (omega arith)
+    split (inr (inl e)) = rw (e, eqb-true k 4 (sym (ring-streams k) ∙ of 3 e)) (omega arith)
+    split (inr (inr e)) = rw (e, eqb-true k 6 (sym (variables k) ∙ of 5 e)) (omega arith)
+
 -- behind records that pass, the next one stands within the longest sheet
-bound : (h m : ℕ) → h ≡ 1 ⊎ h ≡ 3 ⊎ h ≡ 5 → m ≤ mostInAll (h + 1) → sizeOf h + m * sizeOf (h + 1) ≤ longest-sheet
-unfolding longest-sheet longest-record greatest kinds sizeOf widths fieldsOf mostInAll
-bound h m (inl e) l = rw e (let k : m ≤ 800 = rw e at l in omega arith)
-bound h m (inr (inl e)) l = rw e (let k : m ≤ 800 = rw e at l in omega arith)
-bound h m (inr (inr e)) l = rw e (let k : m ≤ 64 = rw e at l in omega arith)
+bound : (h m : ℕ) → isFirst h ≡ true → m ≤ mostInAll (busOf h) → sizeOf h + m * longest-of h ≤ longest-sheet
+unfolding longest-of longest-sheet longest-record greatest kinds lineOf sizeOf widths fieldsOf mostInAll
+bound h m f l = split (first-kinds h f) (rw (first-bus h f) at l)
+  where
+    split : h ≡ 1 ⊎ h ≡ 3 ⊎ h ≡ 5 → m ≤ mostInAll h → sizeOf h + m * longest-of h ≤ longest-sheet
+    split (inl e) l' = rw e (let k : m ≤ 800 = rw e at l' in omega arith)
+    split (inr (inl e)) l' = rw e (let k : m ≤ 800 = rw e at l' in omega arith)
+    split (inr (inr e)) l' = rw e (let k : m ≤ 64 = rw e at l' in omega arith)
 
 pub place-at-most : (s : List ℕ) (i : ℕ) → Upto s i → placeOf s i ≤ longest-sheet
 unfolding placeOf
 place-at-most s zero u = zero-le
-place-at-most s (suc m) u = omega (arith, place-is s m u m (omega arith), bound (decode s 0 .kind) m (first-kinds s m u) (streams-few s m u))
+place-at-most s (suc m) u =
+    let h = decode s 0 .kind in
+    let f = first-record s m u in
+    omega (arith, place-bound s m u (longest-of h) (λ k e. stream-size h k f e) m (omega arith), bound h m f (streams-few s m u))
 
 -- no accepted sheet is longer
 pub length-at-most : (s : List ℕ) (S : Sheet) → reading s ≡ Read S → length s ≤ longest-sheet
@@ -63,12 +86,12 @@ length-at-most s S e = by (reading-stops s)
 -- ---- A sheet that is cut
 
 -- of the sheet, a record's refusals ask only whether it holds the record
-checks-same : (s t : List ℕ) (before : List Record) (at : ℕ) (r : Record) → at + sizeOf (r .kind) ≤ length s → at + sizeOf (r .kind) ≤ length t
-    → recordChecks s before at r ≡ recordChecks t before at r
+checks-same : (s t : List ℕ) (S : Sheet) (at : ℕ) (r : Record) → at + sizeOf (r .kind) ≤ length s → at + sizeOf (r .kind) ≤ length t
+    → recordChecks s S at r ≡ recordChecks t S at r
 unfolding recordChecks
-checks-same s t before at r l k = rw (le-ltb (length s) (at + sizeOf (r .kind)) l, le-ltb (length t) (at + sizeOf (r .kind)) k)
+checks-same s t S at r l k = rw (le-ltb (length s) (at + sizeOf (r .kind)) l, le-ltb (length t) (at + sizeOf (r .kind)) k)
 
-checks-at : (t : List ℕ) {rs rs' : List Record} {p p' : ℕ} {r r' : Record} → rs ≡ rs' → p ≡ p' → r ≡ r' → verdict (recordChecks t rs p r) ≡ verdict (recordChecks t rs' p' r')
+checks-at : (t : List ℕ) {S S' : Sheet} {p p' : ℕ} {r r' : Record} → S ≡ S' → p ≡ p' → r ≡ r' → verdict (recordChecks t S p r) ≡ verdict (recordChecks t S' p' r')
 checks-at t e k q = cc
 
 module _ (s : List ℕ) (n : ℕ) (short : n ≤ length s) where
@@ -106,17 +129,17 @@ module _ (s : List ℕ) (n : ℕ) (short : n ≤ length s) where
       next : {rs : List Record} {r : Record} → rs ≡ recordsOf s i → r ≡ decode s (placeOf s i) → rs ++ (r ∷ []) ≡ recordsOf s i ++ (decode s (placeOf s i) ∷ [])
       next e k = rw (e, k)
 
-  cut-checks : (i : ℕ) → Clear i → recordChecks (take n s) (recordsOf s i) (placeOf s i) (decode s (placeOf s i)) ≡ recordChecks s (recordsOf s i) (placeOf s i) (decode s (placeOf s i))
+  cut-checks : (i : ℕ) → Clear i → recordChecks (take n s) (before s i) (placeOf s i) (decode s (placeOf s i)) ≡ recordChecks s (before s i) (placeOf s i) (decode s (placeOf s i))
   unfolding decode
   cut-checks i h =
       let l = length-take-le n s short in
       let e = clear-ends i h in
-      checks-same (take n s) s (recordsOf s i) (placeOf s i) (decode s (placeOf s i)) (omega arith) (omega arith)
+      checks-same (take n s) s (before s i) (placeOf s i) (decode s (placeOf s i)) (omega arith) (omega arith)
 
   cut-judge : (i : ℕ) → ((j : ℕ) → j ≤ i → Clear j) → judge (take n s) i ≡ judge s i
-  unfolding judge
+  unfolding judge before
   cut-judge i h =
-      checks-at (take n s) (cut-records i (λ j l. h j (omega arith))) (cut-place i (λ j l. h j (omega arith))) (cut-decode i h)
+      checks-at (take n s) (ap sheetOf (cut-records i (λ j l. h j (omega arith)))) (cut-place i (λ j l. h j (omega arith))) (cut-decode i h)
       ∙ ap verdict (cut-checks i (h i (omega arith)))
 
   -- reading the first n bytes goes as far

@@ -121,6 +121,11 @@ fits-first k = split (partOf k) refl
     split (setting h t) q = let z : isSetting k ≡ true = ap isSettingPart q in never (sym (no-setting k) ∙ z)
     split stream q = ne-eqb (busOf 0) (busOf k) (some-bus (stream-bus k (ap isStreamPart q)))
 
+-- and that is not `nothing`
+pub first-some : (k : ℕ) → isFirst k ≡ true → k ≡ 0 → ⊥
+unfolding isFirst partOf lineOf kinds
+first-some k f e = let z : isFirst 0 ≡ true = rw e at f in never z
+
 -- ---- Records that pass
 
 module _ (s : List ℕ) where
@@ -134,11 +139,7 @@ module _ (s : List ℕ) where
   first-passes p = sym (fits-first (decode s 0 .kind)) ∙ p .is-right
 
   pub head-some : (n : ℕ) → Upto s (suc n) → before s (suc n) .head .kind ≡ 0 → ⊥
-  unfolding isFirst partOf lineOf kinds
-  head-some n u e =
-      let k : decode s 0 .kind ≡ 0 = ap (λ (r : Record). r .kind) (sym (head-at s n)) ∙ e in
-      let f : isFirst 0 ≡ true = rw k at (first-passes (u .passed 0 (omega arith))) in
-      never f
+  head-some n u e = first-some (decode s 0 .kind) (first-passes (u .passed 0 (omega arith))) (ap (λ (r : Record). r .kind) (sym (head-at s n)) ∙ e)
 
   -- ---- What a record adds
 

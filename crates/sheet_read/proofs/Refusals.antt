@@ -1,32 +1,34 @@
 -- Page 01, 'Numbered refusals' 1..7: reading gives a number with a place exactly if the page's table gives it, and accepts a sheet
 -- exactly if the table gives none. Assumes nothing.
 use mathlib.Core.Path.{_≡_, refl, sym, ap, _∙_}
-use mathlib.Core.Bool.{Bool, true, false, not, _&&_}
+use mathlib.Core.Bool.{Bool, true, false, not, _&&_, _||_}
 use mathlib.Core.List.{List}
 use mathlib.Core.Logic.{_⊎_, inl, inr, ⊎-elim, _↔_}
 use Prim.Native.Nat.{ℕ, zero, suc, _+_, _≤_, _<_}
 use native.Mathlib.Omega.{arith}
 use borrow.Author.Tests.{ltb-true, ltb-false, leb-false, lt-leb, le-leb, le-ltb, eqb-true, eq-eqb, not-true, not-false}
-use lib.ListN.{length}
+use lib.ListN.{length, getD}
 use lib.Dec.{ltb, leb, eqb}
 use Rattle.common.specs.Checks.Verdict.{Refused}
 use Rattle.common.proofs.Checks.{Applies, refused-if, refused-then}
 use Rattle.common.proofs.Checks.Applies.{here, later}
 use Rattle.sheet_record.specs.declared.Record.{Record}
-use Rattle.sheet_record.specs.Kinds.{known, sizeOf}
+use Rattle.sheet_record.specs.Kinds.{kinds, lineOf, busOf, isFirst, isStreamOf, nothing, known, sizeOf}
 use Rattle.sheet_record.proofs.Tables.{both-true, known-within, known-bounds}
-use Rattle.sheet_read.specs.Sheets.{Sheet, streamsOf, sheetOf, fits, countOf, mostInAll, hasMaster, overLimit, metBefore}
-use Rattle.sheet_read.specs.Whole.{placeOf, recordsOf, recordChecks, judge, ended, reading, Outcome}
+use Rattle.sheet_record.proofs.Parts.{first-is, first-kinds, first-bus, pnet-streams, ring-streams, variables}
+use Rattle.sheet_read.specs.Sheets.{Sheet, sheetOf, busIn, fits, countOf, mostInAll, hasMasters, overLimit, metBefore}
+use Rattle.sheet_read.specs.Whole.{placeOf, recordsOf, before, firstStream, recordChecks, judge, ended, reading, Outcome}
 use Rattle.sheet_read.specs.Whole.Outcome.{Read, Not}
 use Rattle.sheet_read.specs.Refusals.{recordAt, streamsBefore, KnownKind, RightKind, Complete, Ranged, InLimits, MetBefore, RefusedWith, Taken, Reached, OnlyFirst, Given}
 use Rattle.sheet_read.specs.Refusals.RightKind.{at-first, behind}
 use Rattle.sheet_read.specs.Refusals.RefusedWith.{unknown, misplaced, cut, out-of-range, one-too-many, met-before}
 use Rattle.sheet_read.specs.Refusals.Given.{empty, at-record, no-stream}
-use Rattle.sheet_read.proofs.Walk.{length-records, length-streams, stream-at, head-at}
-use Rattle.sheet_read.proofs.Cases.{PassesAt, Upto, Stops, upto-none, reading-stops, stops-once, ended-empty, ended-no-stream, ended-sheet}
+use Rattle.sheet_read.proofs.Walk.{head-at}
+use Rattle.sheet_read.proofs.Cases.{PassesAt, Upto, Stops, upto-none, upto-more, upto-front, reading-stops, stops-once, ended-empty, ended-no-stream, ended-sheet}
 use Rattle.sheet_read.proofs.Cases.Stops.{by-record, at-end}
 use Rattle.sheet_read.proofs.Counts.{count-none, count-some}
-use Rattle.sheet_read.proofs.Known.{both-fail, fits-behind, first-fits}
+use Rattle.sheet_read.proofs.Order.{nth, fits-first, fits-behind, stream-of, first-passes, head-some, behind-first, stream-at}
+use Rattle.sheet_read.proofs.Known.{both-fail, settings-none, all-streams}
 
 -- ---- The lines, one by one, as tests
 
@@ -44,12 +46,22 @@ holds : {b : Bool} {P : Type 0} → (b ≡ false → P) → (P → ⊥) → b �
 holds {b = true} h n = refl
 holds {b = false} h n = absurd (n (h refl))
 
+-- the streams of a bus match its first record: 2, 4 and 6 behind 1, 3 and 5
+to-match : (h k : ℕ) → isFirst h ≡ true → isStreamOf (busOf h) k ≡ eqb k (h + 1)
+to-match h k f = ap (λ (b : ℕ). isStreamOf b k) (first-bus h f) ∙ split (first-kinds h f)
+  where
+    split : h ≡ 1 ⊎ h ≡ 3 ⊎ h ≡ 5 → isStreamOf h k ≡ eqb k (h + 1)
+    split (inl e) = rw e (pnet-streams k)
+    split (inr (inl e)) = rw e (ring-streams k)
+    split (inr (inr e)) = rw e (variables k)
+
 -- a later record matches the first
-fits-later : (s : List ℕ) (i : ℕ) → fits (recordsOf s (suc i)) (recordAt s (suc i) .kind) ≡ eqb (recordAt s (suc i) .kind) (recordAt s 0 .kind + 1)
+fits-later : (s : List ℕ) (i : ℕ) → Upto s (suc i) → fits (before s (suc i)) (recordAt s (suc i) .kind) ≡ eqb (recordAt s (suc i) .kind) (recordAt s 0 .kind + 1)
 unfolding placeOf
-fits-later s i =
-    fits-behind (recordsOf s (suc i)) (recordAt s (suc i) .kind) (rw (length-records s (suc i)) (omega arith))
-    ∙ ap (λ (r : Record). eqb (recordAt s (suc i) .kind) (r .kind + 1)) (head-at s i)
+fits-later s i u =
+    let k = recordAt s (suc i) .kind in
+    fits-behind (before s (suc i)) k (head-some s i u)
+    ∙ (ap (λ (r : Record). isStreamOf (busOf (r .kind)) k) (head-at s i) ∙ to-match (recordAt s 0 .kind) k (first-passes s (u .passed 0 (omega arith))))
 
 module _ (s : List ℕ) (i : ℕ) where
   known-then : known (recordAt s i .kind) ≡ true → KnownKind s i
@@ -61,8 +73,8 @@ module _ (s : List ℕ) (i : ℕ) where
   limits-then : overLimit (streamsBefore s i) (recordAt s i) ≡ false → InLimits s i
   unfolding overLimit
   limits-then e =
-      let k = recordAt s i .kind in
-      let b = both-fail (leb (mostInAll k) (length (streamsBefore s i))) (hasMaster k && leb 80 (countOf (recordAt s i .a) (streamsBefore s i))) e in
+      let k = busOf (recordAt s i .kind) in
+      let b = both-fail (leb (mostInAll k) (length (streamsBefore s i))) (hasMasters k && leb 80 (countOf (recordAt s i .a) (streamsBefore s i))) e in
       record {
         in-all = leb-false (mostInAll k) (length (streamsBefore s i)) (b .0);
         of-master = λ h. leb-false 80 (countOf (recordAt s i .a) (streamsBefore s i)) (rw h at (b .1));
@@ -70,56 +82,88 @@ module _ (s : List ℕ) (i : ℕ) where
 
   limits-if : InLimits s i → overLimit (streamsBefore s i) (recordAt s i) ≡ false
   unfolding overLimit
-  limits-if l = rw (lt-leb (mostInAll (recordAt s i .kind)) (length (streamsBefore s i)) (l .in-all)) (split (hasMaster (recordAt s i .kind)) refl)
+  limits-if l = rw (lt-leb (mostInAll (busOf (recordAt s i .kind))) (length (streamsBefore s i)) (l .in-all)) (split (hasMasters (busOf (recordAt s i .kind))) refl)
     where
-      split : (b : Bool) → hasMaster (recordAt s i .kind) ≡ b → (b && leb 80 (countOf (recordAt s i .a) (streamsBefore s i))) ≡ false
+      split : (b : Bool) → hasMasters (busOf (recordAt s i .kind)) ≡ b → (b && leb 80 (countOf (recordAt s i .a) (streamsBefore s i))) ≡ false
       split true h = lt-leb 80 (countOf (recordAt s i .a) (streamsBefore s i)) (l .of-master h)
       split false h = refl
 
+-- the buses of three kinds
+six-bus : busOf 6 ≡ 5
+unfolding busOf lineOf kinds
+six-bus = refl
+
+four-bus : busOf 4 ≡ 3
+unfolding busOf lineOf kinds
+four-bus = refl
+
+two-bus : busOf 2 ≡ 1
+unfolding busOf lineOf kinds
+two-bus = refl
+
 module _ (s : List ℕ) where
-  right-then : (i : ℕ) → fits (recordsOf s i) (recordAt s i .kind) ≡ true → RightKind s i
-  unfolding recordsOf
-  right-then zero e = at-first (first-fits (recordAt s 0 .kind) e)
-  right-then (suc i) e = behind (eqb-true (recordAt s (suc i) .kind) (recordAt s 0 .kind + 1) (sym (fits-later s i) ∙ e))
+  right-then : (i : ℕ) → Upto s i → fits (before s i) (recordAt s i .kind) ≡ true → RightKind s i
+  unfolding before recordsOf
+  right-then zero u e = at-first (first-kinds (recordAt s 0 .kind) (sym (fits-first (recordAt s 0 .kind)) ∙ e))
+  right-then (suc i) u e = behind (eqb-true (recordAt s (suc i) .kind) (recordAt s 0 .kind + 1) (sym (fits-later s i u) ∙ e))
 
-  right-if : (i : ℕ) → RightKind s i → fits (recordsOf s i) (recordAt s i .kind) ≡ true
-  unfolding recordsOf fits
-  right-if zero (at-first (inl e)) = rw e
-  right-if zero (at-first (inr (inl e))) = rw e
-  right-if zero (at-first (inr (inr e))) = rw e
-  right-if (suc i) (behind e) = fits-later s i ∙ eq-eqb (recordAt s (suc i) .kind) (recordAt s 0 .kind + 1) e
+  right-if : (i : ℕ) → Upto s i → RightKind s i → fits (before s i) (recordAt s i .kind) ≡ true
+  unfolding before recordsOf
+  right-if zero u (at-first e) = fits-first (recordAt s 0 .kind) ∙ (first-is (recordAt s 0 .kind) ∙ one e)
+    where
+      one : recordAt s 0 .kind ≡ 1 ⊎ (recordAt s 0 .kind ≡ 3 ⊎ recordAt s 0 .kind ≡ 5) → (eqb (recordAt s 0 .kind) 1 || (eqb (recordAt s 0 .kind) 3 || eqb (recordAt s 0 .kind) 5)) ≡ true
+      one (inl q) = rw q
+      one (inr (inl q)) = rw q
+      one (inr (inr q)) = rw q
+  right-if (suc i) u (behind e) = fits-later s i u ∙ eq-eqb (recordAt s (suc i) .kind) (recordAt s 0 .kind + 1) e
 
-  met-then : (i : ℕ) → metBefore (streamsBefore s i) (recordAt s i) ≡ true → MetBefore s i
-  unfolding metBefore recordsOf streamsOf countOf
-  met-then zero e = absurd (omega (arith, ltb-true 0 0 (both-true (eqb (recordAt s 0 .kind) 6) (ltb 0 0) e .1)))
-  met-then (suc n) e =
+  -- stream j of the streams before record n + 1 is record j + 1
+  earlier-stream : (n j : ℕ) → Upto s (suc n) → j < n → getD (streamsBefore s (suc n)) j nothing ≡ recordAt s (suc j)
+  earlier-stream n j u l =
+      let z : firstStream (before s (suc n)) + j ≡ suc j = omega (arith, ap length (settings-none s n u)) in
+      stream-at s n u j (rw (all-streams s n u) l) ∙ ap (nth s) z
+
+  -- on WorldFIP a record that is right for its position is a variable
+  variable-there : (n : ℕ) → Upto s (suc n) → RightKind s (suc n) → busOf (recordAt s (suc n) .kind) ≡ 5 → recordAt s (suc n) .kind ≡ 6
+  unfolding placeOf
+  variable-there n u (behind e) b = split (first-kinds (recordAt s 0 .kind) (first-passes s (u .passed 0 (omega arith))))
+    where
+      split : recordAt s 0 .kind ≡ 1 ⊎ recordAt s 0 .kind ≡ 3 ⊎ recordAt s 0 .kind ≡ 5 → recordAt s (suc n) .kind ≡ 6
+      split (inl q) = let k : recordAt s (suc n) .kind ≡ 2 = rw q at e in absurd (omega (arith, ap busOf k, two-bus))
+      split (inr (inl q)) = let k : recordAt s (suc n) .kind ≡ 4 = rw q at e in absurd (omega (arith, ap busOf k, four-bus))
+      split (inr (inr q)) = rw q at e
+
+  met-then : (i : ℕ) → Upto s i → RightKind s i → metBefore (streamsBefore s i) (recordAt s i) ≡ true → MetBefore s i
+  unfolding metBefore before sheetOf recordsOf countOf
+  met-then zero u r e = absurd (omega (arith, ltb-true 0 0 (both-true (eqb (busOf (recordAt s 0 .kind)) 5) (ltb 0 0) e .1)))
+  met-then (suc n) u r e =
       let x = recordAt s (suc n) .a in
-      let b = both-true (eqb (recordAt s (suc n) .kind) 6) (ltb 0 (countOf x (streamsBefore s (suc n)))) e in
+      let b = both-true (eqb (busOf (recordAt s (suc n) .kind)) 5) (ltb 0 (countOf x (streamsBefore s (suc n)))) e in
       let w = count-some x (streamsBefore s (suc n)) (ltb-true 0 (countOf x (streamsBefore s (suc n))) (b .1)) in
-      let l : w .0 < n = rw (length-streams s n) at (w .1) in
+      let l : w .0 < n = rw (all-streams s n u) at (w .1) in
       record {
-        variable = eqb-true (recordAt s (suc n) .kind) 6 (b .0);
+        variable = variable-there n u r (eqb-true (busOf (recordAt s (suc n) .kind)) 5 (b .0));
         j = suc (w .0);
         stream = omega arith;
         earlier = omega arith;
-        same = ap (λ (r : Record). r .a) (sym (stream-at s n (w .0) l)) ∙ w .2;
+        same = ap (λ (r : Record). r .a) (sym (earlier-stream n (w .0) u l)) ∙ w .2;
       }
 
-  stands-not : (n x : ℕ) → countOf x (streamsBefore s (suc n)) ≡ 0 → (j : ℕ) → 1 ≤ j → j < suc n → recordAt s j .a ≡ x → ⊥
-  stands-not n x z zero l h e = omega arith
-  stands-not n x z (suc j) l h e =
+  stands-not : (n x : ℕ) → Upto s (suc n) → countOf x (streamsBefore s (suc n)) ≡ 0 → (j : ℕ) → 1 ≤ j → j < suc n → recordAt s j .a ≡ x → ⊥
+  stands-not n x u z zero l h e = omega arith
+  stands-not n x u z (suc j) l h e =
       let k : j < n = omega arith in
-      count-none x (streamsBefore s (suc n)) j z (rw (length-streams s n) k) (ap (λ (r : Record). r .a) (stream-at s n j k) ∙ e)
+      count-none x (streamsBefore s (suc n)) j z (rw (all-streams s n u) k) (ap (λ (r : Record). r .a) (earlier-stream n j u k) ∙ e)
 
-  met-if : (i : ℕ) → MetBefore s i → metBefore (streamsBefore s i) (recordAt s i) ≡ true
+  met-if : (i : ℕ) → Upto s i → MetBefore s i → metBefore (streamsBefore s i) (recordAt s i) ≡ true
   unfolding metBefore
-  met-if zero m = absurd (omega (arith, m .earlier))
-  met-if (suc n) m = rw (eq-eqb (recordAt s (suc n) .kind) 6 (m .variable)) (split (ltb 0 (countOf (recordAt s (suc n) .a) (streamsBefore s (suc n)))) refl)
+  met-if zero u m = absurd (omega (arith, m .earlier))
+  met-if (suc n) u m = rw (eq-eqb (busOf (recordAt s (suc n) .kind)) 5 (ap busOf (m .variable) ∙ six-bus)) (split (ltb 0 (countOf (recordAt s (suc n) .a) (streamsBefore s (suc n)))) refl)
     where
       split : (b : Bool) → ltb 0 (countOf (recordAt s (suc n) .a) (streamsBefore s (suc n))) ≡ b → b ≡ true
       split true q = refl
       split false q =
-          absurd (stands-not n (recordAt s (suc n) .a) (omega (arith, ltb-false 0 (countOf (recordAt s (suc n) .a) (streamsBefore s (suc n))) q)) (m .j) (m .stream) (m .earlier) (m .same))
+          absurd (stands-not n (recordAt s (suc n) .a) u (omega (arith, ltb-false 0 (countOf (recordAt s (suc n) .a) (streamsBefore s (suc n))) q)) (m .j) (m .stream) (m .earlier) (m .same))
 
   -- ---- A record
 
@@ -131,79 +175,87 @@ module _ (s : List ℕ) where
   only a zero l = a
   only a (suc j) l = absurd (omega arith)
 
-  -- taken by the table exactly if it passes
-  taken-then : (i : ℕ) → PassesAt s i → Taken s i
-  taken-then i p =
+  -- taken by the table exactly if it passes, behind records that pass
+  taken-then : (i : ℕ) → Upto s i → PassesAt s i → Taken s i
+  taken-then i u p =
       record {
         is-known = known-then s i (p .is-known);
-        is-right = right-then i (p .is-right);
+        is-right = right-then i u (p .is-right);
         is-complete = record { ends = p .is-whole };
         is-ranged = record { fields = p .is-ranged };
         in-limits = limits-then s i (p .in-limits);
-        is-new = λ m. differ (met-if i m) (p .is-new);
+        is-new = λ m. differ (met-if i u m) (p .is-new);
       }
 
-  taken-if : (i : ℕ) → Taken s i → PassesAt s i
-  taken-if i a =
+  taken-if : (i : ℕ) → Upto s i → Taken s i → PassesAt s i
+  taken-if i u a =
       record {
         is-known = known-if s i (a .is-known);
-        is-right = right-if i (a .is-right);
+        is-right = right-if i u (a .is-right);
         is-whole = a .is-complete .ends;
         is-ranged = a .is-ranged .fields;
         in-limits = limits-if s i (a .in-limits);
-        is-new = fails (met-then i) (a .is-new);
+        is-new = fails (met-then i u (a .is-right)) (a .is-new);
       }
 
   -- refused with a number exactly if that is the verdict
-  refused-with : (i n p : ℕ) → judge s i ≡ Refused n p → (p ≡ placeOf s i) × RefusedWith s i n
+  refused-with : (i n p : ℕ) → Upto s i → judge s i ≡ Refused n p → (p ≡ placeOf s i) × RefusedWith s i n
   unfolding judge recordChecks
-  refused-with i n p e = line (refused-then _ n p e)
+  refused-with i n p u e = line (refused-then _ n p e)
     where
-      line : {m q : ℕ} → Applies (recordChecks s (recordsOf s i) (placeOf s i) (recordAt s i)) m q → (q ≡ placeOf s i) × RefusedWith s i m
+      line : {m q : ℕ} → Applies (recordChecks s (before s i) (placeOf s i) (recordAt s i)) m q → (q ≡ placeOf s i) × RefusedWith s i m
       line (here e₂) = (refl, unknown (λ k. differ (known-if s i k) (not-true _ e₂)))
-      line (later e₂ (here e₃)) = (refl, misplaced (known-then s i (not-false _ e₂)) (λ r. differ (right-if i r) (not-true _ e₃)))
+      line (later e₂ (here e₃)) = (refl, misplaced (known-then s i (not-false _ e₂)) (λ r. differ (right-if i u r) (not-true _ e₃)))
       line (later e₂ (later e₃ (here e₁))) =
-          (refl, cut (known-then s i (not-false _ e₂)) (right-then i (not-false _ e₃)) (λ c. differ e₁ (le-ltb _ _ (c .ends))))
+          (refl, cut (known-then s i (not-false _ e₂)) (right-then i u (not-false _ e₃)) (λ c. differ e₁ (le-ltb _ _ (c .ends))))
       line (later e₂ (later e₃ (later e₁ (here e₄)))) = (
         refl,
-        out-of-range (known-then s i (not-false _ e₂)) (right-then i (not-false _ e₃)) (record { ends = ltb-false _ _ e₁ })
+        out-of-range (known-then s i (not-false _ e₂)) (right-then i u (not-false _ e₃)) (record { ends = ltb-false _ _ e₁ })
             (λ r. differ (r .fields) (not-true _ e₄)),
       )
       line (later e₂ (later e₃ (later e₁ (later e₄ (here e₅))))) = (
         refl,
-        one-too-many (known-then s i (not-false _ e₂)) (right-then i (not-false _ e₃)) (record { ends = ltb-false _ _ e₁ })
+        one-too-many (known-then s i (not-false _ e₂)) (right-then i u (not-false _ e₃)) (record { ends = ltb-false _ _ e₁ })
             (record { fields = not-false _ e₄ }) (λ l. differ e₅ (limits-if s i l)),
       )
-      line (later e₂ (later e₃ (later e₁ (later e₄ (later e₅ (here e₇)))))) = (
-        refl,
-        met-before (known-then s i (not-false _ e₂)) (right-then i (not-false _ e₃)) (record { ends = ltb-false _ _ e₁ })
-            (record { fields = not-false _ e₄ }) (limits-then s i e₅) (met-then i e₇),
-      )
+      line (later e₂ (later e₃ (later e₁ (later e₄ (later e₅ (here e₇)))))) =
+          let r = right-then i u (not-false _ e₃) in (
+            refl,
+            met-before (known-then s i (not-false _ e₂)) r (record { ends = ltb-false _ _ e₁ })
+                (record { fields = not-false _ e₄ }) (limits-then s i e₅) (met-then i u r e₇),
+          )
 
-  applies-for : {i n : ℕ} → RefusedWith s i n → Applies (recordChecks s (recordsOf s i) (placeOf s i) (recordAt s i)) n (placeOf s i)
+  applies-for : {i n : ℕ} → Upto s i → RefusedWith s i n → Applies (recordChecks s (before s i) (placeOf s i) (recordAt s i)) n (placeOf s i)
   unfolding recordChecks
-  applies-for {i} (unknown k) = here (ap not (fails (known-then s i) k))
-  applies-for {i} (misplaced k r) = later (ap not (known-if s i k)) (here (ap not (fails (right-then i) r)))
-  applies-for {i} (cut k r c) = later (ap not (known-if s i k)) (later (ap not (right-if i r)) (here (holds (λ e. record { ends = ltb-false _ _ e }) c)))
-  applies-for {i} (out-of-range k r c f) =
-      later (ap not (known-if s i k)) (later (ap not (right-if i r)) (later (le-ltb _ _ (c .ends)) (here (ap not (fails (λ e. record { fields = e }) f)))))
-  applies-for {i} (one-too-many k r c f l) =
-      later (ap not (known-if s i k)) (later (ap not (right-if i r)) (later (le-ltb _ _ (c .ends)) (later (ap not (f .fields)) (here (holds (limits-then s i) l)))))
-  applies-for {i} (met-before k r c f l m) =
-      later (ap not (known-if s i k)) (later (ap not (right-if i r)) (later (le-ltb _ _ (c .ends)) (later (ap not (f .fields)) (later (limits-if s i l) (here (met-if i m))))))
+  applies-for {i} u (unknown k) = here (ap not (fails (known-then s i) k))
+  applies-for {i} u (misplaced k r) = later (ap not (known-if s i k)) (here (ap not (fails (right-then i u) r)))
+  applies-for {i} u (cut k r c) = later (ap not (known-if s i k)) (later (ap not (right-if i u r)) (here (holds (λ e. record { ends = ltb-false _ _ e }) c)))
+  applies-for {i} u (out-of-range k r c f) =
+      later (ap not (known-if s i k)) (later (ap not (right-if i u r)) (later (le-ltb _ _ (c .ends)) (here (ap not (fails (λ e. record { fields = e }) f)))))
+  applies-for {i} u (one-too-many k r c f l) =
+      later (ap not (known-if s i k)) (later (ap not (right-if i u r)) (later (le-ltb _ _ (c .ends)) (later (ap not (f .fields)) (here (holds (limits-then s i) l)))))
+  applies-for {i} u (met-before k r c f l m) =
+      later (ap not (known-if s i k)) (later (ap not (right-if i u r)) (later (le-ltb _ _ (c .ends)) (later (ap not (f .fields)) (later (limits-if s i l) (here (met-if i u m))))))
 
-  refused-for : {i n : ℕ} → RefusedWith s i n → judge s i ≡ Refused n (placeOf s i)
+  refused-for : {i n : ℕ} → Upto s i → RefusedWith s i n → judge s i ≡ Refused n (placeOf s i)
   unfolding judge
-  refused-for r = refused-if (applies-for r)
+  refused-for u r = refused-if (applies-for u r)
 
   -- ---- The whole sheet
 
   -- records that the table takes are those that reading goes on behind
   upto-then : (i : ℕ) → Upto s i → (j : ℕ) → j < i → Taken s j
-  upto-then i u j l = taken-then j (u .passed j l)
+  upto-then i u j l = taken-then j (upto-front s i j (omega arith) u) (u .passed j l)
 
   upto-if : (i : ℕ) → ((j : ℕ) → j < i → Taken s j) → Upto s i
-  upto-if i a = record { inside = λ j l. complete-inside j (a j l .is-complete); passed = λ j l. taken-if j (a j l) }
+  upto-if zero a = upto-none s
+  upto-if (suc i) a =
+      let u = upto-if i (λ j l. a j (omega arith)) in
+      let t = a i (omega arith) in
+      upto-more s i u (complete-inside i (t .is-complete)) (taken-if i u t)
+
+  first-alone : (u : Upto s 1) → ended s 1 ≡ Not 6 (length s)
+  first-alone u = ended-no-stream s 1 (head-some s 0 u) (ap length (behind-first s (u .passed 0 (omega arith)) .1))
 
   at-its-end : (i n p : ℕ) → Upto s i → placeOf s i ≡ length s → ended s i ≡ Not n p → Given s n p
   unfolding placeOf
@@ -213,12 +265,13 @@ module _ (s : List ℕ) where
       let ep : 0 ≡ p = cc in
       rw (← en, ← ep) (empty (sym l))
   at-its-end (suc zero) n p u l e =
-      let f : Not 6 (length s) ≡ Not n p = sym (ended-no-stream s) ∙ e in
+      let f : Not 6 (length s) ≡ Not n p = sym (first-alone u) ∙ e in
       let en : 6 ≡ n = cc in
       let ep : length s ≡ p = cc in
       rw (← en, ← ep) (no-stream (record { taken = upto-then 1 u 0 (omega arith); ends = l }))
   at-its-end (suc (suc i)) n p u l e =
-      let f : Read (sheetOf (recordsOf s (suc (suc i)))) ≡ Not n p = sym (ended-sheet s (suc i) (λ z. omega arith)) ∙ e in
+      let some : length (before s (suc (suc i)) .streams) ≡ 0 → ⊥ = λ z. omega (arith, all-streams s (suc i) u) in
+      let f : Read (before s (suc (suc i))) ≡ Not n p = sym (ended-sheet s (suc (suc i)) (head-some s (suc i) u) some) ∙ e in
       let z : _≡_ {A = ℕ} 0 1 = cc in
       absurd (omega arith)
 
@@ -228,7 +281,7 @@ module _ (s : List ℕ) where
     where
       by : Stops s (reading s) → Given s n p
       by (by-record i m q u l j o) =
-          let r = refused-with i m q j in
+          let r = refused-with i m q u j in
           let f : Not m q ≡ Not n p = sym o ∙ e in
           let en : m ≡ n = cc in
           let ep : q ≡ p = cc in
@@ -241,9 +294,12 @@ module _ (s : List ℕ) where
   unfolding placeOf
   given-if (empty e) = stops-once s (at-end 0 (upto-none s) (sym e) refl) ∙ ended-empty s
   given-if (at-record {i} {n} {p} h r) =
-      let j : judge s i ≡ Refused n p = rw (h .starts) (refused-for r) in
-      stops-once s (by-record i n p (upto-if i (h .before)) (rw (← h .starts) (h .inside)) j refl)
-  given-if (no-stream o) = stops-once s (at-end 1 (upto-if 1 (only (o .taken))) (o .ends) refl) ∙ ended-no-stream s
+      let u = upto-if i (h .before) in
+      let j : judge s i ≡ Refused n p = rw (h .starts) (refused-for u r) in
+      stops-once s (by-record i n p u (rw (← h .starts) (h .inside)) j refl)
+  given-if (no-stream o) =
+      let u = upto-if 1 (only (o .taken)) in
+      stops-once s (at-end 1 u (o .ends) refl) ∙ first-alone u
 
   -- ---- Both ways
 

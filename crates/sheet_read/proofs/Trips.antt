@@ -1,6 +1,6 @@
 -- Round trips: records that make a right sheet are written and read back as they were; and the records of a sheet that reads without
 -- refusal, written again, give its bytes. Assumes nothing.
-use mathlib.Core.Path.{_≡_, refl, sym, ap, _∙_}
+use mathlib.Core.Path.{_≡_, refl, sym, ap, _∙_, subst}
 use mathlib.Core.Bool.{true}
 use mathlib.Core.List.{List, [], _∷_, _++_, append-assoc, append-nil}
 use mathlib.Core.Logic.{_⊎_, inl, inr}
@@ -11,36 +11,51 @@ use borrow.Author.Tests.{eqb-true}
 use lib.ListN.{length, getD, take, drop, length-append, length-take}
 use lib.Seq.{split-at, take-suc, take-length, take-add}
 use Rattle.sheet_record.specs.declared.Record.{Record}
-use Rattle.sheet_record.specs.Kinds.{kinds, fieldsOf, limit, ranged, known, sizeOf, decode, encode, inRange, nothing}
-use Rattle.sheet_write.specs.Writing.{mostMasters, mostMessage}
+use Rattle.sheet_record.specs.declared.Given.{Given}
+use Rattle.sheet_record.specs.Kinds.{kinds, lineOf, fieldsOf, limit, ranged, busOf, isFirst, isStreamOf, written, sizeOf, decode, encode, inRange, nothing}
+use Rattle.sheet_write.specs.Writing.{greatest}
+use Rattle.sheet_record.proofs.Parts.{first-kinds, first-bus, variables, written-is}
 use Rattle.sheet_record.proofs.Ranges.{segment-ranges, ring-ranges, in-range-mono}
 use Rattle.sheet_write.proofs.Trips.{length-encode, decode-encode, encode-decode, whole-if}
-use Rattle.sheet_read.specs.Sheets.{Sheet, headOf, streamsOf, sheetOf}
-use Rattle.sheet_read.specs.Whole.{placeOf, recordsOf, ended, reading}
+use Rattle.sheet_read.specs.Sheets.{Sheet, headOf, sheetOf, having}
+use Rattle.sheet_read.specs.Whole.{placeOf, recordsOf, before, ended, reading}
 use Rattle.sheet_read.specs.Whole.Outcome.{Read}
 use Rattle.sheet_read.specs.Records.{recordsIn, bytesOf, Follows, Right}
 use Rattle.sheet_read.proofs.Walk.{length-records, record-at, records-front}
 use Rattle.sheet_read.proofs.Cases.{PassesAt, Upto, upto-front, stops-once, ended-sheet}
 use Rattle.sheet_read.proofs.Cases.Stops.{at-end}
 use Rattle.sheet_read.proofs.Judged.{size-some}
-use Rattle.sheet_read.proofs.Known.{ReadsTo, reading-whole, fits-behind, first-fits}
+use Rattle.sheet_read.proofs.Order.{fits-first, fits-behind, first-some, head-some, in-order}
+use Rattle.sheet_read.proofs.Known.{ReadsTo, reading-whole}
 
 -- ---- Ranges at their greatest
 
--- what is in range behind a first record is in range for the writer
-variable-ranged : (top long : ℕ) (r : Record) → r .kind ≡ 6 → inRange top long r ≡ true → inRange mostMasters mostMessage r ≡ true
-unfolding inRange ranged limit fieldsOf kinds
-variable-ranged top long r e h = rw e (rw e at h)
+-- what a first record is given, and what it sets
+abbrev no-limits : Given
+no-limits = record { masters = 0; message = 0 }
 
-pub ranged-for-writer : (h r : Record) → h .kind ≡ 1 ⊎ h .kind ≡ 3 ⊎ h .kind ≡ 5 → inRange 0 0 h ≡ true → r .kind ≡ h .kind + 1 → inRange (h .a) (h .c) r ≡ true
-    → inRange mostMasters mostMessage r ≡ true
-ranged-for-writer h r (inl e) i k j =
-    let w = segment-ranges 0 0 h i e in
-    in-range-mono (h .a) mostMasters (h .c) mostMessage r (w .masters .most) (omega (arith, w .no-c)) j
-ranged-for-writer h r (inr (inl e)) i k j =
-    let w = ring-ranges 0 0 h i e in
-    in-range-mono (h .a) mostMasters (h .c) mostMessage r (w .masters .most) (w .message .most) j
-ranged-for-writer h r (inr (inr e)) i k j = variable-ranged (h .a) (h .c) r (omega arith) j
+abbrev limits-of : Record → Given
+limits-of h = record { masters = h .a; message = h .c }
+
+-- what is in range behind a first record is in range for the writer
+variable-ranged : (g : Given) (r : Record) → r .kind ≡ 6 → inRange g r ≡ true → inRange greatest r ≡ true
+unfolding inRange ranged limit fieldsOf lineOf kinds
+variable-ranged g r e h = rw e (rw e at h)
+
+pub ranged-for-writer : (h r : Record) → isFirst (h .kind) ≡ true → inRange no-limits h ≡ true → isStreamOf (busOf (h .kind)) (r .kind) ≡ true → inRange (limits-of h) r ≡ true
+    → inRange greatest r ≡ true
+ranged-for-writer h r f i its j = split (first-kinds (h .kind) f)
+  where
+    split : h .kind ≡ 1 ⊎ h .kind ≡ 3 ⊎ h .kind ≡ 5 → inRange greatest r ≡ true
+    split (inl e) =
+        let w = segment-ranges no-limits h i e in
+        in-range-mono (limits-of h) greatest r (record { masters = w .masters .most; message = omega (arith, w .no-c) }) j
+    split (inr (inl e)) =
+        let w = ring-ranges no-limits h i e in
+        in-range-mono (limits-of h) greatest r (record { masters = w .masters .most; message = w .message .most }) j
+    split (inr (inr e)) =
+        let its' : isStreamOf 5 (r .kind) ≡ true = rw (first-bus (h .kind) f, e) at its in
+        variable-ranged (limits-of h) r (eqb-true (r .kind) 6 (sym (variables (r .kind)) ∙ its')) j
 
 -- ---- Bytes of records
 
@@ -61,8 +76,8 @@ bytes-split rs i l = ap bytesOf (split-at rs i nothing l) ∙ bytes-append (take
 -- ---- Written, then read
 
 -- the first of some records
-head-front : (rs : List Record) (i : ℕ) → headOf (take (suc i) rs) ≡ headOf rs
-unfolding headOf
+head-front : (rs : List Record) (i : ℕ) → sheetOf (take (suc i) rs) .head ≡ getD rs 0 nothing
+unfolding sheetOf headOf
 head-front [] i = refl
 head-front (r ∷ rs) i = refl
 
@@ -71,28 +86,42 @@ module _ (rs : List Record) (right : Right rs) where
   at : ℕ → Record
   at i = getD rs i nothing
 
+  -- there is a first one
+  some : 1 ≤ length rs
+  unfolding sheetOf having
+  some = split rs (right .some)
+    where
+      split : (qs : List Record) → 1 ≤ length (sheetOf qs .streams) → 1 ≤ length qs
+      split [] l = l
+      split (q ∷ qs) l = omega arith
+
   first-right : Follows [] (at 0)
   unfolding at
-  first-right = right .each 0 (omega (arith, right .some))
+  first-right = right .each 0 (omega (arith, some))
 
-  follows-later : (i : ℕ) → suc i < length rs → (at (suc i) .kind ≡ at 0 .kind + 1) × (inRange (at 0 .a) (at 0 .c) (at (suc i)) ≡ true)
-  unfolding at headOf
+  stands-first : isFirst (at 0 .kind) ≡ true
+  stands-first = sym (fits-first (at 0 .kind)) ∙ first-right .is-right
+
+  ranged-first : inRange no-limits (at 0) ≡ true
+  unfolding sheetOf headOf
+  ranged-first = first-right .is-ranged
+
+  follows-later : (i : ℕ) → suc i < length rs → (isStreamOf (busOf (at 0 .kind)) (at (suc i) .kind) ≡ true) × (inRange (limits-of (at 0)) (at (suc i)) ≡ true)
+  unfolding at
   follows-later i l =
       let f = right .each (suc i) l in
-      let n : 1 ≤ length (take (suc i) rs) = omega (arith, length-take (suc i) rs) in
-      let e = sym (fits-behind (take (suc i) rs) (at (suc i) .kind) n) ∙ f .is-right in
-      (eqb-true (at (suc i) .kind) (at 0 .kind + 1) (rw (head-front rs i) at e), rw (head-front rs i) at (f .is-ranged))
+      let h = head-front rs i in
+      let e = sym (fits-behind (sheetOf (take (suc i) rs)) (at (suc i) .kind) (λ z. first-some (at 0 .kind) stands-first (ap (λ (r : Record). r .kind) (sym h) ∙ z))) ∙ f .is-right in
+      (rw h at e, rw h at (f .is-ranged))
 
   -- every record may be written
-  ranged-at : (i : ℕ) → i < length rs → inRange mostMasters mostMessage (at i) ≡ true
-  unfolding headOf
-  ranged-at zero l = in-range-mono 0 mostMasters 0 mostMessage (at 0) (omega arith) (omega arith) (first-right .is-ranged)
-  ranged-at (suc i) l =
-      ranged-for-writer (at 0) (at (suc i)) (first-fits (at 0 .kind) (first-right .is-right)) (first-right .is-ranged) (follows-later i l .0) (follows-later i l .1)
+  ranged-at : (i : ℕ) → i < length rs → inRange greatest (at i) ≡ true
+  ranged-at zero l = in-range-mono no-limits greatest (at 0) (record { masters = omega arith; message = omega arith }) ranged-first
+  ranged-at (suc i) l = ranged-for-writer (at 0) (at (suc i)) stands-first ranged-first (follows-later i l .0) (follows-later i l .1)
 
-  pub writable : (i : ℕ) → i < length rs → (known (getD rs i nothing .kind) ≡ true) × (inRange mostMasters mostMessage (getD rs i nothing) ≡ true)
+  pub writable : (i : ℕ) → i < length rs → (written (getD rs i nothing .kind) ≡ true) × (inRange greatest (getD rs i nothing) ≡ true)
   unfolding at
-  writable i l = (right .each i l .is-known, ranged-at i l)
+  writable i l = (written-is (getD rs i nothing .kind) ∙ right .each i l .is-known, ranged-at i l)
 
   s : List ℕ
   s = bytesOf rs
@@ -130,6 +159,10 @@ module _ (rs : List Record) (right : Right rs) where
       next : {qs : List Record} {r : Record} → qs ≡ take i rs → r ≡ at i → qs ++ (r ∷ []) ≡ take (suc i) rs
       next e q = rw (e, q) (sym (take-suc rs i nothing l))
 
+  before-at : (i : ℕ) → i ≤ length rs → before s i ≡ sheetOf (take i rs)
+  unfolding before
+  before-at i l = ap sheetOf (records-at i l)
+
   -- it ends within the sheet
   ends-at : (i : ℕ) → i < length rs → placeOf s i + sizeOf (at i .kind) ≤ length s
   unfolding s at
@@ -143,7 +176,7 @@ module _ (rs : List Record) (right : Right rs) where
   passes-at i l =
       let f = right .each i l in
       let e = record-at' i l in
-      let q = records-at i (omega arith) in
+      let q : before s i ≡ sheetOf (take i rs) = before-at i (omega arith) in
       record {
         is-known = rw e (f .is-known);
         is-right = rw (e, q) (f .is-right);
@@ -168,13 +201,15 @@ module _ (rs : List Record) (right : Right rs) where
   -- records that make a right sheet read back as they were written
   pub written-reads : reading (bytesOf rs) ≡ Read (sheetOf rs)
   unfolding s
-  written-reads = stops-once s (at-end (length rs) upto-all whole-place refl) ∙ last (length rs) refl (right .some)
+  written-reads = stops-once s (at-end (length rs) upto-all whole-place refl) ∙ last (length rs) refl
     where
-      last : (n : ℕ) → length rs ≡ n → 2 ≤ n → ended s (length rs) ≡ Read (sheetOf rs)
-      last zero e l = absurd (omega arith)
-      last (suc n) e l =
-          let q : recordsOf s (suc n) ≡ rs = ap (recordsOf s) (sym e) ∙ (records-at (length rs) (omega arith) ∙ take-length rs) in
-          ap (ended s) e ∙ (ended-sheet s n (λ z. omega arith) ∙ ap (λ (qs : List Record). Read (sheetOf qs)) q)
+      last : (n : ℕ) → length rs ≡ n → ended s (length rs) ≡ Read (sheetOf rs)
+      last zero e = absurd (omega (arith, some))
+      last (suc n) e =
+          let q : before s (length rs) ≡ sheetOf rs = before-at (length rs) (omega arith) ∙ ap sheetOf (take-length rs) in
+          let h : before s (length rs) .head .kind ≡ 0 → ⊥ = λ z. head-some s n (subst (Upto s) e upto-all) (ap (λ (x : ℕ). before s x .head .kind) (sym e) ∙ z) in
+          let t : length (before s (length rs) .streams) ≡ 0 → ⊥ = λ z. omega (arith, right .some, ap (λ (x : Sheet). length (x .streams)) q) in
+          ended-sheet s (length rs) h t ∙ ap Read q
 
 -- ---- Read, then written
 
@@ -194,14 +229,8 @@ bytes-front s b (suc i) u = next (bytes-front s b i (upto-front s (suc i) i (ome
         → bytesOf (recordsOf s i ++ (decode s (placeOf s i) ∷ [])) ≡ take (placeOf s i + sizeOf (getD s (placeOf s i) 0)) s
     next e = bytes-more (recordsOf s i) (decode s (placeOf s i)) ∙ (rw (e, own) (sym (take-add (placeOf s i) (sizeOf (getD s (placeOf s i) 0)) s)))
 
--- the records of what some records say
-records-in : (rs : List Record) → 1 ≤ length rs → recordsIn (sheetOf rs) ≡ rs
-unfolding recordsIn sheetOf headOf streamsOf
-records-in [] l = absurd (not-suc-le-zero l)
-records-in (r ∷ rs) l = refl
-
 records-read : (s : List ℕ) (S : Sheet) (r : ReadsTo s S) → recordsIn S ≡ recordsOf s (suc (r .m))
-records-read s S r = ap recordsIn (r .says) ∙ records-in (recordsOf s (suc (r .m))) (omega (arith, length-records s (suc (r .m))))
+records-read s S r = ap recordsIn (r .says) ∙ in-order s (r .m) (r .upto)
 
 -- a sheet that reads without refusal is its records, written one after the other
 pub read-written : (s : List ℕ) (S : Sheet) → ((i : ℕ) → getD s i 0 < 256) → reading s ≡ Read S → bytesOf (recordsIn S) ≡ s
@@ -210,7 +239,8 @@ read-written s S b e =
     ap bytesOf (records-read s S r) ∙ (bytes-front s b (suc (r .m)) (r .upto) ∙ (ap (λ (n : ℕ). take n s) (r .ends) ∙ take-length s))
 
 -- and they make a right sheet
-records-right : (s : List ℕ) (m : ℕ) → 1 ≤ m → Upto s (suc m) → Right (recordsOf s (suc m))
+records-right : (s : List ℕ) (m : ℕ) → 1 ≤ length (before s (suc m) .streams) → Upto s (suc m) → Right (recordsOf s (suc m))
+unfolding before
 records-right s m l u =
     record {
       each =
@@ -219,10 +249,10 @@ records-right s m l u =
           let p = u .passed i k in
           rw (records-front s (suc m) i (omega arith), record-at s (suc m) i k)
           (record { is-known = p .is-known; is-right = p .is-right; is-ranged = p .is-ranged; in-limits = p .in-limits; is-new = p .is-new });
-      some = omega (arith, length-records s (suc m));
+      some = l;
     }
 
 pub read-right : (s : List ℕ) (S : Sheet) → reading s ≡ Read S → Right (recordsIn S)
 read-right s S e =
     let r = reading-whole s S e in
-    rw (records-read s S r) (records-right s (r .m) (r .some) (r .upto))
+    rw (records-read s S r) (records-right s (r .m) (subst (λ (x : Sheet). 1 ≤ length (x .streams)) (r .says) (r .some)) (r .upto))

@@ -13,11 +13,11 @@ use Rattle.common.specs.Checks.Verdict.{Passed, Refused}
 use Rattle.sheet_record.specs.declared.Record.{Record}
 use Rattle.sheet_write.specs.declared.Put.the-variants as put
 use Rattle.sheet_record.specs.Numbers.{pasted}
-use Rattle.sheet_record.specs.Kinds.{known, sizeOf, encode, inRange, nothing}
-use Rattle.sheet_write.specs.Writing.{mostMasters, mostMessage, writeChecks, putBy, pastedBy, putAnswer, putBytes}
+use Rattle.sheet_record.specs.Kinds.{written, sizeOf, encode, inRange, nothing}
+use Rattle.sheet_write.specs.Writing.{greatest, writeChecks, putBy, pastedBy, putAnswer, putBytes}
 use Rattle.sheet_record.proofs.Numbers.{paste-next}
 use Rattle.sheet_write.proofs.Trips.{length-encode}
-use Rattle.sheet_write.proofs.Writing.{written, room-written}
+use Rattle.sheet_write.proofs.Writing.{written-stands, room-written}
 use Rattle.sheet_read.specs.Sheets.{Sheet, sheetOf}
 use Rattle.sheet_read.specs.Whole.{reading}
 use Rattle.sheet_read.specs.Whole.Outcome.{Read}
@@ -45,7 +45,7 @@ pub writes-leave : {b b' : List ℕ} {at end : ℕ} {rs : List Record} → Write
 unfolding bytesOf
 writes-leave {b} {at = at} none = record { holds = sym (rw add-zero (take-append-drop at b)); ends = sym (add-zero at) }
 writes-leave {b} {at = at} (next {e = e} {r = r} {rs = rs} q w) =
-    let s = written b at r e q in
+    let s = written-stands b at r e q in
     let n = length-encode r in
     let h = writes-leave w in
     record {
@@ -55,8 +55,8 @@ writes-leave {b} {at = at} (next {e = e} {r = r} {rs = rs} q w) =
 
 -- ---- What can be written
 
--- records of known kind and in range for the writer, and room for their bytes: no one is refused
-write-all : (rs : List Record) → ((i : ℕ) → i < length rs → (known (getD rs i nothing .kind) ≡ true) × (inRange mostMasters mostMessage (getD rs i nothing) ≡ true))
+-- records of a kind that is written and in range for the writer, and room for their bytes: no one is refused
+write-all : (rs : List Record) → ((i : ℕ) → i < length rs → (written (getD rs i nothing .kind) ≡ true) × (inRange greatest (getD rs i nothing) ≡ true))
     → (b : List ℕ) (at : ℕ) → at + length (bytesOf rs) ≤ length b → (b' : List ℕ) × (end : ℕ) × Writes b at rs b' end
 unfolding bytesOf
 write-all [] ok b at room = (b, at, none)
@@ -65,7 +65,7 @@ write-all (r ∷ rs) ok b at room =
     let n = length-encode r in
     let m = length-append (encode r) (bytesOf rs) in
     let w = room-written b at r (o .0) (o .1) (omega arith) in
-    let s = written b at r (at + sizeOf (r .kind)) (sym (w .0)) in
+    let s = written-stands b at r (at + sizeOf (r .kind)) (sym (w .0)) in
     let t = write-all rs (λ i l. ok (suc i) (omega arith)) (putBytes b at r) (at + sizeOf (r .kind)) (omega (arith, s .same-length)) in
     (t .0, t .1, next (sym (w .0)) (t .2))
 

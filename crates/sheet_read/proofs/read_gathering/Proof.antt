@@ -17,11 +17,11 @@ shared-slice-read-kind c = search needs
 record-at-requires : tie.Need-record-at-requires
 record-at-requires c κs = search needs
 
+is-first-requires : tie.Need-is-first-requires
+is-first-requires c κs = search needs
+
 in-range-requires : tie.Need-in-range-requires
 in-range-requires c κs = search needs
-
-begins-requires : tie.Need-begins-requires
-begins-requires c κs = search needs
 
 own-no-requires : tie.Need-own-no-requires
 own-no-requires c κs = search needs
@@ -29,13 +29,13 @@ own-no-requires c κs = search needs
 -- what is met first
 meets : (c : tie.After-own-no)
     → MeetsFirst (c .before .before .before .before .before .before .before .before .before .args .s .now) (c .before .before .before .before .before .record-at .result)
-    (c .before .before .before .in-range .result) (c .before .before .begins .result) (c .own-no .result)
+    (c .before .before .in-range .result) (c .before .before .before .is-first .result) (c .own-no .result)
 meets c =
     record {
       some = omega arith;
       is-met = c .before .before .before .before .before .record-at .ensures;
-      is-ranged = c .before .before .before .in-range .ensures;
-      is-right = c .before .before .begins .ensures;
+      is-right = c .before .before .before .is-first .ensures;
+      is-ranged = c .before .before .in-range .ensures;
       is-own = c .own-no .ensures;
     }
 
@@ -58,8 +58,8 @@ read-gathering-spec =
     returns
     shared-slice-read-kind
     record-at-requires
+    is-first-requires
     in-range-requires
-    begins-requires
     own-no-requires
     returns-2
     read-streams-requires
