@@ -13,11 +13,11 @@ use lib.ListN.{length, getD}
 use Rattle.common.specs.Checks.{verdict}
 use Rattle.common.specs.Sums.{upto, firstOf}
 use Rattle.sheet_record.specs.declared.Record.{Record}
-use Rattle.sheet_record.specs.Kinds.{kinds, fieldsOf, widths, sizeOf, known, fieldAt, decode, encode, body, limit, within, ranged, inRange, nothing}
+use Rattle.sheet_record.specs.Kinds.{kinds, lineOf, fieldsOf, busOf, partOf, isSetting, isStream, widths, sizeOf, known, fieldAt, decode, encode, body, limit, within, ranged, inRange, nothing}
 use Rattle.sheet_record.specs.Numbers.{be, digits}
 use Rattle.sheet_record.proofs.Tables.{both-true}
-use Rattle.sheet_read.specs.Sheets.{Sheet, streamsOf, headOf, sheetOf, fits, countOf, mostInAll, hasMaster, overLimit, metBefore}
-use Rattle.sheet_read.specs.Whole.{placeOf, recordsOf, recordChecks, endChecks, judge, ended, readFrom, reading}
+use Rattle.sheet_read.specs.Sheets.{Sheet, headOf, having, sheetOf, fits, ofKind, countOf, mostInAll, hasMasters, overLimit, metBefore}
+use Rattle.sheet_read.specs.Whole.{placeOf, recordsOf, before, recordChecks, endChecks, judge, ended, readFrom, reading}
 use Rattle.sheet_read.specs.Whole.Outcome.{Read}
 use Rattle.sheet_read.specs.Records.{recordsIn, bytesOf}
 use Rattle.pnet_rules.specs.Segment.{Segment, segmentOf, streamAt, owns, count, longest, hold, turnBy, boundBy, bound, late}
@@ -28,12 +28,13 @@ use Rattle.demands.proofs.Demand3.{written, written-is-bound, some-run-
 -- ---- The sheet
 
 abbrev stream : ℕ → Record
-stream m = record { kind = 2; a = m; b = 203; c = 100000; d = 2000 }
+stream m = record { kind = 2; a = m; b = 203; c = 100000; d = 2000; e = 0 }
 
 unfoldable pub sheet : Sheet
 sheet =
     record {
-      head = record { kind = 1; a = 4; b = 0; c = 0; d = 0 };
+      head = record { kind = 1; a = 4; b = 0; c = 0; d = 0; e = 0 };
+      settings = [];
       streams = stream 1 ∷ stream 1 ∷ stream 2 ∷ stream 2 ∷ stream 3 ∷ stream 3 ∷ stream 4 ∷ stream 4 ∷ [];
     }
 
@@ -50,7 +51,7 @@ abbrev pub page : Segment
 page = segmentOf sheet
 
 pub accepts : planned bytes (length lent) (length lent) (length lent) ≡ Read sheet
-unfolding sheet bytes recordsIn bytesOf encode body digits planned planChecks verdict firstLate firstOf late segmentOf streamAt owns count longest hold turnBy boundBy bound upto reading readFrom ended judge recordChecks endChecks recordsOf placeOf streamsOf headOf sheetOf fits countOf mostInAll hasMaster overLimit metBefore kinds fieldsOf widths sizeOf known fieldAt decode limit within ranged inRange be
+unfolding sheet bytes recordsIn bytesOf encode body digits planned planChecks verdict firstLate firstOf late segmentOf streamAt owns count longest hold turnBy boundBy bound upto reading readFrom ended judge recordChecks endChecks recordsOf placeOf headOf having sheetOf before fits ofKind countOf mostInAll hasMasters overLimit metBefore kinds lineOf fieldsOf busOf partOf isSetting isStream widths sizeOf known fieldAt decode limit within ranged inRange be
 accepts = refl
 
 -- ---- It is even

@@ -57,22 +57,22 @@ worldfip rs room = tableFigures (fip.planOf (reading (bytesOf rs)) (length room)
 -- ---- Records
 
 abbrev pub segment : ℕ → Record
-segment n = record { kind = 1; a = n; b = 0; c = 0; d = 0 }
+segment n = record { kind = 1; a = n; b = 0; c = 0; d = 0; e = 0 }
 
 abbrev pub pnetStream : ℕ → ℕ → ℕ → ℕ → Record
-pnetStream master cycle spacing deadline = record { kind = 2; a = master; b = cycle; c = spacing; d = deadline }
+pnetStream master cycle spacing deadline = record { kind = 2; a = master; b = cycle; c = spacing; d = deadline; e = 0 }
 
 abbrev pub ringHead : ℕ → ℕ → ℕ → Record
-ringHead n latency longest = record { kind = 3; a = n; b = latency; c = longest; d = 0 }
+ringHead n latency longest = record { kind = 3; a = n; b = latency; c = longest; d = 0; e = 0 }
 
 abbrev pub ringStream : ℕ → ℕ → ℕ → Record
-ringStream master cycle deadline = record { kind = 4; a = master; b = cycle; c = deadline; d = 0 }
+ringStream master cycle deadline = record { kind = 4; a = master; b = cycle; c = deadline; d = 0; e = 0 }
 
 abbrev pub exchange : ℕ → Record
-exchange e = record { kind = 5; a = e; b = 0; c = 0; d = 0 }
+exchange e = record { kind = 5; a = e; b = 0; c = 0; d = 0; e = 0 }
 
 abbrev pub variable : ℕ → ℕ → Record
-variable identifier period = record { kind = 6; a = identifier; b = period; c = 0; d = 0 }
+variable identifier period = record { kind = 6; a = identifier; b = period; c = 0; d = 0; e = 0 }
 
 -- N = 4, two streams each, C = 203, T = 100,000: all deadlines 2,000 but the last, which is `last`
 abbrev pub four : ℕ → List Record

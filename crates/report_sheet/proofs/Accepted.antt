@@ -9,7 +9,7 @@ use lib.Dec.{eqb}
 use borrow.Author.Tests.{eqb-true, eqb-false, ne-eqb}
 use Rattle.common.specs.Checks.{verdict, Verdict}
 use Rattle.common.specs.Checks.Verdict.{Passed, Refused}
-use Rattle.sheet_read.specs.Sheets.{Sheet}
+use Rattle.sheet_read.specs.Sheets.{Sheet, busIn}
 use Rattle.sheet_read.specs.Whole.{Outcome, reading}
 use Rattle.sheet_read.specs.Whole.Outcome.{Read, Not}
 use Rattle.pnet_plan.specs.Planned as pnet
@@ -20,7 +20,7 @@ use Rattle.worldfip_plan.specs.Answer as fip
 use Rattle.text.specs.Text.{item}
 use Rattle.report_phrases.specs.Phrases.{refusedText, refusalText}
 use Rattle.report_lines.specs.Lines.{ringText, tableHead}
-use Rattle.report_sheet.specs.Whole.{segmentReport, segmentAccepts, ringReport, ringAccepts, tableText, tableOf, tableBy, tableReport, tableAccepts, firstKind, reportOf, accepts}
+use Rattle.report_sheet.specs.Whole.{segmentReport, segmentAccepts, ringReport, ringAccepts, tableText, tableOf, tableBy, tableReport, tableAccepts, firstBus, reportOf, accepts}
 use Rattle.report_sheet.proofs.Alike.{own-bus, picks}
 
 -- ---- Another bus's planner refuses it
@@ -35,42 +35,42 @@ abbrev tableTakes : Outcome → Bool
 tableTakes o = tableAccepts (fip.planOf o 4096)
 
 module _ (S : Sheet) where
-  no-segment : (S .head .kind ≡ 1 → ⊥) → segmentTakes (Read S) ≡ false
+  no-segment : (busIn S ≡ 1 → ⊥) → segmentTakes (Read S) ≡ false
   unfolding segmentAccepts pnet.planChecks verdict
-  no-segment n = simp (ne-eqb (S .head .kind) 1 n)
+  no-segment n = simp (ne-eqb (busIn S) 1 n)
 
-  no-ring : (S .head .kind ≡ 3 → ⊥) → ringTakes (Read S) ≡ false
+  no-ring : (busIn S ≡ 3 → ⊥) → ringTakes (Read S) ≡ false
   unfolding ringAccepts profibus.planOf profibus.planBy profibus.planChecks verdict
-  no-ring n = simp (ne-eqb (S .head .kind) 3 n)
+  no-ring n = simp (ne-eqb (busIn S) 3 n)
 
-  no-table : (S .head .kind ≡ 5 → ⊥) → tableTakes (Read S) ≡ false
+  no-table : (busIn S ≡ 5 → ⊥) → tableTakes (Read S) ≡ false
   unfolding tableAccepts fip.planOf fip.planChecks verdict
-  no-table n = simp (ne-eqb (S .head .kind) 5 n)
+  no-table n = simp (ne-eqb (busIn S) 5 n)
 
 or-none : (x : Bool) → x ≡ (x || false)
 or-none true = refl
 or-none false = refl
 
--- the planner picked by k, which is the sheet's own kind wherever reading does not refuse
-taken-by : (k : ℕ) (o : Outcome) → ((S : Sheet) → o ≡ Read S → k ≡ S .head .kind)
+-- the planner picked by k, which is the sheet's own bus wherever reading does not refuse
+taken-by : (k : ℕ) (o : Outcome) → ((S : Sheet) → o ≡ Read S → k ≡ busIn S)
     → cond (eqb k 3) (ringTakes o) (cond (eqb k 5) (tableTakes o) (segmentTakes o)) ≡ (ringTakes o || (tableTakes o || segmentTakes o))
 unfolding ringAccepts tableAccepts segmentAccepts profibus.planOf fip.planOf
 taken-by k (Not n p) own = picks (eqb k 3) (eqb k 5) false
 taken-by k (Read S) own = split (eqb k 3) refl (eqb k 5) refl
   where
-    kind : k ≡ S .head .kind
-    kind = own S refl
+    bus : k ≡ busIn S
+    bus = own S refl
 
     split : (a : Bool) → eqb k 3 ≡ a → (b : Bool) → eqb k 5 ≡ b
         → cond a (ringTakes (Read S)) (cond b (tableTakes (Read S)) (segmentTakes (Read S))) ≡ (ringTakes (Read S) || (tableTakes (Read S) || segmentTakes (Read S)))
-    split true q b r = let e : k ≡ 3 = eqb-true k 3 q in rw (no-table S (λ f. omega (arith, kind)), no-segment S (λ f. omega (arith, kind))) (or-none (ringTakes (Read S)))
-    split false q true r = let e : k ≡ 5 = eqb-true k 5 r in rw (no-ring S (λ f. omega (arith, kind)), no-segment S (λ f. omega (arith, kind))) (or-none (tableTakes (Read S)))
-    split false q false r = rw (no-ring S (λ f. eqb-false k 3 q (kind ∙ f)), no-table S (λ f. eqb-false k 5 r (kind ∙ f)))
+    split true q b r = let e : k ≡ 3 = eqb-true k 3 q in rw (no-table S (λ f. omega (arith, bus)), no-segment S (λ f. omega (arith, bus))) (or-none (ringTakes (Read S)))
+    split false q true r = let e : k ≡ 5 = eqb-true k 5 r in rw (no-ring S (λ f. omega (arith, bus)), no-segment S (λ f. omega (arith, bus))) (or-none (tableTakes (Read S)))
+    split false q false r = rw (no-ring S (λ f. eqb-false k 3 q (bus ∙ f)), no-table S (λ f. eqb-false k 5 r (bus ∙ f)))
 
 pub accepted-exactly : (s : List ℕ)
     → accepts s ≡ (ringAccepts (profibus.planOf (reading s)) || (tableAccepts (fip.planOf (reading s) 4096) || segmentAccepts (pnet.planOf (pnet.planned s 32 32 32))))
 unfolding accepts pnet.planned
-accepted-exactly s = taken-by (firstKind s) (reading s) (own-bus s)
+accepted-exactly s = taken-by (firstBus s) (reading s) (own-bus s)
 
 -- ---- The report says the same
 
@@ -104,7 +104,7 @@ table-agrees (Read S) = by (verdict (fip.planChecks S 4096))
 
 pub report-agrees : (s : List ℕ) → Agrees (accepts s) (reportOf s)
 unfolding accepts reportOf
-report-agrees s = split (eqb (firstKind s) 3) (eqb (firstKind s) 5)
+report-agrees s = split (eqb (firstBus s) 3) (eqb (firstBus s) 5)
   where
     split : (a b : Bool)
         → Agrees (cond a (ringAccepts (profibus.planOf (reading s))) (cond b (tableAccepts (fip.planOf (reading s) 4096)) (segmentAccepts (pnet.planOf (pnet.planned s 32 32 32)))))

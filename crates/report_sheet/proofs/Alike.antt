@@ -12,7 +12,7 @@ use borrow.Author.Tests.{eqb-true, not-false, lt-ltb, le-ltb}
 use Rattle.common.specs.Checks.{verdict, Verdict}
 use Rattle.common.specs.Checks.Verdict.{Passed, Refused}
 use Rattle.sheet_reader.specs.Walk.{byteChecks, foundAt}
-use Rattle.sheet_read.specs.Sheets.{Sheet, sheetOf}
+use Rattle.sheet_read.specs.Sheets.{Sheet, busIn}
 use Rattle.sheet_read.specs.Whole.{Outcome, orElse, placeOf, reading}
 use Rattle.sheet_read.specs.Whole.Outcome.{Read, Not}
 use Rattle.sheet_read.specs.Lengths.{enough}
@@ -21,7 +21,8 @@ use Rattle.sheet_read.proofs.Refusals.{given-then, numbers-given}
 use Rattle.sheet_read.proofs.Known.{reading-whole, reading-read}
 use Rattle.sheet_read.proofs.Walk.{head-at}
 use Rattle.sheet_record.specs.declared.Record.{Record}
-use Rattle.sheet_record.specs.Kinds.{sizeOf, decode}
+use Rattle.sheet_record.specs.Kinds.{busOf, sizeOf, decode}
+use Rattle.sheet_record.proofs.Parts.{first-bus}
 use Rattle.sheet_record.proofs.Ranges.{segment-ranges}
 use Rattle.pnet_rules.specs.Segment.{segmentOf}
 use Rattle.pnet_plan.specs.Planned.{firstLate, planChecks, plannedBy, planned, planOf as segmentPlan}
@@ -30,13 +31,13 @@ use Rattle.worldfip_rules.specs.Traffic.{Traffic, slots, rows, missOf, missingO
 use Rattle.worldfip_plan.specs.Answer as fip
 use Rattle.worldfip_plan.specs.declared.answer.Plan.the-variants as answer
 use Rattle.report_phrases.specs.Phrases.{refusalText}
-use Rattle.report_sheet.specs.Whole.{segmentReport, segmentAccepts, ringReport, ringAccepts, tableReport, tableAccepts, firstKind, reportOf, accepts, answerOf}
+use Rattle.report_sheet.specs.Whole.{segmentReport, segmentAccepts, ringReport, ringAccepts, tableReport, tableAccepts, firstBus, reportOf, accepts, answerOf}
 
--- the report is made from that kind and the reading
+-- the report is made from that bus and the reading
 reportBy : ℕ → Outcome → List ℕ
 reportBy k o = cond (eqb k 3) (ringReport (ringPlan o)) (cond (eqb k 5) (tableReport o) (segmentReport (plannedBy o 32 32 32)))
 
-report-by : (s : List ℕ) → reportOf s ≡ reportBy (firstKind s) (reading s)
+report-by : (s : List ℕ) → reportOf s ≡ reportBy (firstBus s) (reading s)
 unfolding reportOf reportBy planned
 report-by s = refl
 
@@ -46,20 +47,20 @@ acceptsBy k o =
     cond (eqb k 3) (ringAccepts (ringPlan o))
     (cond (eqb k 5) (tableAccepts (fip.planOf o 4096)) (segmentAccepts (segmentPlan (plannedBy o 32 32 32))))
 
-accepts-by : (s : List ℕ) → accepts s ≡ acceptsBy (firstKind s) (reading s)
+accepts-by : (s : List ℕ) → accepts s ≡ acceptsBy (firstBus s) (reading s)
 unfolding accepts acceptsBy planned
 accepts-by s = refl
 
 -- ---- An accepted sheet has its own bus's report
 
-pub own-bus : (s : List ℕ) (S : Sheet) → reading s ≡ Read S → firstKind s ≡ S .head .kind
-unfolding firstKind foundAt byteChecks verdict sheetOf placeOf decode
+pub own-bus : (s : List ℕ) (S : Sheet) → reading s ≡ Read S → firstBus s ≡ busIn S
+unfolding firstBus foundAt byteChecks verdict placeOf decode
 own-bus s S e =
     let r = reading-whole s S e in
     let inside : 0 < length s = r .upto .inside 0 (omega arith) in
     let p = r .upto .passed 0 (omega arith) in
-    let found : firstKind s ≡ getD s 0 0 = simp (lt-ltb 0 (length s) inside, p .is-known, le-ltb (length s) (0 + sizeOf (getD s 0 0)) (p .is-whole)) in
-    found ∙ ap (λ (R : Record). R .kind) (sym (ap (λ (H : Sheet). H .head) (r .says) ∙ head-at s (r .m)))
+    let found : firstBus s ≡ busOf (getD s 0 0) = simp (lt-ltb 0 (length s) inside, p .is-known, le-ltb (length s) (0 + sizeOf (getD s 0 0)) (p .is-whole)) in
+    found ∙ ap (λ (R : Record). busOf (R .kind)) (sym (ap (λ (H : Sheet). H .head) (r .says) ∙ head-at s (r .m)))
 
 -- ---- Reading's refusals
 
@@ -72,11 +73,11 @@ picks false false x = refl
 module _ (s : List ℕ) (n p : ℕ) (e : reading s ≡ Not n p) where
   pub refused-alike : reportOf s ≡ refusalText n p
   unfolding reportBy ringReport tableReport segmentReport ringPlan
-  refused-alike = report-by s ∙ (ap (reportBy (firstKind s)) e ∙ picks (eqb (firstKind s) 3) (eqb (firstKind s) 5) (refusalText n p))
+  refused-alike = report-by s ∙ (ap (reportBy (firstBus s)) e ∙ picks (eqb (firstBus s) 3) (eqb (firstBus s) 5) (refusalText n p))
 
   pub refused-by-each : accepts s ≡ false
   unfolding acceptsBy ringAccepts tableAccepts segmentAccepts ringPlan fip.planOf
-  refused-by-each = accepts-by s ∙ (ap (acceptsBy (firstKind s)) e ∙ picks (eqb (firstKind s) 3) (eqb (firstKind s) 5) false)
+  refused-by-each = accepts-by s ∙ (ap (acceptsBy (firstBus s)) e ∙ picks (eqb (firstBus s) 3) (eqb (firstBus s) 5) false)
 
 -- ---- A bounded buffer serves
 
@@ -129,10 +130,11 @@ no-13-segment s p e = by (reading s) refl e
     by (Not n q) r f = let k : n ≡ 13 = cc in omega (arith, numbers-given s (given-then s n q r))
     by (Read H) r f =
         let N = H .head .a in
-        checks (not (eqb (H .head .kind) 1)) (ltb 32 N || (ltb 32 N || ltb 32 N)) (leb (firstLate (segmentOf H)) (length (H .streams))) N (firstLate (segmentOf H))
+        checks (not (eqb (busIn H) 1)) (ltb 32 N || (ltb 32 N || ltb 32 N)) (leb (firstLate (segmentOf H)) (length (H .streams))) N (firstLate (segmentOf H))
         (λ q.
-        let k : H .head .kind ≡ 1 = eqb-true (H .head .kind) 1 (not-false (eqb (H .head .kind) 1) q) in
-        let few : N ≤ 32 = segment-ranges 0 0 (H .head) (reading-read s H r .head-ranged) k .masters .most in
+        let h = reading-read s H r in
+        let k : H .head .kind ≡ 1 = sym (first-bus (H .head .kind) (h .head-first)) ∙ eqb-true (busIn H) 1 (not-false (eqb (busIn H) 1) q) in
+        let few : N ≤ 32 = segment-ranges _ (H .head) (h .head-ranged) k .masters .most in
         simp (le-ltb 32 N few))
         (refused H (verdict (planChecks H 32 32 32)) f)
 
@@ -156,5 +158,5 @@ no-13-table s p e = by (reading s) refl e
     by (Not n q) r f = let k : n ≡ 13 = cc in omega (arith, numbers-given s (given-then s n q r))
     by (Read S) r f =
         let T = fip.trafficOf S in
-        checks (not (eqb (S .head .kind) 5)) (eqb (slots T) 0) (ltb 4096 (rows T)) (leb (missOf T) (rows T)) (rows T) (missingOf T)
+        checks (not (eqb (busIn S) 5)) (eqb (slots T) 0) (ltb 4096 (rows T)) (leb (missOf T) (rows T)) (rows T) (missingOf T)
         (refused T (verdict (fip.planChecks S 4096)) f)

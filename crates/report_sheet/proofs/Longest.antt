@@ -1,5 +1,5 @@
 -- No report is longer than `mostText`, whatever the bytes are: so one test of room serves them all. Assumes nothing.
-use mathlib.Core.Path.{_≡_, refl, ap, _∙_}
+use mathlib.Core.Path.{_≡_, refl, sym, ap, _∙_}
 use mathlib.Core.List.{List}
 use mathlib.Core.Bool.{Bool, true, false, cond}
 use Prim.Native.Nat.{ℕ, _+_, _-_, _^_, _≤_, _<_}
@@ -7,13 +7,14 @@ use native.Mathlib.Omega.{arith}
 use native.Mathlib.Decide.{decLt}
 use lib.Dec.{eqb, ltb}
 use lib.ListN.{length, getD, List·getD-eq-default}
-use borrow.Author.Tests.{ltb-false}
+use borrow.Author.Tests.{ltb-false, eqb-true}
 use Rattle.common.specs.Sums.{when}
 use Rattle.common.specs.Checks.{verdict, Verdict}
 use Rattle.common.specs.Checks.Verdict.{Passed, Refused}
-use Rattle.sheet_record.specs.Kinds.{nothing}
+use Rattle.sheet_record.specs.Kinds.{isStreamOf, nothing}
+use Rattle.sheet_record.proofs.Parts.{variables}
 use Rattle.sheet_record.proofs.Ranges.{variable-ranges}
-use Rattle.sheet_read.specs.Sheets.{Sheet}
+use Rattle.sheet_read.specs.Sheets.{Sheet, busIn}
 use Rattle.sheet_read.specs.Whole.{Outcome, reading}
 use Rattle.sheet_read.specs.Whole.Outcome.{Read, Not}
 use Rattle.sheet_read.proofs.Known.{Known, reading-read}
@@ -26,7 +27,7 @@ use Rattle.worldfip_rules.specs.Traffic.{microcycle, slots, rows, rowOf, variab
 use Rattle.worldfip_plan.specs.Answer.{variableAt, trafficOf, planChecks}
 use Rattle.report_sheet.specs.declared.Reported.{Reported}
 use Rattle.report_sheet.specs.declared.Reported.the-variants as answer
-use Rattle.report_sheet.specs.Whole.{mostText, segmentReport, ringReport, tableOf, tableBy, tableReport, firstKind, reportOf, accepts, told, answerOf}
+use Rattle.report_sheet.specs.Whole.{mostText, segmentReport, ringReport, tableOf, tableBy, tableReport, firstBus, reportOf, accepts, told, answerOf}
 use Rattle.units.specs.Units.{us}
 use Rattle.report_sheet.proofs.Lengths.{Small, masters-most, ring-most, table-most, refusal-most}
 use Rattle.report_sheet.proofs.Segments.{masters-few}
@@ -34,7 +35,7 @@ use Rattle.report_sheet.proofs.Tables.{table-passed}
 
 -- ---- Identifiers have 16 bits
 
-module _ (s : List ℕ) (S : Sheet) (e : reading s ≡ Read S) (k : S .head .kind ≡ 5) where
+module _ (s : List ℕ) (S : Sheet) (e : reading s ≡ Read S) (k : busIn S ≡ 5) where
   field-small : (i : ℕ) → getD (S .streams) i nothing .a < 2 ^ 16
   field-small i = split (decLt i (length (S .streams)))
     where
@@ -43,7 +44,9 @@ module _ (s : List ℕ) (S : Sheet) (e : reading s ≡ Read S) (k : S .head .kin
 
       split : Dec (i < length (S .streams)) → getD (S .streams) i nothing .a < 2 ^ 16
       split (yes l) =
-          omega (arith, variable-ranges _ _ _ (known .ranged i l) (known .kinds i l ∙ ap (λ (x : ℕ). x + 1) k) .identifier .most)
+          let its : isStreamOf 5 (getD (S .streams) i nothing .kind) ≡ true = rw k at (known .kinds i l) in
+          let six = eqb-true (getD (S .streams) i nothing .kind) 6 (sym (variables (getD (S .streams) i nothing .kind)) ∙ its) in
+          omega (arith, variable-ranges _ _ (known .ranged i l) six .identifier .most)
       split (no l) =
           let d : getD (S .streams) i nothing ≡ nothing = List·getD-eq-default (S .streams) nothing (omega (arith, l)) in
           rw d (omega arith)
@@ -86,7 +89,7 @@ table-longest s (Read S) e = by (verdict (planChecks S 4096)) refl
 
 pub no-report-longer : (s : List ℕ) → length (reportOf s) ≤ mostText
 unfolding reportOf
-no-report-longer s = split (eqb (firstKind s) 3) (eqb (firstKind s) 5)
+no-report-longer s = split (eqb (firstBus s) 3) (eqb (firstBus s) 5)
   where
     split : (a b : Bool) → length (cond a (ringReport (planOf (reading s))) (cond b (tableReport (reading s)) (segmentReport (planned s 32 32 32)))) ≤ mostText
     split true b = ring-longest (planOf (reading s))

@@ -13,7 +13,7 @@ use Rattle.common.proofs.Checks.{Clear, passed-then}
 use Rattle.common.proofs.Checks.Clear.{and}
 use Rattle.common.proofs.Runs.{getD-tab, filled-at}
 use Rattle.units.specs.Units.{us}
-use Rattle.sheet_read.specs.Sheets.{Sheet}
+use Rattle.sheet_read.specs.Sheets.{Sheet, busIn}
 use Rattle.sheet_read.specs.Whole.{Outcome}
 use Rattle.sheet_read.specs.Whole.Outcome.{Read, Not}
 use Rattle.worldfip_rules.specs.Traffic.{microcycle, slots, rows, rowOf, identifierAt}
@@ -31,15 +31,15 @@ unfolding rowLine nameAt
 row-same m row f g e = rw (texts-same (nameAt row f) (nameAt row g) 64 (λ r h. ap (nameText (row / 2 ^ r % 2)) (e r h)))
 
 -- what a sheet passed that has a table
-pub table-passed : (S : Sheet) → verdict (planChecks S 4096) ≡ Passed → (S .head .kind ≡ 5) × (rows (trafficOf S) ≤ 4096)
+pub table-passed : (S : Sheet) → verdict (planChecks S 4096) ≡ Passed → (busIn S ≡ 5) × (rows (trafficOf S) ≤ 4096)
 unfolding planChecks tableChecks
 table-passed S e = by (passed-then (planChecks S 4096) e)
   where
-    by : Clear (planChecks S 4096) → (S .head .kind ≡ 5) × (rows (trafficOf S) ≤ 4096)
-    by (and a (and b (and c d))) = (eqb-true (S .head .kind) 5 (not-false (eqb (S .head .kind) 5) a), ltb-false 4096 (rows (trafficOf S)) c)
+    by : Clear (planChecks S 4096) → (busIn S ≡ 5) × (rows (trafficOf S) ≤ 4096)
+    by (and a (and b (and c d))) = (eqb-true (busIn S) 5 (not-false (eqb (busIn S) 5) a), ltb-false 4096 (rows (trafficOf S)) c)
 
 -- the lines that a run and 64 identifiers give, filled with the sheet's table
-table-lines : (S : Sheet) (R N old : List ℕ) → S .head .kind ≡ 5 → R ≡ filled (rowOf (trafficOf S)) (rows (trafficOf S)) old
+table-lines : (S : Sheet) (R N old : List ℕ) → busIn S ≡ 5 → R ≡ filled (rowOf (trafficOf S)) (rows (trafficOf S)) old
     → N ≡ tab (identifierOf (Read S)) 64
     → tableText (us (microcycle (trafficOf S))) (slots (trafficOf S)) (rows (trafficOf S)) (item R) (item N) ≡ tableOf (trafficOf S)
 unfolding tableText tableOf rowAt identifierOf
@@ -49,7 +49,7 @@ table-lines S R N old k er en =
     (texts-same (rowAt (item R) (item N)) (rowAt (rowOf T) (identifierAt T)) (rows T)
     (λ m h. ap (λ (x : ℕ). rowLine m x (item N)) (ap (λ (l : List ℕ). item l m) er ∙ filled-at (rowOf T) (rows T) m old h)
     ∙ row-same m (rowOf T m) (item N) (identifierAt T)
-    (λ r l. ap (λ (x : List ℕ). item x r) en ∙ (getD-tab (identifierOf (Read S)) 64 r l ∙ simp (eq-eqb (S .head .kind) 5 k)))))
+    (λ r l. ap (λ (x : List ℕ). item x r) en ∙ (getD-tab (identifierOf (Read S)) 64 r l ∙ simp (eq-eqb (busIn S) 5 k)))))
 
 -- the report of an accepted sheet, from the run and the identifiers
 pub table-of-run : (o : Outcome) (c s n : ℕ) (R N old : List ℕ) → length old ≡ 4096 → answer.Accepted c s n ≡ planOf o 4096 → R ≡ runOf o old

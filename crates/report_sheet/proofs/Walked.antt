@@ -2,20 +2,23 @@
 -- of an accepted sheet the reader finds the records one after the other, to the last. Assumes nothing.
 use mathlib.Core.Path.{_≡_, refl, sym, ap, _∙_}
 use mathlib.Core.Bool.{true, false}
-use mathlib.Core.List.{List, _∷_}
+use mathlib.Core.List.{List}
 use Prim.Native.Nat.{ℕ, zero, suc, _+_, _≤_, _<_}
 use native.Mathlib.Omega.{arith}
 use borrow.Author.Tests.{le-leb, eq-eqb, ne-eqb}
 use lib.ListN.{length, getD}
+use Rattle.sheet_record.specs.declared.Record.{Record}
 use Rattle.sheet_record.specs.Kinds.{sizeOf, decode, whole, nothing}
 use Rattle.sheet_reader.specs.Walk.{foundAt, stepFrom, placeAfter, staysAfter, count}
 use Rattle.sheet_reader.specs.declared.Found.the-variants as found
 use Rattle.sheet_reader.proofs.Walk.{finds-whole, steps-over, step-on, place-within, count-is}
-use Rattle.sheet_read.specs.Sheets.{Sheet, sheetOf}
-use Rattle.sheet_read.specs.Whole.{placeOf, reading}
+use Rattle.sheet_read.specs.Sheets.{Sheet}
+use Rattle.sheet_read.specs.Records.{recordsIn}
+use Rattle.sheet_read.specs.Whole.{placeOf, recordsOf, reading}
 use Rattle.sheet_read.specs.Whole.Outcome.{Read}
-use Rattle.sheet_read.proofs.Walk.{place-next, length-streams, head-at, stream-at}
+use Rattle.sheet_read.proofs.Walk.{place-next, length-records, record-at}
 use Rattle.sheet_read.proofs.Cases.{PassesAt, Upto, upto-front}
+use Rattle.sheet_read.proofs.Order.{in-order}
 use Rattle.sheet_read.proofs.Known.{ReadsTo, reading-whole}
 
 module _ (s : List ℕ) where
@@ -39,24 +42,25 @@ module _ (s : List ℕ) where
     r : ReadsTo s S
     r = reading-whole s S e
 
-    streams-are : length (S .streams) ≡ r .m
-    unfolding sheetOf
-    streams-are = ap (λ (H : Sheet). length (H .streams)) (r .says) ∙ length-streams s (r .m)
+    -- its records: the first one, the settings, the streams
+    records-are : recordsIn S ≡ recordsOf s (suc (r .m))
+    records-are = ap recordsIn (r .says) ∙ in-order s (r .m) (r .upto)
 
-    record-is : (i : ℕ) → i ≤ r .m → getD (S .head ∷ S .streams) i nothing ≡ decode s (placeOf s i)
-    unfolding sheetOf placeOf
-    record-is zero h = ap (λ (H : Sheet). H .head) (r .says) ∙ head-at s (r .m)
-    record-is (suc i) h = ap (λ (H : Sheet). getD (H .streams) i nothing) (r .says) ∙ stream-at s (r .m) i h
+    how-many : length (recordsIn S) ≡ suc (r .m)
+    how-many = ap length records-are ∙ length-records s (suc (r .m))
+
+    record-is : (i : ℕ) → i ≤ r .m → getD (recordsIn S) i nothing ≡ decode s (placeOf s i)
+    record-is i h = ap (λ (rs : List Record). getD rs i nothing) records-are ∙ record-at s (suc (r .m)) i (omega arith)
 
     -- each record, and the end
-    pub accepted-steps : (i : ℕ) → i ≤ suc (length (S .streams)) → placeAfter s i ≡ placeOf s i
-    accepted-steps i h = steps-lead-on i (upto-front s (suc (r .m)) i (omega (arith, streams-are)) (r .upto))
+    pub accepted-steps : (i : ℕ) → i ≤ length (recordsIn S) → placeAfter s i ≡ placeOf s i
+    accepted-steps i h = steps-lead-on i (upto-front s (suc (r .m)) i (omega (arith, how-many)) (r .upto))
 
-    -- the first record is found, and behind it the streams in their order
-    pub accepted-finds : (i : ℕ) → i ≤ length (S .streams) → foundAt s (placeAfter s i) ≡ found.One (getD (S .head ∷ S .streams) i nothing) (placeAfter s (suc i))
+    -- they are found one after the other
+    pub accepted-finds : (i : ℕ) → i < length (recordsIn S) → foundAt s (placeAfter s i) ≡ found.One (getD (recordsIn S) i nothing) (placeAfter s (suc i))
     unfolding placeOf
     accepted-finds i h =
-        let l : i ≤ r .m = omega (arith, streams-are) in
+        let l : i ≤ r .m = omega (arith, how-many) in
         let here = accepted-steps i (omega arith) in
         let next = accepted-steps (suc i) (omega arith) in
         let there = finds-whole s (placeOf s i) (passes-whole i (r .upto .passed i (omega arith))) in
@@ -64,18 +68,18 @@ module _ (s : List ℕ) where
         ap (foundAt s) here ∙ (there ∙ (λ k. found.One (sym is k) (sym next k)))
 
     -- the step behind the last record stays
-    accepted-end : staysAfter s (suc (length (S .streams))) ≡ true
+    accepted-end : staysAfter s (length (recordsIn S)) ≡ true
     unfolding staysAfter placeAfter
     accepted-end =
-        let n = suc (length (S .streams)) in
-        let ends : placeAfter s n ≡ length s = accepted-steps n (omega arith) ∙ (ap (λ (k : ℕ). placeOf s (suc k)) streams-are ∙ r .ends) in
+        let n = length (recordsIn S) in
+        let ends : placeAfter s n ≡ length s = accepted-steps n (omega arith) ∙ (ap (placeOf s) how-many ∙ r .ends) in
         eq-eqb (placeAfter s (suc n)) (placeAfter s n) (omega (arith, ends, place-within s (suc n), step-on s (placeAfter s n)))
 
     -- no record is left out, and none comes behind the last
-    pub accepted-count : count s ≡ suc (length (S .streams))
+    pub accepted-count : count s ≡ length (recordsIn S)
     unfolding staysAfter
-    accepted-count = sym (count-is s (suc (length (S .streams))) moves accepted-end)
+    accepted-count = sym (count-is s (length (recordsIn S)) moves accepted-end)
       where
-        moves : (j : ℕ) → j < suc (length (S .streams)) → staysAfter s j ≡ false
+        moves : (j : ℕ) → j < length (recordsIn S) → staysAfter s j ≡ false
         moves j h =
             ne-eqb (placeAfter s (suc j)) (placeAfter s j) (λ q. omega (arith, q, accepted-steps j (omega arith), accepted-steps (suc j) (omega arith), place-next s j))

@@ -8,6 +8,7 @@ use Rattle.common.specs.Checks.{Verdict, verdict}
 use Rattle.common.specs.Checks.Verdict.{Passed, Refused}
 use Rattle.units.specs.Units.{bp, us}
 use Rattle.units.specs.declared.Micros.{Micros}
+use Rattle.sheet_record.specs.Kinds.{profibus, worldfip, busOf}
 use Rattle.sheet_reader.specs.Walk.{foundAt}
 use Rattle.sheet_reader.specs.declared.Found.{Found}
 use Rattle.sheet_reader.specs.declared.Found.the-variants as found
@@ -98,22 +99,23 @@ kindOf (found.One r next) = r .kind
 kindOf (found.Refused n p) = 0
 kindOf found.End = 0
 
-unfoldable pub firstKind : List ℕ → ℕ
-unfolding foundAt
-firstKind s = kindOf (foundAt s 0)
+-- its bus
+unfoldable pub firstBus : List ℕ → ℕ
+unfolding foundAt busOf
+firstBus s = busOf (kindOf (foundAt s 0))
 
--- it picks the planner: 3 PROFIBUS, 5 WorldFIP, else P-NET. Where it is none of 1, 3 and 5, reading refuses, and every planner
+-- it picks the planner: P-NET's where it is none of the others. Where the record is none that stands first, reading refuses, and every planner
 -- reports that alike
 unfoldable pub reportOf : List ℕ → List ℕ
 reportOf s =
-    cond (eqb (firstKind s) 3) (ringReport (ringPlan (reading s)))
-    (cond (eqb (firstKind s) 5) (tableReport (reading s)) (segmentReport (planned s 32 32 32)))
+    cond (eqb (firstBus s) profibus) (ringReport (ringPlan (reading s)))
+    (cond (eqb (firstBus s) worldfip) (tableReport (reading s)) (segmentReport (planned s 32 32 32)))
 
 -- the sheet is accepted: by that planner
 unfoldable pub accepts : List ℕ → Bool
 accepts s =
-    cond (eqb (firstKind s) 3) (ringAccepts (ringPlan (reading s)))
-    (cond (eqb (firstKind s) 5) (tableAccepts (tablePlan (reading s) 4096)) (segmentAccepts (segmentPlan (planned s 32 32 32))))
+    cond (eqb (firstBus s) profibus) (ringAccepts (ringPlan (reading s)))
+    (cond (eqb (firstBus s) worldfip) (tableAccepts (tablePlan (reading s) 4096)) (segmentAccepts (segmentPlan (planned s 32 32 32))))
 
 -- a report of n bytes, of a sheet that is accepted or refused
 abbrev pub told : Bool → ℕ → Reported

@@ -20,7 +20,7 @@ ghost use Rattle.text.specs.Text.{Zeros, Wrote, item, texts};
 ghost use Rattle.report_phrases.specs.Phrases.{refusalText};
 ghost use Rattle.report_sheet.specs.Arrays.{masterAt, segmentText};
 ghost use Rattle.report_sheet.specs.Stored.{Reports};
-ghost use Rattle.report_sheet.specs.Whole.{mostText, segmentReport, segmentAccepts, ringReport, ringAccepts, rowAt, tableText, tableReport, tableAccepts, firstKind, reportOf, accepts, answerOf, runOf};
+ghost use Rattle.report_sheet.specs.Whole.{mostText, segmentReport, segmentAccepts, ringReport, ringAccepts, rowAt, tableText, tableReport, tableAccepts, firstBus, reportOf, accepts, answerOf, runOf};
 
 // The first bytes of a sheet decide its report: a buffer of so many serves, however long the sheet is.
 pub const ENOUGH: usize = 9_614;
@@ -169,25 +169,25 @@ fn table_report(s: &[u8], out: &mut [u8]) -> Reported
     }
 }
 
-// The report of a sheet whose first record has this kind: it picks the planner.
-fn put_report(s: &[u8], first: u8, out: &mut [u8]) -> Reported
-    requires { ⌜ first ≡ firstKind (now s) ⌝ }
+// The report of a sheet whose first record is of this bus, which picks the planner.
+fn put_report(s: &[u8], bus: u8, out: &mut [u8]) -> Reported
+    requires { ⌜ bus ≡ firstBus (now s) ⌝ }
     ensures { λ r. ⌜ Reports (now (out .entry)) (reportOf (now (s .entry))) (accepts (now (s .entry))) (now (out .exit)) r ⌝ }
 {
-    if first == 3 {
+    if bus == 3 {
         return ring_report(s, out);
     }
-    if first == 5 {
+    if bus == 5 {
         return table_report(s, out);
     }
     segment_report(s, out)
 }
 
-fn first_kind(s: &[u8]) -> u8
-    ensures { λ r. ⌜ r ≡ firstKind (now (s .entry)) ⌝ }
+fn first_bus(s: &[u8]) -> u8
+    ensures { λ r. ⌜ r ≡ firstBus (now (s .entry)) ⌝ }
 {
     match sheet_reader::first(s) {
-        sheet_reader::Found::One { record, next: _ } => record.kind,
+        sheet_reader::Found::One { record, next: _ } => sheet_record::bus_of(record.kind),
         sheet_reader::Found::Refused { no: _, place: _ } => 0,
         sheet_reader::Found::End => 0,
     }
@@ -201,5 +201,5 @@ pub fn report(s: &[u8], out: &mut [u8]) -> Reported
     if out.len() < MOST_TEXT {
         return Reported::NoRoom;
     }
-    put_report(s, first_kind(s), out)
+    put_report(s, first_bus(s), out)
 }

@@ -9,25 +9,25 @@ use Rattle.sheet_read.specs.Whole.{reading}
 use Rattle.pnet_plan.specs.Planned.{planned, planOf as segmentPlan}
 use Rattle.profibus_plan.specs.Planned.{planOf as ringPlan}
 use Rattle.worldfip_plan.specs.Answer.{planOf as tablePlan}
-use Rattle.report_sheet.specs.Whole.{segmentReport, segmentAccepts, ringReport, ringAccepts, tableReport, tableAccepts, firstKind, reportOf, accepts}
+use Rattle.report_sheet.specs.Whole.{segmentReport, segmentAccepts, ringReport, ringAccepts, tableReport, tableAccepts, firstBus, reportOf, accepts}
 use Rattle.report_sheet.proofs.put_report.Statement.{statement}
 use Rattle.report_sheet.proofs.put_report.Tie as tie
 
 -- ---- The report by that kind
 
 module _ (s : List ℕ) where
-  profibus : firstKind s ≡ 3 → (reportOf s ≡ ringReport (ringPlan (reading s))) × (accepts s ≡ ringAccepts (ringPlan (reading s)))
+  profibus : firstBus s ≡ 3 → (reportOf s ≡ ringReport (ringPlan (reading s))) × (accepts s ≡ ringAccepts (ringPlan (reading s)))
   unfolding reportOf accepts
-  profibus e = (simp (eq-eqb (firstKind s) 3 e), simp (eq-eqb (firstKind s) 3 e))
+  profibus e = (simp (eq-eqb (firstBus s) 3 e), simp (eq-eqb (firstBus s) 3 e))
 
-  worldfip : (firstKind s ≡ 3 → ⊥) → firstKind s ≡ 5 → (reportOf s ≡ tableReport (reading s)) × (accepts s ≡ tableAccepts (tablePlan (reading s) 4096))
+  worldfip : (firstBus s ≡ 3 → ⊥) → firstBus s ≡ 5 → (reportOf s ≡ tableReport (reading s)) × (accepts s ≡ tableAccepts (tablePlan (reading s) 4096))
   unfolding reportOf accepts
-  worldfip n e = (simp (ne-eqb (firstKind s) 3 n, eq-eqb (firstKind s) 5 e), simp (ne-eqb (firstKind s) 3 n, eq-eqb (firstKind s) 5 e))
+  worldfip n e = (simp (ne-eqb (firstBus s) 3 n, eq-eqb (firstBus s) 5 e), simp (ne-eqb (firstBus s) 3 n, eq-eqb (firstBus s) 5 e))
 
-  pnet : (firstKind s ≡ 3 → ⊥) → (firstKind s ≡ 5 → ⊥)
+  pnet : (firstBus s ≡ 3 → ⊥) → (firstBus s ≡ 5 → ⊥)
       → (reportOf s ≡ segmentReport (planned s 32 32 32)) × (accepts s ≡ segmentAccepts (segmentPlan (planned s 32 32 32)))
   unfolding reportOf accepts
-  pnet n m = (simp (ne-eqb (firstKind s) 3 n, ne-eqb (firstKind s) 5 m), simp (ne-eqb (firstKind s) 3 n, ne-eqb (firstKind s) 5 m))
+  pnet n m = (simp (ne-eqb (firstBus s) 3 n, ne-eqb (firstBus s) 5 m), simp (ne-eqb (firstBus s) 3 n, ne-eqb (firstBus s) 5 m))
 
 -- ---- The needs
 

@@ -1,9 +1,9 @@
--- `report_sheet::first_kind` answers the kind of the record that a reader finds at the first byte, and 0 where it finds none. Assumes nothing.
+-- `report_sheet::first_bus` answers the kind of the record that a reader finds at the first byte, and 0 where it finds none. Assumes nothing.
 use mathlib.Core.Path.{refl}
 use borrow.Author.Needs.{needs}
-use Rattle.report_sheet.specs.Whole.{firstKind}
-use Rattle.report_sheet.proofs.first_kind.Statement.{statement}
-use Rattle.report_sheet.proofs.first_kind.Tie as tie
+use Rattle.report_sheet.specs.Whole.{firstBus}
+use Rattle.report_sheet.proofs.first_bus.Statement.{statement}
+use Rattle.report_sheet.proofs.first_bus.Tie as tie
 
 first-requires : tie.Need-first-requires
 first-requires c κs = search needs
@@ -18,17 +18,17 @@ enum-told-2 : tie.Need-enum-told-2
 enum-told-2 c = search needs
 
 returns : tie.Need-returns
-unfolding firstKind
+unfolding firstBus
 returns c = rw (← c .before .before .before .first .ensures, c .before .«record» .given .1) refl
 
 returns-2 : tie.Need-returns-2
-unfolding firstKind
+unfolding firstBus
 returns-2 c = rw (← c .before .before .first .ensures, c .enum-told .given .1) refl
 
 returns-3 : tie.Need-returns-3
-unfolding firstKind
+unfolding firstBus
 returns-3 c = rw (← c .before .before .first .ensures, c .enum-told2 .given .1) refl
 
-pub first-kind-spec : {M : Type 1} → statement M
-first-kind-spec =
+pub first-bus-spec : {M : Type 1} → statement M
+first-bus-spec =
     tie.close (tie.spec first-requires enum-known-record enum-told enum-told-2 returns returns-2 returns-3)
