@@ -15,14 +15,15 @@ use Rattle.common.proofs.Checks.Applies.{here, later}
 use Rattle.common.proofs.Checks.Clear.{none, and}
 use Rattle.sheet_record.specs.declared.Met.{Met}
 use Rattle.sheet_record.specs.declared.Record.{Record}
-use Rattle.sheet_read.specs.Sheets.{Sheet}
+use Rattle.sheet_record.specs.Kinds.{pnet, busOf}
+use Rattle.sheet_read.specs.Sheets.{Sheet, busIn, mastersOf}
 use Rattle.sheet_read.specs.Whole.{Outcome, orElse, reading, told}
 use Rattle.sheet_read.specs.Whole.Outcome.{Read, Not}
 use Rattle.sheet_read.specs.declared.Reading.{Reading}
 use Rattle.sheet_read.specs.declared.Reading.the-variants as reader
 use Rattle.sheet_read.specs.Steps.{sheetIn, Ready}
 use Rattle.sheet_read.proofs.Known.{reading-read}
-use Rattle.sheet_read.proofs.Taken.{Taken, taken, not-taken, taken-ready, ready-streams}
+use Rattle.sheet_read.proofs.Taken.{Taken, taken, not-taken, taken-ready}
 use Rattle.pnet_rules.specs.Segment.{Stream, Segment, segmentOf, count, turn}
 use Rattle.pnet_rules.specs.Limits.{Declared}
 use Rattle.pnet_rules.proofs.Declares.{declared}
@@ -53,23 +54,23 @@ module _ (s : List ℕ) (room : ℕ) where
     refused : (n p : ℕ) → Applies checks n p → bounded s room ≡ Not n p
     refused n p a = checked ∙ rw (refused-if a)
 
-    pub bounded-other : (H .head .kind ≡ 1 → ⊥) → bounded s room ≡ Not 3 0
-    bounded-other k = refused 3 0 (here (rw (ne-eqb (H .head .kind) 1 k)))
+    pub bounded-other : (busIn H ≡ pnet → ⊥) → bounded s room ≡ Not 3 0
+    bounded-other k = refused 3 0 (here (rw (ne-eqb (busIn H) pnet k)))
 
-    pub bounded-short : H .head .kind ≡ 1 → (n : ℕ) → length (H .streams) ≡ n → room < n → bounded s room ≡ Not 13 n
+    pub bounded-short : busIn H ≡ pnet → (n : ℕ) → length (H .streams) ≡ n → room < n → bounded s room ≡ Not 13 n
     bounded-short k n q l =
         let short : ltb room (length (H .streams)) ≡ true = lt-ltb room (length (H .streams)) (omega (arith, q)) in
-        rw (← q) (refused 13 (length (H .streams)) (later (rw (eq-eqb (H .head .kind) 1 k)) (here short)))
+        rw (← q) (refused 13 (length (H .streams)) (later (rw (eq-eqb (busIn H) pnet k)) (here short)))
 
-    module _ (k : H .head .kind ≡ 1) (l : length (H .streams) ≤ room) where
+    module _ (k : busIn H ≡ pnet) (l : length (H .streams) ≤ room) where
       pub bounded-late : (i : ℕ) → i ≡ firstLate (segmentOf H) → i ≤ length (H .streams) → bounded s room ≡ Not 8 i
       bounded-late i q h =
-          let a = refused 8 (firstLate (segmentOf H)) (later (rw (eq-eqb (H .head .kind) 1 k)) (later (le-ltb room _ l) (here (le-leb _ _ (rw q at h))))) in
+          let a = refused 8 (firstLate (segmentOf H)) (later (rw (eq-eqb (busIn H) pnet k)) (later (le-ltb room _ l) (here (le-leb _ _ (rw q at h))))) in
           rw q a
 
       pub bounded-read : length (H .streams) < firstLate (segmentOf H) → bounded s room ≡ Read H
       bounded-read h =
-          let v : verdict checks ≡ Passed = passed-if (and (rw (eq-eqb (H .head .kind) 1 k)) (and (le-ltb room _ l) (and (lt-leb _ _ h) none))) in
+          let v : verdict checks ≡ Passed = passed-if (and (rw (eq-eqb (busIn H) pnet k)) (and (le-ltb room _ l) (and (lt-leb _ _ h) none))) in
           checked ∙ rw v
 
 -- ---- What a sheet is that is not refused
@@ -90,7 +91,7 @@ module _ (s : List ℕ) (room : ℕ) (H : Sheet) (e : bounded s room ≡ Read H)
           on (Refused n p) v r' = let z : _≡_ {A = ℕ} 0 1 = cc in absurd (omega arith)
           on Passed v r' = let g : G ≡ H = cc in rw (← g) (q, passed-then _ v)
 
-  clear-room : Clear (segmentChecks H (ltb room (length (H .streams))) (length (H .streams))) → (H .head .kind ≡ 1) × (length (H .streams) ≤ room)
+  clear-room : Clear (segmentChecks H (ltb room (length (H .streams))) (length (H .streams))) → (busIn H ≡ pnet) × (length (H .streams) ≤ room)
   clear-room (and k (and r (and l none))) = (eqb-true _ _ (not-false _ k), ltb-false _ _ r)
 
   pub bounded-fits : length (H .streams) ≤ room
@@ -109,11 +110,11 @@ module _ (s : List ℕ) {answered : Reading} (e : answered ≡ told s (reading s
   answer-refused {n} {p} q room = bounded-unread s room n p (not-taken s n p (sym e ∙ q))
 
 module _ {s : List ℕ} {head : Record} {n first : ℕ} (took : Taken s head n first) (room : ℕ) where
-  pub taken-other : (head .kind ≡ 1 → ⊥) → bounded s room ≡ Not 3 0
-  taken-other k = bounded-other s room (sheetIn s n) (took .reads) (λ e. k (ap (λ (r : Record). r .kind) (took .begins) ∙ e))
+  pub taken-other : (busOf (head .kind) ≡ pnet → ⊥) → bounded s room ≡ Not 3 0
+  taken-other k = bounded-other s room (sheetIn s) (took .reads) (λ e. k (ap (λ (r : Record). busOf (r .kind)) (took .begins) ∙ e))
 
-  pub taken-short : head .kind ≡ 1 → room < n → bounded s room ≡ Not 13 n
-  taken-short k = let ready = taken-ready took k in bounded-short s room (sheetIn s n) (took .reads) (ready .bus) n (ready-streams ready)
+  pub taken-short : busOf (head .kind) ≡ pnet → room < n → bounded s room ≡ Not 13 n
+  taken-short k = bounded-short s room (sheetIn s) (took .reads) (taken-ready took k .on-bus) n (took .number)
 
 -- ---- The answer and the three runs together, as the code returns them
 
@@ -132,53 +133,53 @@ returned-refused s room x y z n p e = (ap planOf (sym e), (run-kept masterOf x, 
 -- ---- A sheet with room for its streams
 
 module _ {s : List ℕ} {N n first : ℕ} {counts longests : List ℕ} (h : Sheeted s N n first counts longests) (room : ℕ) (fits : n ≤ room) (late : ℕ)
-    (first-late : late ≡ firstLate (segmentIn s n)) where
-  few : length (sheetIn s n .streams) ≤ room
-  few = omega (arith, ready-streams (h .ready))
+    (first-late : late ≡ firstLate (segmentIn s)) where
+  few : length (sheetIn s .streams) ≤ room
+  few = omega (arith, h .ready .number)
 
   pub sheeted-late : late ≤ n → bounded s room ≡ Not 8 late
-  sheeted-late l = bounded-late s room (sheetIn s n) (h .ready .reads) (h .ready .bus) few late first-late (omega (arith, ready-streams (h .ready)))
+  sheeted-late l = bounded-late s room (sheetIn s) (h .ready .reads) (h .ready .on-bus) few late first-late (omega (arith, h .ready .number))
 
   pub returned-late : late ≤ n → (x y z : List ℕ) → Returned s room x y z (answer.Refused 8 late) x y z
   returned-late l x y z = returned-refused s room x y z 8 late (sheeted-late l)
 
   module _ (l : n < late) where
-    pub sheeted-read : bounded s room ≡ Read (sheetIn s n)
-    sheeted-read = bounded-read s room (sheetIn s n) (h .ready .reads) (h .ready .bus) few (omega (arith, ready-streams (h .ready), first-late))
+    pub sheeted-read : bounded s room ≡ Read (sheetIn s)
+    sheeted-read = bounded-read s room (sheetIn s) (h .ready .reads) (h .ready .on-bus) few (omega (arith, h .ready .number, first-late))
 
-    run-read : (figure : Segment → ℕ → ℕ) (old run : List ℕ) → run ≡ filled (atPlace (figure (segmentIn s n))) n old
+    run-read : (figure : Segment → ℕ → ℕ) (old run : List ℕ) → run ≡ filled (atPlace (figure (segmentIn s))) n old
         → run ≡ streamRun (bounded s room) figure old
     run-read figure old run q =
-        (q ∙ ap (λ (x : ℕ). filled (atPlace (figure (segmentIn s n))) x old) (sym (ready-streams (h .ready))))
+        (q ∙ ap (λ (x : ℕ). filled (atPlace (figure (segmentIn s))) x old) (sym (h .ready .number)))
         ∙ ap (λ (o : Outcome). streamRun o figure old) (sym sheeted-read)
 
-    pub returned-accepted : (x y z a b c : List ℕ) → a ≡ filled (atPlace (masterOf (segmentIn s n))) n x
-        → b ≡ filled (atPlace (boundOf (segmentIn s n))) n y → c ≡ filled (atPlace (spacingOf (segmentIn s n))) n z
+    pub returned-accepted : (x y z a b c : List ℕ) → a ≡ filled (atPlace (masterOf (segmentIn s))) n x
+        → b ≡ filled (atPlace (boundOf (segmentIn s))) n y → c ≡ filled (atPlace (spacingOf (segmentIn s))) n z
         → Returned s room x y z (answer.Accepted N n) a b c
     unfolding segmentOf
     returned-accepted x y z a b c p q t =
-        let r : answer.Accepted N n ≡ planOf (Read (sheetIn s n)) = ap (λ (k : ℕ). answer.Accepted k n) (h .masters-are) ∙ ap (answer.Accepted (sheetIn s n .head .a)) (sym (ready-streams (h .ready))) in
+        let r : answer.Accepted N n ≡ planOf (Read (sheetIn s)) = ap (λ (k : ℕ). answer.Accepted k n) (h .masters-are) ∙ ap (answer.Accepted (mastersOf (sheetIn s))) (sym (h .ready .number)) in
         (r ∙ ap planOf (sym sheeted-read), (run-read masterOf x a p, (run-read boundOf y b q, run-read spacingOf z c t)))
 
 -- ---- Stream by stream
 
 -- the record r is stream i + 1: its master, what the code multiplies for its bound, and its spacing
-pub record Placed (s : List ℕ) (n i : ℕ) (counts : List ℕ) (v : ℕ) (r : Record) : Type 0 where
+pub record Placed (s : List ℕ) (i : ℕ) (counts : List ℕ) (v : ℕ) (r : Record) : Type 0 where
   pub inside : i < 800
   pub to : r .a ≤ 32
   pub count-to : at counts (r .a) ≤ 80
   pub v-to : v ≤ 51040
   pub small : at counts (r .a) * v ≤ 4083200
-  pub master : r .a ≡ atPlace (masterOf (segmentIn s n)) i
-  pub bounds : at counts (r .a) * v ≡ atPlace (boundOf (segmentIn s n)) i
-  pub spaced : r .c ≡ atPlace (spacingOf (segmentIn s n)) i
+  pub master : r .a ≡ atPlace (masterOf (segmentIn s)) i
+  pub bounds : at counts (r .a) * v ≡ atPlace (boundOf (segmentIn s)) i
+  pub spaced : r .c ≡ atPlace (spacingOf (segmentIn s)) i
 
-module _ {s : List ℕ} {first n : ℕ} (ready : Ready s 1 first n) (counts : List ℕ) (v : ℕ)
-    (ev : v ≡ turn (segmentIn s n)) (counts-are : (y : ℕ) → y ≤ 32 → at counts y ≡ count (segmentIn s n) y) where
-  pub placed : (i : ℕ) (r : Met) → i < n → Here s n i r → Placed s n i counts v (r .found)
+module _ {s : List ℕ} {first n : ℕ} (ready : Ready s pnet first n) (counts : List ℕ) (v : ℕ)
+    (ev : v ≡ turn (segmentIn s)) (counts-are : (y : ℕ) → y ≤ 32 → at counts y ≡ count (segmentIn s) y) where
+  pub placed : (i : ℕ) (r : Met) → i < n → Here s i r → Placed s i counts v (r .found)
   unfolding boundOf
   placed i r l h =
-      let S = segmentIn s n in
+      let S = segmentIn s in
       let d = declares ready in
       let m = its-master ready l r h in
       let e = its-bound ready l r h counts v counts-are ev in

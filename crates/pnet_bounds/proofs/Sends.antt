@@ -28,26 +28,26 @@ sender-refused s k n p e = ap (λ (o : Outcome). senderOf o k) (sym e)
 module _ {s : List ℕ} {N n first : ℕ} {counts longests : List ℕ} (h : Sheeted s N n first counts longests) (k : ℕ) where
   -- a count and V as the code has them; a master above 32 is above N, and has no streams
   module _ (own v : ℕ) (e : own ≡ when (leb k 32) (at counts k)) (ev : v ≡ turnOf counts longests N) where
-    own-count : own ≡ count (segmentIn s n) k
+    own-count : own ≡ count (segmentIn s) k
     own-count = e ∙ split (leb k 32) refl
       where
-        d : Declared (segmentIn s n)
+        d : Declared (segmentIn s)
         d = declares (h .ready)
 
-        split : (b : Bool) → leb k 32 ≡ b → when b (at counts k) ≡ count (segmentIn s n) k
+        split : (b : Bool) → leb k 32 ≡ b → when b (at counts k) ≡ count (segmentIn s) k
         split true q = counts-at h k (leb-true k 32 q)
-        split false q = sym (count-above-masters (segmentIn s n) d k (omega (arith, leb-false k 32 q, d .masters-to)))
+        split false q = sym (count-above-masters (segmentIn s) d k (omega (arith, leb-false k 32 q, d .masters-to)))
 
-    own-bound : own * v ≡ bound (segmentIn s n) k
+    own-bound : own * v ≡ bound (segmentIn s) k
     unfolding bound boundBy turn
     own-bound = rw (own-count, ev ∙ turn-is h)
 
     pub own-small : own * v ≤ 4083200
-    own-small = omega (arith, own-bound, bound-at-most (segmentIn s n) (declares (h .ready)) k)
+    own-small = omega (arith, own-bound, bound-at-most (segmentIn s) (declares (h .ready)) k)
 
-    pub sender-bound : (late : ℕ) → late ≡ firstLate (segmentIn s n) → n < late → answer.Bound (own * v) ≡ senderOf (sound s) k
+    pub sender-bound : (late : ℕ) → late ≡ firstLate (segmentIn s) → n < late → answer.Bound (own * v) ≡ senderOf (sound s) k
     sender-bound late q l =
         ap answer.Bound own-bound ∙ ap (λ (o : Outcome). senderOf o k) (sym (sheeted-read h 800 (streams-few (h .ready)) late q l))
 
-  pub sender-late : (late : ℕ) → late ≡ firstLate (segmentIn s n) → late ≤ n → answer.Refused 8 late ≡ senderOf (sound s) k
+  pub sender-late : (late : ℕ) → late ≡ firstLate (segmentIn s) → late ≤ n → answer.Refused 8 late ≡ senderOf (sound s) k
   sender-late late q l = sender-refused s k 8 late (sheeted-late h 800 (streams-few (h .ready)) late q l)

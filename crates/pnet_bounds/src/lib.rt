@@ -9,6 +9,7 @@ ghost use lib.ListN.{length};
 ghost use lib.Dec.{leb};
 ghost use Rattle.common.specs.Runs.{filled};
 ghost use Rattle.common.specs.Sums.{when};
+ghost use Rattle.sheet_record.specs.Kinds.{pnet};
 ghost use Rattle.sheet_read.specs.Steps.{Ready};
 ghost use Rattle.pnet_rules.specs.Segment;
 ghost use Rattle.pnet_turn.specs.Turn.{at};
@@ -25,14 +26,14 @@ pub enum Sender {
 
 // The first of n streams whose master's R is above its D, and n + 1 where there is none; turn is V.
 fn first_late(s: &[u8], first: usize, n: usize, counts: &[u8; 33], turn: u32) -> usize
-    requires { ⌜ Ready (now s) 1 first n ⌝ }
-    requires { ⌜ (turn ≡ Segment.turn (segmentIn (now s) n)) × ((y : ℕ) → y ≤ 32 → at (now counts) y ≡ Segment.count (segmentIn (now s) n) y) ⌝ }
-    ensures { λ r. ⌜ r ≡ firstLate (segmentIn (now (s .entry)) n) ⌝ }
+    requires { ⌜ Ready (now s) pnet first n ⌝ }
+    requires { ⌜ (turn ≡ Segment.turn (segmentIn (now s))) × ((y : ℕ) → y ≤ 32 → at (now counts) y ≡ Segment.count (segmentIn (now s)) y) ⌝ }
+    ensures { λ r. ⌜ r ≡ firstLate (segmentIn (now (s .entry))) ⌝ }
 {
     let mut at = first;
     let mut i: usize = 0;
     while i < n {
-        let met = sheet_record::record_of(s, at, 2);
+        let met = sheet_record::stream_at(s, at, 1);
         let r = met.found;
         let bound = counts[r.a as usize] as u32 * turn;
         if r.d < bound {
@@ -55,16 +56,16 @@ fn by_stream(
     bound: &mut [u32],
     spacing: &mut [u32],
 )
-    requires { ⌜ Ready (now s) 1 first n × (n ≤ length (now masters)) × (n ≤ length (now bound)) × (n ≤ length (now spacing)) ⌝ }
-    requires { ⌜ (turn ≡ Segment.turn (segmentIn (now s) n)) × ((y : ℕ) → y ≤ 32 → at (now counts) y ≡ Segment.count (segmentIn (now s) n) y) ⌝ }
-    ensures { λ _. ⌜ now (masters .exit) ≡ filled (atPlace (masterOf (segmentIn (now (s .entry)) n))) n (now (masters .entry)) ⌝ }
-    ensures { λ _. ⌜ now (bound .exit) ≡ filled (atPlace (boundOf (segmentIn (now (s .entry)) n))) n (now (bound .entry)) ⌝ }
-    ensures { λ _. ⌜ now (spacing .exit) ≡ filled (atPlace (spacingOf (segmentIn (now (s .entry)) n))) n (now (spacing .entry)) ⌝ }
+    requires { ⌜ Ready (now s) pnet first n × (n ≤ length (now masters)) × (n ≤ length (now bound)) × (n ≤ length (now spacing)) ⌝ }
+    requires { ⌜ (turn ≡ Segment.turn (segmentIn (now s))) × ((y : ℕ) → y ≤ 32 → at (now counts) y ≡ Segment.count (segmentIn (now s)) y) ⌝ }
+    ensures { λ _. ⌜ now (masters .exit) ≡ filled (atPlace (masterOf (segmentIn (now (s .entry))))) n (now (masters .entry)) ⌝ }
+    ensures { λ _. ⌜ now (bound .exit) ≡ filled (atPlace (boundOf (segmentIn (now (s .entry))))) n (now (bound .entry)) ⌝ }
+    ensures { λ _. ⌜ now (spacing .exit) ≡ filled (atPlace (spacingOf (segmentIn (now (s .entry))))) n (now (spacing .entry)) ⌝ }
 {
     let mut at = first;
     let mut i: usize = 0;
     while i < n {
-        let met = sheet_record::record_of(s, at, 2);
+        let met = sheet_record::stream_at(s, at, 1);
         let r = met.found;
         masters[i] = r.a as u8;
         bound[i] = counts[r.a as usize] as u32 * turn;
@@ -129,7 +130,7 @@ pub fn bounds(
             streams,
             first,
         } => {
-            if head.kind != 1 {
+            if sheet_record::bus_of(head.kind) != 1 {
                 return Plan::Refused { no: 3, place: 0 };
             }
             if room < streams {
@@ -202,7 +203,7 @@ pub fn bound_of(s: &[u8], master: u8) -> Sender
             streams,
             first,
         } => {
-            if head.kind == 1 {
+            if sheet_record::bus_of(head.kind) == 1 {
                 bound_by(
                     s,
                     head.a as usize,

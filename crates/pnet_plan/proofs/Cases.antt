@@ -11,10 +11,10 @@ use Rattle.common.specs.Checks.{verdict, Verdict}
 use Rattle.common.proofs.Checks.{Applies, refused-if, passed-if}
 use Rattle.common.proofs.Checks.Applies.{here, later}
 use Rattle.common.proofs.Checks.Clear.{none, and}
-use Rattle.sheet_read.specs.Sheets.{Sheet}
+use Rattle.sheet_record.specs.Kinds.{pnet}
+use Rattle.sheet_read.specs.Sheets.{Sheet, busIn, mastersOf}
 use Rattle.sheet_read.specs.Whole.{Outcome, orElse, reading}
 use Rattle.sheet_read.specs.Steps.{sheetIn}
-use Rattle.sheet_read.proofs.Taken.{ready-streams}
 use Rattle.sheet_read.specs.Whole.Outcome.{Read, Not}
 use Rattle.common.specs.Runs.{filled}
 use Rattle.common.specs.Sums.{upto}
@@ -48,30 +48,30 @@ module _ (s : List ℕ) (la lb lc : ℕ) where
     refused : (n p : ℕ) → Applies (planChecks H la lb lc) n p → planned s la lb lc ≡ Not n p
     refused n p a = checked ∙ rw (refused-if a)
 
-    pub planned-other : (H .head .kind ≡ 1 → ⊥) → planned s la lb lc ≡ Not 3 0
+    pub planned-other : (busIn H ≡ pnet → ⊥) → planned s la lb lc ≡ Not 3 0
     unfolding planChecks
-    planned-other k = refused 3 0 (here (rw (ne-eqb (H .head .kind) 1 k)))
+    planned-other k = refused 3 0 (here (rw (ne-eqb (busIn H) pnet k)))
 
-    module _ (k : H .head .kind ≡ 1) where
-      right-kind : not (eqb (H .head .kind) 1) ≡ false
-      right-kind = rw (eq-eqb (H .head .kind) 1 k)
+    module _ (k : busIn H ≡ pnet) where
+      right-kind : not (eqb (busIn H) pnet) ≡ false
+      right-kind = rw (eq-eqb (busIn H) pnet k)
 
-      too-short : (H .head .a ≤ la → H .head .a ≤ lb → H .head .a ≤ lc → ⊥) → planned s la lb lc ≡ Not 13 (H .head .a)
+      too-short : (mastersOf H ≤ la → mastersOf H ≤ lb → mastersOf H ≤ lc → ⊥) → planned s la lb lc ≡ Not 13 (mastersOf H)
       unfolding planChecks
-      too-short l = refused 13 (H .head .a) (later right-kind (here (one-short (ltb la (H .head .a)) (ltb lb (H .head .a)) (ltb lc (H .head .a)) refl refl refl)))
+      too-short l = refused 13 (mastersOf H) (later right-kind (here (one-short (ltb la (mastersOf H)) (ltb lb (mastersOf H)) (ltb lc (mastersOf H)) refl refl refl)))
         where
-          one-short : (a b c : Bool) → ltb la (H .head .a) ≡ a → ltb lb (H .head .a) ≡ b → ltb lc (H .head .a) ≡ c → (a || (b || c)) ≡ true
+          one-short : (a b c : Bool) → ltb la (mastersOf H) ≡ a → ltb lb (mastersOf H) ≡ b → ltb lc (mastersOf H) ≡ c → (a || (b || c)) ≡ true
           one-short true b c p q r = refl
           one-short false true c p q r = refl
           one-short false false true p q r = refl
-          one-short false false false p q r = absurd (l (ltb-false la (H .head .a) p) (ltb-false lb (H .head .a) q) (ltb-false lc (H .head .a) r))
+          one-short false false false p q r = absurd (l (ltb-false la (mastersOf H) p) (ltb-false lb (mastersOf H) q) (ltb-false lc (mastersOf H) r))
 
-      pub planned-short : (N : ℕ) → N ≡ H .head .a → (N ≤ la → N ≤ lb → N ≤ lc → ⊥) → planned s la lb lc ≡ Not 13 N
+      pub planned-short : (N : ℕ) → N ≡ mastersOf H → (N ≤ la → N ≤ lb → N ≤ lc → ⊥) → planned s la lb lc ≡ Not 13 N
       planned-short N e l = rw e (too-short (rw e at l))
 
-      module _ (a : H .head .a ≤ la) (b : H .head .a ≤ lb) (c : H .head .a ≤ lc) where
-        room : (ltb la (H .head .a) || (ltb lb (H .head .a) || ltb lc (H .head .a))) ≡ false
-        room = rw (le-ltb la (H .head .a) a, le-ltb lb (H .head .a) b, le-ltb lc (H .head .a) c)
+      module _ (a : mastersOf H ≤ la) (b : mastersOf H ≤ lb) (c : mastersOf H ≤ lc) where
+        room : (ltb la (mastersOf H) || (ltb lb (mastersOf H) || ltb lc (mastersOf H))) ≡ false
+        room = rw (le-ltb la (mastersOf H) a, le-ltb lb (mastersOf H) b, le-ltb lc (mastersOf H) c)
 
         pub planned-late : (p : ℕ) → p ≡ firstLate (segmentOf H) → p ≤ length (H .streams) → planned s la lb lc ≡ Not 8 p
         unfolding planChecks
@@ -100,120 +100,120 @@ module _ (s x y z : List ℕ) where
     ap (λ (o : Outcome). runOf o rounds z) (sym e),
   )
 
-  module _ (m : ℕ) (e : planned s (length x) (length y) (length z) ≡ Read (sheetIn s m)) (n : ℕ) (masters : n ≡ segmentIn s m .masters) where
-    run-read : (figure : Segment → ℕ → ℕ) (old run : List ℕ) → run ≡ filled (atPlace (figure (segmentIn s m))) n old → run ≡ runOf (planned s (length x) (length y) (length z)) figure old
+  module _ (e : planned s (length x) (length y) (length z) ≡ Read (sheetIn s)) (n : ℕ) (masters : n ≡ segmentIn s .masters) where
+    run-read : (figure : Segment → ℕ → ℕ) (old run : List ℕ) → run ≡ filled (atPlace (figure (segmentIn s))) n old → run ≡ runOf (planned s (length x) (length y) (length z)) figure old
     unfolding segmentOf
     run-read figure old run q =
-        (q ∙ ap (λ (k : ℕ). filled (atPlace (figure (segmentIn s m))) k old) masters) ∙ ap (λ (o : Outcome). runOf o figure old) (sym e)
+        (q ∙ ap (λ (k : ℕ). filled (atPlace (figure (segmentIn s))) k old) masters) ∙ ap (λ (o : Outcome). runOf o figure old) (sym e)
 
-    pub returned-read : m ≡ segmentIn s m .number → (a b c : List ℕ) → a ≡ filled (atPlace (bound (segmentIn s m))) n x
-        → b ≡ filled (atPlace (refined (segmentIn s m))) n y → c ≡ filled (atPlace (rounds (segmentIn s m))) n z → Returned s x y z (answer.Accepted n m) a b c
+    pub returned-read : (m : ℕ) → m ≡ segmentIn s .number → (a b c : List ℕ) → a ≡ filled (atPlace (bound (segmentIn s))) n x
+        → b ≡ filled (atPlace (refined (segmentIn s))) n y → c ≡ filled (atPlace (rounds (segmentIn s))) n z → Returned s x y z (answer.Accepted n m) a b c
     unfolding segmentOf
-    returned-read number a b c ea eb ec =
-        let r : answer.Accepted n m ≡ planOf (Read (sheetIn s m)) = ap (λ (x : ℕ). answer.Accepted x m) masters ∙ ap (answer.Accepted (sheetIn s m .head .a)) number in
+    returned-read m number a b c ea eb ec =
+        let r : answer.Accepted n m ≡ planOf (Read (sheetIn s)) = ap (λ (x : ℕ). answer.Accepted x m) masters ∙ ap (answer.Accepted (mastersOf (sheetIn s))) number in
         (r ∙ ap planOf (sym e), run-read bound x a ea, run-read refined y b eb, run-read rounds z c ec)
 
 -- ---- Where the code ends with a segment's arrays
 
 module _ {s : List ℕ} {N m first : ℕ} {counts longests : List ℕ} (h : Sheeted s N m first counts longests) where
-  declared : Declared (segmentIn s m)
+  declared : Declared (segmentIn s)
   declared = declares (h .ready)
 
   pub masters-few : N ≤ 32
   masters-few = omega (arith, h .masters-are, declared .masters-to)
 
-  pub counts-at : (y : ℕ) → y ≤ 32 → at counts y ≡ count (segmentIn s m) y
-  counts-at y l = rw (h .counts-are) (getD-tab (count (segmentIn s m)) 33 y (omega arith))
+  pub counts-at : (y : ℕ) → y ≤ 32 → at counts y ≡ count (segmentIn s) y
+  counts-at y l = rw (h .counts-are) (getD-tab (count (segmentIn s)) 33 y (omega arith))
 
-  longests-at : (y : ℕ) → y ≤ 32 → at longests y ≡ longest (segmentIn s m) y
-  longests-at y l = rw (h .longests-are) (getD-tab (longest (segmentIn s m)) 33 y (omega arith))
+  longests-at : (y : ℕ) → y ≤ 32 → at longests y ≡ longest (segmentIn s) y
+  longests-at y l = rw (h .longests-are) (getD-tab (longest (segmentIn s)) 33 y (omega arith))
 
   pub counts-small : (y : ℕ) → y ≤ 32 → at counts y ≤ 80
   counts-small y l = omega (arith, counts-at y l, declared .counts y)
 
   pub longests-small : (y : ℕ) → y ≤ 32 → at longests y ≤ 1548
-  longests-small y l = omega (arith, longests-at y l, longest-at-most (segmentIn s m) declared y)
+  longests-small y l = omega (arith, longests-at y l, longest-at-most (segmentIn s) declared y)
 
-  charge-is : (y : ℕ) → y ≤ 32 → chargeIn counts longests y ≡ hold (segmentIn s m) y
+  charge-is : (y : ℕ) → y ≤ 32 → chargeIn counts longests y ≡ hold (segmentIn s) y
   unfolding chargeIn hold
   charge-is y l = rw (counts-at y l, longests-at y l)
 
   -- V is that of the segment
-  pub turn-is : turnOf counts longests N ≡ turn (segmentIn s m)
+  pub turn-is : turnOf counts longests N ≡ turn (segmentIn s)
   unfolding turnOf turn turnBy
   turn-is =
-      let few : min N 32 ≡ segmentIn s m .masters = omega (arith, masters-few, h .masters-are) in
+      let few : min N 32 ≡ segmentIn s .masters = omega (arith, masters-few, h .masters-are) in
       ap (upto (chargeIn counts longests)) few
-      ∙ upto-same (chargeIn counts longests) (hold (segmentIn s m)) (segmentIn s m .masters) (λ y lo hi. charge-is y (omega (arith, declared .masters-to)))
+      ∙ upto-same (chargeIn counts longests) (hold (segmentIn s)) (segmentIn s .masters) (λ y lo hi. charge-is y (omega (arith, declared .masters-to)))
 
   pub turn-small : turnOf counts longests N ≤ 51040
-  turn-small = omega (arith, turn-is, turn-at-most (segmentIn s m) declared)
+  turn-small = omega (arith, turn-is, turn-at-most (segmentIn s) declared)
 
   module _ {holds ends : List ℕ} (o : SetOut counts longests N holds ends) where
-    holds-at : (y : ℕ) → 1 ≤ y → y ≤ segmentIn s m .masters → at holds y ≡ hold (segmentIn s m) y
+    holds-at : (y : ℕ) → 1 ≤ y → y ≤ segmentIn s .masters → at holds y ≡ hold (segmentIn s) y
     holds-at y lo hi = o .holds-are y lo (omega (arith, h .masters-are)) ∙ charge-is y (omega (arith, declared .masters-to))
 
     -- nothing is placed yet
-    pub grouped-first : (spacings : List ℕ) → m ≤ length spacings → Grouped (segmentIn s m) 0 ends (replicate 33 1000000000) spacings
+    pub grouped-first : (spacings : List ℕ) → m ≤ length spacings → Grouped (segmentIn s) 0 ends (replicate 33 1000000000) spacings
     grouped-first spacings room =
-        grouped-none (segmentIn s m) ends spacings (o .ends-long) (omega (arith, number-is (h .ready)))
+        grouped-none (segmentIn s) ends spacings (o .ends-long) (omega (arith, number-is (h .ready)))
         (λ y lo hi.
         o .ends-are y lo (omega (arith, h .masters-are))
-        ∙ upto-same (at counts) (count (segmentIn s m)) (y - 1) (λ z a b. counts-at z (omega (arith, declared .masters-to))))
+        ∙ upto-same (at counts) (count (segmentIn s)) (y - 1) (λ z a b. counts-at z (omega (arith, declared .masters-to))))
 
-    module _ (v : ℕ) (ev : v ≡ turnOf counts longests N) {ends' shortest spacings : List ℕ} (placed : Grouped (segmentIn s m) m ends' shortest spacings) where
-      laid : Laid (segmentIn s m) counts holds ends' shortest spacings
+    module _ (v : ℕ) (ev : v ≡ turnOf counts longests N) {ends' shortest spacings : List ℕ} (placed : Grouped (segmentIn s) m ends' shortest spacings) where
+      laid : Laid (segmentIn s) counts holds ends' shortest spacings
       laid =
           record {
             counts-are = counts-at;
             holds-are = holds-at;
-            grouped = subst (λ (i : ℕ). Grouped (segmentIn s m) i ends' shortest spacings) (number-is (h .ready)) placed;
+            grouped = subst (λ (i : ℕ). Grouped (segmentIn s) i ends' shortest spacings) (number-is (h .ready)) placed;
           }
 
       -- among N masters, for V
-      v-is : turnIn holds (segmentIn s m .masters) ≡ v
+      v-is : turnIn holds (segmentIn s .masters) ≡ v
       v-is = turn-tied declared laid ∙ sym (ev ∙ turn-is)
 
       pub kept-all : Kept N v counts holds ends' spacings
       kept-all =
           subst (λ (k : ℕ). Kept k v counts holds ends' spacings) (sym (h .masters-are))
-          (subst (λ (x : ℕ). Kept (segmentIn s m .masters) x counts holds ends' spacings) v-is (kept declared laid))
+          (subst (λ (x : ℕ). Kept (segmentIn s .masters) x counts holds ends' spacings) v-is (kept declared laid))
 
-      module _ (late : ℕ) (first-late : late ≡ firstLate (segmentIn s m)) (l : m < late) where
-        passes : (x : ℕ) → 1 ≤ x → x ≤ segmentIn s m .number → bound (segmentIn s m) (segmentIn s m .stream x .master) ≤ segmentIn s m .stream x .deadline
+      module _ (late : ℕ) (first-late : late ≡ firstLate (segmentIn s)) (l : m < late) where
+        passes : (x : ℕ) → 1 ≤ x → x ≤ segmentIn s .number → bound (segmentIn s) (segmentIn s .stream x .master) ≤ segmentIn s .stream x .deadline
         unfolding firstLate Segment.late
-        passes x lo hi = ltb-false _ _ (first-is (Segment.late (segmentIn s m)) (segmentIn s m .number) 1 .fails x lo (omega (arith, first-late, number-is (h .ready))))
+        passes x lo hi = ltb-false _ _ (first-is (Segment.late (segmentIn s)) (segmentIn s .number) 1 .fails x lo (omega (arith, first-late, number-is (h .ready))))
 
         pub shortest-all : Shortest N v counts ends' shortest spacings
         shortest-all =
             subst (λ (k : ℕ). Shortest k v counts ends' shortest spacings) (sym (h .masters-are))
-            (subst (λ (x : ℕ). Shortest (segmentIn s m .masters) x counts ends' shortest spacings) v-is (shortest-tied declared laid passes))
+            (subst (λ (x : ℕ). Shortest (segmentIn s .masters) x counts ends' shortest spacings) v-is (shortest-tied declared laid passes))
 
         module _ (x y z : List ℕ) (rx : N ≤ length x) (ry : N ≤ length y) (rz : N ≤ length z) where
-          filled-tied : (f g : ℕ → ℕ) (old run : List ℕ) → run ≡ filled (atPlace f) N old → ((k : ℕ) → 1 ≤ k → k ≤ segmentIn s m .masters → f k ≡ g k) → run ≡ filled (atPlace g) N old
+          filled-tied : (f g : ℕ → ℕ) (old run : List ℕ) → run ≡ filled (atPlace f) N old → ((k : ℕ) → 1 ≤ k → k ≤ segmentIn s .masters → f k ≡ g k) → run ≡ filled (atPlace g) N old
           filled-tied f g old run q e = q ∙ filled-same (atPlace f) (atPlace g) N old (λ i l'. e (i + 1) (omega arith) (omega (arith, h .masters-are)))
 
           pub returned-filled : (a b c : List ℕ) → a ≡ filled (atPlace (boundIn counts holds N)) N x → b ≡ filled (atPlace (refinedIn counts holds ends' spacings N)) N y
               → c ≡ filled (atPlace (roundsIn counts holds ends' spacings N)) N z → Returned s x y z (answer.Accepted N m) a b c
           unfolding segmentOf
           returned-filled a b c ea eb ec =
-              let S = segmentIn s m in
+              let S = segmentIn s in
               let d = declared in
               let en = h .masters-are in
               let o' =
-              planned-read s (length x) (length y) (length z) (sheetIn s m) (h .ready .reads) (h .ready .bus) (omega (arith, en)) (omega (arith, en)) (omega (arith, en))
-              (omega (arith, ready-streams (h .ready), first-late)) in
-              returned-read s x y z m o' N en (number-is (h .ready)) a b c
+              planned-read s (length x) (length y) (length z) (sheetIn s) (h .ready .reads) (h .ready .on-bus) (omega (arith, en)) (omega (arith, en)) (omega (arith, en))
+              (omega (arith, h .ready .number, first-late)) in
+              returned-read s x y z o' N en m (number-is (h .ready)) a b c
               (filled-tied (boundIn counts holds N) (bound S) x a ea (λ k lo hi. rw en (bound-tied d laid k (omega (arith, d .masters-to)))))
               (filled-tied (refinedIn counts holds ends' spacings N) (refined S) y b eb (λ k lo hi. rw en (refined-tied d laid k lo hi)))
               (filled-tied (roundsIn counts holds ends' spacings N) (rounds S) z c ec (λ k lo hi. rw en (rounds-tied d laid k lo hi)))
 
-  pub returned-late : (late : ℕ) → late ≡ firstLate (segmentIn s m) → late ≤ m → (x y z : List ℕ) → N ≤ length x → N ≤ length y → N ≤ length z
+  pub returned-late : (late : ℕ) → late ≡ firstLate (segmentIn s) → late ≤ m → (x y z : List ℕ) → N ≤ length x → N ≤ length y → N ≤ length z
       → Returned s x y z (answer.Refused 8 late) x y z
   unfolding segmentOf
   returned-late late el l x y z rx ry rz =
       let en = h .masters-are in
       let o =
-      planned-late s (length x) (length y) (length z) (sheetIn s m) (h .ready .reads) (h .ready .bus) (omega (arith, en)) (omega (arith, en)) (omega (arith, en)) late el
-      (omega (arith, ready-streams (h .ready))) in
+      planned-late s (length x) (length y) (length z) (sheetIn s) (h .ready .reads) (h .ready .on-bus) (omega (arith, en)) (omega (arith, en)) (omega (arith, en)) late el
+      (omega (arith, h .ready .number)) in
       returned-refused s x y z 8 late o

@@ -7,9 +7,9 @@ use Rattle.common.specs.Sums.{upto, greatest, up, firstOf}
 use Rattle.common.specs.Checks.{verdict}
 use Rattle.common.specs.Runs.{tab, filled}
 use Rattle.sheet_record.specs.Numbers.{be}
-use Rattle.sheet_record.specs.Kinds.{kinds, fieldsOf, widths, sizeOf, known, fieldAt, decode, limit, within, ranged, inRange}
-use Rattle.sheet_read.specs.Sheets.{streamsOf, headOf, sheetOf, fits, countOf, mostInAll, hasMaster, overLimit, metBefore}
-use Rattle.sheet_read.specs.Whole.{placeOf, recordsOf, recordChecks, endChecks, judge, ended, readFrom, reading}
+use Rattle.sheet_record.specs.Kinds.{kinds, lineOf, fieldsOf, busOf, partOf, isSetting, isStream, widths, sizeOf, known, fieldAt, decode, limit, within, ranged, inRange}
+use Rattle.sheet_read.specs.Sheets.{headOf, having, sheetOf, fits, ofKind, countOf, mostInAll, hasMasters, overLimit, metBefore}
+use Rattle.sheet_read.specs.Whole.{placeOf, recordsOf, before, recordChecks, endChecks, judge, ended, readFrom, reading}
 use Rattle.pnet_rules.specs.Segment.{segmentOf, streamAt, owns, count, longest, hold, turnBy, boundBy, turn, bound, late}
 use Rattle.pnet_rules.specs.Refined.{saving, rightBy, valueOf, stands, roundsOf, mostRounds, askedBy, right, rounds, refined}
 use Rattle.pnet_plan.specs.declared.answer.Plan.the-variants as answer
@@ -37,22 +37,22 @@ abbrev often : List ℕ
 often = 2 ∷ 2 ∷ 0 ∷ 203 ∷ 0 ∷ 0 ∷ 3 ∷ 232 ∷ 0 ∷ 0 ∷ 3 ∷ 232 ∷ []
 
 passes : planOf (planned (four 208) 4 4 4) ≡ answer.Accepted 4 8
-unfolding planned planChecks firstLate verdict segmentOf streamAt owns count longest hold turnBy boundBy turn bound late upto greatest firstOf reading readFrom ended judge recordChecks endChecks recordsOf placeOf streamsOf headOf sheetOf fits countOf mostInAll hasMaster overLimit metBefore kinds fieldsOf widths sizeOf known fieldAt decode limit within ranged inRange be
+unfolding planned planChecks firstLate verdict segmentOf streamAt owns count longest hold turnBy boundBy turn bound late upto greatest firstOf reading readFrom ended judge recordChecks endChecks recordsOf placeOf before headOf having sheetOf fits ofKind countOf mostInAll hasMasters overLimit metBefore kinds lineOf fieldsOf busOf partOf isSetting isStream widths sizeOf known fieldAt decode limit within ranged inRange be
 passes = refl
 
 fails : planOf (planned (four 207) 4 4 4) ≡ answer.Refused 8 8
-unfolding planned planChecks firstLate verdict segmentOf streamAt owns count longest hold turnBy boundBy turn bound late upto greatest firstOf reading readFrom ended judge recordChecks endChecks recordsOf placeOf streamsOf headOf sheetOf fits countOf mostInAll hasMaster overLimit metBefore kinds fieldsOf widths sizeOf known fieldAt decode limit within ranged inRange be
+unfolding planned planChecks firstLate verdict segmentOf streamAt owns count longest hold turnBy boundBy turn bound late upto greatest firstOf reading readFrom ended judge recordChecks endChecks recordsOf placeOf before headOf having sheetOf fits ofKind countOf mostInAll hasMasters overLimit metBefore kinds lineOf fieldsOf busOf partOf isSetting isStream widths sizeOf known fieldAt decode limit within ranged inRange be
 fails = refl
 
 figures : (runOf (planned (two seldom) 3 3 3) bound (9 ∷ 9 ∷ 9 ∷ []) ≡ 1000 ∷ 500 ∷ 9 ∷ [])
     × (runOf (planned (two seldom) 3 3 3) refined (9 ∷ 9 ∷ 9 ∷ []) ≡ 760 ∷ 500 ∷ 9 ∷ [])
     × (runOf (planned (two seldom) 3 3 3) rounds (9 ∷ 9 ∷ 9 ∷ []) ≡ 1 ∷ 1 ∷ 9 ∷ [])
-unfolding planned planChecks firstLate verdict filled tab segmentOf streamAt owns count longest hold turnBy boundBy turn bound late saving rightBy valueOf stands roundsOf mostRounds askedBy right rounds refined up upto greatest firstOf reading readFrom ended judge recordChecks endChecks recordsOf placeOf streamsOf headOf sheetOf fits countOf mostInAll hasMaster overLimit metBefore kinds fieldsOf widths sizeOf known fieldAt decode limit within ranged inRange be
+unfolding planned planChecks firstLate verdict filled tab segmentOf streamAt owns count longest hold turnBy boundBy turn bound late saving rightBy valueOf stands roundsOf mostRounds askedBy right rounds refined up upto greatest firstOf reading readFrom ended judge recordChecks endChecks recordsOf placeOf before headOf having sheetOf fits ofKind countOf mostInAll hasMasters overLimit metBefore kinds lineOf fieldsOf busOf partOf isSetting isStream widths sizeOf known fieldAt decode limit within ranged inRange be
 figures = (refl, refl, refl)
 
 -- the count takes in what waits when the window opens
 figures-waited : (runOf (planned (two often) 3 3 3) bound (9 ∷ 9 ∷ 9 ∷ []) ≡ 1000 ∷ 500 ∷ 9 ∷ [])
     × (runOf (planned (two often) 3 3 3) refined (9 ∷ 9 ∷ 9 ∷ []) ≡ 1000 ∷ 500 ∷ 9 ∷ [])
     × (runOf (planned (two often) 3 3 3) rounds (9 ∷ 9 ∷ 9 ∷ []) ≡ 2 ∷ 1 ∷ 9 ∷ [])
-unfolding planned planChecks firstLate verdict filled tab segmentOf streamAt owns count longest hold turnBy boundBy turn bound late saving rightBy valueOf stands roundsOf mostRounds askedBy right rounds refined up upto greatest firstOf reading readFrom ended judge recordChecks endChecks recordsOf placeOf streamsOf headOf sheetOf fits countOf mostInAll hasMaster overLimit metBefore kinds fieldsOf widths sizeOf known fieldAt decode limit within ranged inRange be
+unfolding planned planChecks firstLate verdict filled tab segmentOf streamAt owns count longest hold turnBy boundBy turn bound late saving rightBy valueOf stands roundsOf mostRounds askedBy right rounds refined up upto greatest firstOf reading readFrom ended judge recordChecks endChecks recordsOf placeOf before headOf having sheetOf fits ofKind countOf mostInAll hasMasters overLimit metBefore kinds lineOf fieldsOf busOf partOf isSetting isStream widths sizeOf known fieldAt decode limit within ranged inRange be
 figures-waited = (refl, refl, refl)

@@ -15,7 +15,8 @@ use Rattle.common.proofs.Checks.{Applies, Clear, refused-then, passed-then}
 use Rattle.common.proofs.Checks.Applies.{here, later}
 use Rattle.common.proofs.Checks.Clear.{none, and}
 use Rattle.common.proofs.Firsts.{First, first-is}
-use Rattle.sheet_read.specs.Sheets.{Sheet}
+use Rattle.sheet_record.specs.Kinds.{pnet}
+use Rattle.sheet_read.specs.Sheets.{Sheet, busIn, mastersOf}
 use Rattle.sheet_read.specs.Whole.{Outcome, orElse, reading}
 use Rattle.sheet_read.specs.Whole.Outcome.{Read, Not}
 use Rattle.sheet_read.proofs.Known.{both-fail}
@@ -90,7 +91,7 @@ module _ (s : List ℕ) (la lb lc : ℕ) where
   given-if n p (unread e) = planned-unread s la lb lc n p e
   given-if n p (another-bus {H} e k) = planned-other s la lb lc H e k
   given-if n p (no-room {H} b r) =
-      planned-short s la lb lc H (b .reads) (b .pnet) (H .head .a) refl (λ x y z. r (record { for-bound = x; for-refined = y; for-rounds = z }))
+      planned-short s la lb lc H (b .reads) (b .pnet) (mastersOf H) refl (λ x y z. r (record { for-bound = x; for-refined = y; for-rounds = z }))
   given-if n p (too-late {H} b r f) =
       planned-late s la lb lc H (b .reads) (b .pnet) (r .for-bound) (r .for-refined) (r .for-rounds) p (fails-first (segmentOf H) p f) (f .to)
 
@@ -103,22 +104,22 @@ module _ (s : List ℕ) (la lb lc : ℕ) where
 
   -- a sheet that is read: the first line that applies, or none
   module _ (H : Sheet) (e : reading s ≡ Read H) where
-    on-bus : not (eqb (H .head .kind) 1) ≡ false → OnBus s H
-    on-bus k = record { reads = e; pnet = eqb-true (H .head .kind) 1 (not-false _ k) }
+    on-bus : not (eqb (busIn H) pnet) ≡ false → OnBus s H
+    on-bus k = record { reads = e; pnet = eqb-true (busIn H) pnet (not-false _ k) }
 
     line : (n p : ℕ) → Applies (planChecks H la lb lc) n p → Given s la lb lc n p
     unfolding planChecks segmentOf
-    line n p (here k) = another-bus e (eqb-false (H .head .kind) 1 (not-true _ k))
-    line n p (later k (here r)) = no-room (on-bus k) (no-room-then la lb lc (H .head .a) r)
+    line n p (here k) = another-bus e (eqb-false (busIn H) pnet (not-true _ k))
+    line n p (later k (here r)) = no-room (on-bus k) (no-room-then la lb lc (mastersOf H) r)
     line n p (later k (later r (here l))) =
-        too-late (on-bus k) (room-then la lb lc (H .head .a) r) (first-fails (segmentOf H) (leb-true (firstLate (segmentOf H)) (length (H .streams)) l))
+        too-late (on-bus k) (room-then la lb lc (mastersOf H) r) (first-fails (segmentOf H) (leb-true (firstLate (segmentOf H)) (length (H .streams)) l))
 
     no-line : Clear (planChecks H la lb lc) → Accepted s la lb lc H
     unfolding planChecks segmentOf
     no-line (and k (and r (and l none))) =
         record {
           on-bus = on-bus k;
-          room = room-then la lb lc (H .head .a) r;
+          room = room-then la lb lc (mastersOf H) r;
           passes = all-pass (segmentOf H) (leb-false (firstLate (segmentOf H)) (length (H .streams)) l);
         }
 

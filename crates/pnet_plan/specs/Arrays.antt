@@ -8,6 +8,7 @@ use mathlib.Core.List.{List}
 use lib.ListN.{length}
 use Rattle.common.specs.Runs.{tab}
 use Rattle.common.specs.Sums.{when, upto, up}
+use Rattle.sheet_record.specs.Kinds.{pnet}
 use Rattle.sheet_read.specs.Steps.{sheetIn, Ready}
 use Rattle.pnet_rules.specs.Segment.{Segment, segmentOf, owns, count, longest}
 use Rattle.pnet_rules.specs.Refined.{saving, valueOf, roundsOf}
@@ -15,9 +16,9 @@ use Rattle.pnet_turn.specs.Turn.{at, chargeIn}
 
 -- ---- Where they come from
 
--- the segment that these bytes declare, with n streams
-abbrev pub segmentIn : List ℕ → ℕ → Segment
-segmentIn s n = segmentOf (sheetIn s n)
+-- the segment that these bytes declare
+abbrev pub segmentIn : List ℕ → Segment
+segmentIn s = segmentOf (sheetIn s)
 
 -- the first n streams of a segment
 abbrev pub part : Segment → ℕ → Segment
@@ -25,10 +26,10 @@ part S n = record { masters = S .masters; number = n; stream = S .stream }
 
 -- an accepted P-NET sheet with N masters and n streams, the first at a place, and what reading it gathered of each master
 pub record Sheeted (s : List ℕ) (N n first : ℕ) (counts longests : List ℕ) : Type 0 where
-  pub ready : Ready s 1 first n
-  pub masters-are : N ≡ segmentIn s n .masters
-  pub counts-are : counts ≡ tab (count (segmentIn s n)) 33
-  pub longests-are : longests ≡ tab (longest (segmentIn s n)) 33
+  pub ready : Ready s pnet first n
+  pub masters-are : N ≡ segmentIn s .masters
+  pub counts-are : counts ≡ tab (count (segmentIn s)) 33
+  pub longests-are : longests ≡ tab (longest (segmentIn s)) 33
 
 -- ---- How they are filled
 

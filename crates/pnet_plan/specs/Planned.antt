@@ -8,7 +8,8 @@ use lib.Dec.{ltb, leb, eqb}
 use Rattle.common.specs.Checks.{Check, check, verdict}
 use Rattle.common.specs.Runs.{filled}
 use Rattle.common.specs.Sums.{firstOf}
-use Rattle.sheet_read.specs.Sheets.{Sheet}
+use Rattle.sheet_record.specs.Kinds.{pnet}
+use Rattle.sheet_read.specs.Sheets.{Sheet, busIn, mastersOf}
 use Rattle.sheet_read.specs.Whole.{Outcome, orElse, reading}
 use Rattle.sheet_read.specs.Whole.Outcome.{Read, Not}
 use Rattle.pnet_rules.specs.Segment.{Segment, segmentOf, late}
@@ -23,7 +24,7 @@ firstLate S = firstOf (late S) (S .number) 1
 -- behind the reading's own refusals: 3, then 13 where lent room is short of what is needed, then 8
 abbrev pub segmentChecks : Sheet → Bool → ℕ → List Check
 segmentChecks H short need =
-    check 3 (not (eqb (H .head .kind) 1)) 0
+    check 3 (not (eqb (busIn H) pnet)) 0
     ∷ check 13 short need
     ∷ check 8 (leb (firstLate (segmentOf H)) (length (H .streams))) (firstLate (segmentOf H))
     ∷ []
@@ -31,7 +32,7 @@ segmentChecks H short need =
 -- for runs of la, lb and lc numbers: each needs N places
 unfoldable pub planChecks : Sheet → ℕ → ℕ → ℕ → List Check
 unfolding firstLate segmentOf
-planChecks H la lb lc = segmentChecks H (ltb la (H .head .a) || (ltb lb (H .head .a) || ltb lc (H .head .a))) (H .head .a)
+planChecks H la lb lc = segmentChecks H (ltb la (mastersOf H) || (ltb lb (mastersOf H) || ltb lc (mastersOf H))) (mastersOf H)
 
 -- a sheet that passes them too, or a refusal's number and place
 abbrev pub plannedBy : Outcome → ℕ → ℕ → ℕ → Outcome
@@ -46,7 +47,7 @@ planned s la lb lc = plannedBy (reading s) la lb lc
 
 -- the masters and the streams of the sheet, or the refusal
 abbrev pub planOf : Outcome → Plan
-planOf (Read H) = answer.Accepted (H .head .a) (length (H .streams))
+planOf (Read H) = answer.Accepted (mastersOf H) (length (H .streams))
 planOf (Not n p) = answer.Refused n p
 
 -- place i of a run is for master i + 1
@@ -55,5 +56,5 @@ atPlace f i = f (i + 1)
 
 -- a lent run: a figure of masters 1..N, later places as they were; on a refusal all of it as it was
 abbrev pub runOf : Outcome → (Segment → ℕ → ℕ) → List ℕ → List ℕ
-runOf (Read H) figure old = filled (atPlace (figure (segmentOf H))) (H .head .a) old
+runOf (Read H) figure old = filled (atPlace (figure (segmentOf H))) (mastersOf H) old
 runOf (Not n p) figure old = old

@@ -3,7 +3,8 @@
 use Prim.Native.Nat.{ℕ, _≤_, _<_}
 use mathlib.Core.Path.{_≡_}
 use mathlib.Core.List.{List}
-use Rattle.sheet_read.specs.Sheets.{Sheet}
+use Rattle.sheet_record.specs.Kinds.{pnet}
+use Rattle.sheet_read.specs.Sheets.{Sheet, busIn, mastersOf}
 use Rattle.sheet_read.specs.Whole.{reading}
 use Rattle.sheet_read.specs.Whole.Outcome.{Read, Not}
 use Rattle.pnet_rules.specs.Segment.{Segment, segmentOf, bound}
@@ -22,7 +23,7 @@ pub record FirstFails (S : Segment) (i : ℕ) : Type 0 where
 -- a P-NET sheet
 pub record OnBus (s : List ℕ) (H : Sheet) : Type 0 where
   pub reads : reading s ≡ Read H
-  pub pnet : H .head .kind ≡ 1
+  pub pnet : busIn H ≡ pnet
 
 -- each run has N places
 pub record Room (la lb lc N : ℕ) : Type 0 where
@@ -35,14 +36,14 @@ pub data Given (s : List ℕ) (la lb lc : ℕ) : ℕ → ℕ → Type 0 where
   -- the sheet is not read
   unread : {n p : ℕ} → reading s ≡ Not n p → Given s la lb lc n p
   -- another bus's sheet: 3 at 0
-  another-bus : {H : Sheet} → reading s ≡ Read H → (H .head .kind ≡ 1 → ⊥) → Given s la lb lc 3 0
+  another-bus : {H : Sheet} → reading s ≡ Read H → (busIn H ≡ pnet → ⊥) → Given s la lb lc 3 0
   -- lent room too short: the length needed
-  no-room : {H : Sheet} → OnBus s H → (Room la lb lc (H .head .a) → ⊥) → Given s la lb lc 13 (H .head .a)
+  no-room : {H : Sheet} → OnBus s H → (Room la lb lc (mastersOf H) → ⊥) → Given s la lb lc 13 (mastersOf H)
   -- a bound above a deadline: the first such stream
-  too-late : {H : Sheet} {i : ℕ} → OnBus s H → Room la lb lc (H .head .a) → FirstFails (segmentOf H) i → Given s la lb lc 8 i
+  too-late : {H : Sheet} {i : ℕ} → OnBus s H → Room la lb lc (mastersOf H) → FirstFails (segmentOf H) i → Given s la lb lc 8 i
 
 -- none is given
 pub record Accepted (s : List ℕ) (la lb lc : ℕ) (H : Sheet) : Type 0 where
   pub on-bus : OnBus s H
-  pub room : Room la lb lc (H .head .a)
+  pub room : Room la lb lc (mastersOf H)
   pub passes : (i : ℕ) → 1 ≤ i → i ≤ segmentOf H .number → Passes (segmentOf H) i

@@ -8,6 +8,7 @@ ghost use mathlib.Core.Path.{_≡_};
 ghost use Prim.Native.Nat.{ℕ, _+_, _-_, _*_, _≤_, _<_, min};
 ghost use lib.ListN.{length};
 ghost use Rattle.common.specs.Runs.{filled};
+ghost use Rattle.sheet_record.specs.Kinds.{pnet};
 ghost use Rattle.sheet_read.specs.Steps.{Ready};
 ghost use Rattle.pnet_rules.specs.Segment;
 ghost use Rattle.pnet_rules.specs.Refined;
@@ -84,15 +85,15 @@ fn place(
     shortest: &mut [u32; 33],
     spacings: &mut [u32],
 ) -> usize
-    requires { ⌜ Ready (now s) 1 first streams × (streams ≤ length (now spacings)) ⌝ }
-    requires { ⌜ (turn ≡ Segment.turn (segmentIn (now s) streams)) × ((y : ℕ) → y ≤ 32 → at (now counts) y ≡ Segment.count (segmentIn (now s) streams) y) ⌝ }
-    requires { ⌜ Grouped (segmentIn (now s) streams) 0 (now ends) (now shortest) (now spacings) ⌝ }
-    ensures { λ r. ⌜ (r ≡ firstLate (segmentIn (now (s .entry)) streams)) × (streams < r → Grouped (segmentIn (now (s .entry)) streams) streams (now (ends .exit)) (now (shortest .exit)) (now (spacings .exit))) ⌝ }
+    requires { ⌜ Ready (now s) pnet first streams × (streams ≤ length (now spacings)) ⌝ }
+    requires { ⌜ (turn ≡ Segment.turn (segmentIn (now s))) × ((y : ℕ) → y ≤ 32 → at (now counts) y ≡ Segment.count (segmentIn (now s)) y) ⌝ }
+    requires { ⌜ Grouped (segmentIn (now s)) 0 (now ends) (now shortest) (now spacings) ⌝ }
+    ensures { λ r. ⌜ (r ≡ firstLate (segmentIn (now (s .entry)))) × (streams < r → Grouped (segmentIn (now (s .entry))) streams (now (ends .exit)) (now (shortest .exit)) (now (spacings .exit))) ⌝ }
 {
     let mut at = first;
     let mut i: usize = 0;
     while i < streams {
-        let met = sheet_record::record_of(s, at, 2);
+        let met = sheet_record::stream_at(s, at, 1);
         let r = met.found;
         let m = r.a as usize;
         let bound = counts[m] as u32 * turn;
@@ -394,7 +395,7 @@ pub fn plan(s: &[u8], bound: &mut [u32], refined: &mut [u32], rounds: &mut [u32]
             streams,
             first,
         } => {
-            if head.kind != 1 {
+            if sheet_record::bus_of(head.kind) != 1 {
                 return Plan::Refused { no: 3, place: 0 };
             }
             let n = head.a as usize;

@@ -1,23 +1,26 @@
 -- Page 01, 'Sheet records': a P-NET sheet that reads without refusal declares a segment within the ranges and limits. Assumes nothing.
-use mathlib.Core.Path.{_≡_, ap, _∙_}
+use mathlib.Core.Path.{_≡_, sym, _∙_}
 use mathlib.Core.Bool.{true}
-use mathlib.Core.List.{List}
-use Prim.Native.Nat.{ℕ, _+_, _-_}
+use mathlib.Core.List.{List, []}
+use Prim.Native.Nat.{ℕ, _-_}
 use native.Mathlib.Omega.{arith}
+use borrow.Author.Tests.{eqb-true}
 use lib.ListN.{getD}
+use Rattle.sheet_record.specs.declared.Given.{Given}
 use Rattle.sheet_record.specs.declared.Record.{Record}
-use Rattle.sheet_record.specs.Kinds.{nothing, inRange}
+use Rattle.sheet_record.specs.Kinds.{pnet, isStreamOf, nothing, inRange}
+use Rattle.sheet_record.proofs.Parts.{first-bus, pnet-streams}
 use Rattle.sheet_record.proofs.Ranges.{segment-ranges, pnet-stream-ranges}
-use Rattle.sheet_read.specs.Sheets.{Sheet, countOf, longestOf}
+use Rattle.sheet_read.specs.Sheets.{Sheet, sheetOf, busIn, given, countOf, longestOf}
 use Rattle.sheet_read.proofs.Counts.{counted-by-number, longest-by-number}
 use Rattle.sheet_read.proofs.Known.{Known}
 use Rattle.pnet_rules.specs.Segment.{streamOf, streamAt, segmentOf, owns, count, longest}
 use Rattle.pnet_rules.specs.Limits.{Ranged, Declared}
 
--- a stream's ranges are those of its record
-stream-ranged : (N M : ℕ) (r : Record) → r .kind ≡ 2 → inRange N M r ≡ true → Ranged N (streamOf r)
-stream-ranged N M r k e =
-    let w = pnet-stream-ranges N M r e k in
+-- a P-NET stream's ranges are those of its record
+stream-ranged : (g : Given) (r : Record) → isStreamOf pnet (r .kind) ≡ true → inRange g r ≡ true → Ranged (g .masters) (streamOf r)
+stream-ranged g r its e =
+    let w = pnet-stream-ranges g r e (eqb-true (r .kind) 2 (sym (pnet-streams (r .kind)) ∙ its)) in
     record {
       master-from = w .master .least;
       master-to = w .master .most;
@@ -39,15 +42,15 @@ pub longest-of : (H : Sheet) (k : ℕ) → longest (segmentOf H) k ≡ longestOf
 unfolding longest owns segmentOf streamAt
 longest-of H k = longest-by-number k (H .streams)
 
-pub declared : (s : List ℕ) (H : Sheet) → Known s H → H .head .kind ≡ 1 → Declared (segmentOf H)
+pub declared : (s : List ℕ) (H : Sheet) → Known s H → busIn H ≡ pnet → Declared (segmentOf H)
 unfolding segmentOf streamAt
 declared s H known k =
-    let m = segment-ranges 0 0 (H .head) (known .head-ranged) k .masters in
+    let m = segment-ranges (given (sheetOf []) (H .head .a)) (H .head) (known .head-ranged) (sym (first-bus (H .head .kind) (known .head-first)) ∙ k) .masters in
     record {
       masters-from = m .least;
       masters-to = m .most;
       number-from = known .some;
       number-to = known .few;
-      ranges = λ i lo hi. stream-ranged (H .head .a) (H .head .c) (getD (H .streams) (i - 1) nothing) (known .kinds (i - 1) (omega arith) ∙ ap (λ (x : ℕ). x + 1) k) (known .ranged (i - 1) (omega arith));
+      ranges = λ i lo hi. let r = getD (H .streams) (i - 1) nothing in stream-ranged (given H (r .a)) r (rw k at (known .kinds (i - 1) (omega arith))) (known .ranged (i - 1) (omega arith));
       counts = λ y. rw (count-of H y) (known .per-master y (λ five. omega (arith, k, five)));
     }

@@ -11,11 +11,11 @@ use Rattle.pnet_rules.specs.Refined.{saving, rightBy, valueOf, stands, r
 
 -- two masters with 203 bp cycles: two streams and one, with these spacings and deadlines
 abbrev stream : ℕ → ℕ → Record
-stream y T = record { kind = 2; a = y; b = 203; c = T; d = T }
+stream y T = record { kind = 2; a = y; b = 203; c = T; d = T; e = 0 }
 
 abbrev two : ℕ → Segment
 unfolding segmentOf
-two T = segmentOf (record { head = record { kind = 1; a = 2; b = 0; c = 0; d = 0 }; streams = stream 1 100000 ∷ stream 1 100000 ∷ stream 2 T ∷ [] })
+two T = segmentOf (record { head = record { kind = 1; a = 2; b = 0; c = 0; d = 0; e = 0 }; settings = []; streams = stream 1 100000 ∷ stream 1 100000 ∷ stream 2 T ∷ [] })
 
 bounds : (bound (two 100000) 1 ≡ 1000) × (bound (two 100000) 2 ≡ 500)
 unfolding segmentOf streamAt owns count longest hold turnBy boundBy turn bound upto greatest

@@ -8,7 +8,7 @@ use lib.Dec.{eqb, ltb}
 use Rattle.common.specs.Sums.{when, upto, greatest}
 use Rattle.sheet_record.specs.declared.Record.{Record}
 use Rattle.sheet_record.specs.Kinds.{nothing}
-use Rattle.sheet_read.specs.Sheets.{Sheet}
+use Rattle.sheet_read.specs.Sheets.{Sheet, mastersOf}
 
 -- ---- A segment as a sheet declares it
 
@@ -25,7 +25,7 @@ pub record Segment : Type 0 where
   pub number : ℕ
   pub stream : ℕ → Stream
 
--- a kind 2 record's fields
+-- the fields of a P-NET stream's record
 abbrev pub streamOf : Record → Stream
 streamOf r = record { master = r .a; cycle = r .b; spacing = r .c; deadline = r .d }
 
@@ -35,7 +35,7 @@ streamAt rs i = streamOf (getD rs (i - 1) nothing)
 
 unfoldable pub segmentOf : Sheet → Segment
 unfolding streamAt
-segmentOf S = record { masters = S .head .a; number = length (S .streams); stream = streamAt (S .streams) }
+segmentOf S = record { masters = mastersOf S; number = length (S .streams); stream = streamAt (S .streams) }
 
 -- ---- The figures
 

@@ -23,11 +23,11 @@ use Rattle.pnet_run.proofs.Demand.{accepted-if-none-is-late}
 
 -- C is 203, T and D 100,000
 abbrev stream : ℕ → Record
-stream m = record { kind = 2; a = m; b = 203; c = 100000; d = 100000 }
+stream m = record { kind = 2; a = m; b = 203; c = 100000; d = 100000; e = 0 }
 
 -- two masters: streams 1 and 2 are master 1's, stream 3 master 2's
 abbrev pub two : Segment
-two = segmentOf (record { head = record { kind = 1; a = 2; b = 0; c = 0; d = 0 }; streams = stream 1 ∷ stream 1 ∷ stream 2 ∷ [] })
+two = segmentOf (record { head = record { kind = 1; a = 2; b = 0; c = 0; d = 0; e = 0 }; settings = []; streams = stream 1 ∷ stream 1 ∷ stream 2 ∷ [] })
 
 pub refined-is-760 : refined two 1 ≡ 760
 unfolding segmentOf refined

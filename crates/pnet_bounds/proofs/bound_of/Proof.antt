@@ -1,4 +1,5 @@
 -- `pnet_bounds::bound_of` meets its contract: the reading's own refusals, then 3, and what `bound_by` says. Assumes nothing.
+use mathlib.Core.Path.{sym, _∙_}
 use borrow.Author.Needs.{needs}
 use denote.Ref.{now}
 use lib.ListN.{replicate}
@@ -17,6 +18,9 @@ enum-known-read c = search needs
 enum-known-read-2 : tie.Need-enum-known-read-2
 enum-known-read-2 c = search needs
 
+bus-of-requires : tie.Need-bus-of-requires
+bus-of-requires c κs = search needs
+
 cast-bound-by : tie.Need-cast-bound-by
 cast-bound-by c = search needs
 
@@ -26,7 +30,7 @@ bound-by-requires c κs =
     let x = c .before .before .before .before .before .before .read2 .given in
     let s = c .before .before .before .before .before .before .before .before .before .before .before .before .args .s in
     let t = answer-taken (now s) (g .0) (x .1) in
-    sheeted t (c .before .before .before .if1 .taken) (replicate 33 0) (replicate 33 0) (g .1 .0) (g .1 .1)
+    sheeted t (sym (c .before .before .before .before .bus-of .ensures) ∙ c .before .before .before .if1 .taken) (replicate 33 0) (replicate 33 0) (g .1 .0) (g .1 .1)
 
 returns : tie.Need-returns
 returns c =
@@ -42,7 +46,7 @@ returns-3 c =
     let a = c .before .before .before .before .before .before .before .before .before .args in
     let g = c .before .before .before .before .before .read-gathering .ensures in
     let x = c .before .before .before .read2 .given in
-    sender-refused (now (a .s)) (a .master) 3 0 (taken-other (answer-taken (now (a .s)) (g .0) (x .1)) 800 (c .if1 .left))
+    sender-refused (now (a .s)) (a .master) 3 0 (taken-other (answer-taken (now (a .s)) (g .0) (x .1)) 800 (λ k. c .if1 .left (c .before .bus-of .ensures ∙ k)))
 
 pub bound-of-spec : {M : Type 1} → statement M
 bound-of-spec =
@@ -51,6 +55,7 @@ bound-of-spec =
     read-gathering-requires
     enum-known-read
     enum-known-read-2
+    bus-of-requires
     cast-bound-by
     bound-by-requires
     returns

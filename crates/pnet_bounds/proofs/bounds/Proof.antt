@@ -1,4 +1,5 @@
 -- `pnet_bounds::bounds` meets its contract: the reading's own refusals, then 3, then 13, and what `bounds_of` says. Assumes nothing.
+use mathlib.Core.Path.{sym, _∙_}
 use borrow.Author.Needs.{needs}
 use denote.Ref.{now}
 use lib.ListN.{replicate}
@@ -16,12 +17,15 @@ enum-known-read c = search needs
 enum-known-read-2 : tie.Need-enum-known-read-2
 enum-known-read-2 c = search needs
 
+bus-of-requires : tie.Need-bus-of-requires
+bus-of-requires c κs = search needs
+
 returns : tie.Need-returns
 returns c =
     let a = c .before .before .before .before .before .before .before .before .before .args in
     let g = c .before .before .before .before .before .read-gathering .ensures in
     let x = c .before .before .before .read2 .given in
-    returned-refused (now (a .s)) (a .room) (now (a .masters)) (now (a .bound)) (now (a .spacing)) 3 0 (taken-other (answer-taken (now (a .s)) (g .0) (x .1)) (a .room) (c .if1 .taken))
+    returned-refused (now (a .s)) (a .room) (now (a .masters)) (now (a .bound)) (now (a .spacing)) 3 0 (taken-other (answer-taken (now (a .s)) (g .0) (x .1)) (a .room) (λ k. c .if1 .taken (c .before .bus-of .ensures ∙ k)))
 
 returns-2 : tie.Need-returns-2
 returns-2 c =
@@ -29,7 +33,7 @@ returns-2 c =
     let g = c .before .before .before .before .before .before .read-gathering .ensures in
     let x = c .before .before .before .before .read2 .given in
     returned-refused (now (a .s)) (a .room) (now (a .masters)) (now (a .bound)) (now (a .spacing)) 13 (x .0 .1 .0)
-    (taken-short (answer-taken (now (a .s)) (g .0) (x .1)) (a .room) (c .before .if1 .left) (c .if2 .taken))
+    (taken-short (answer-taken (now (a .s)) (g .0) (x .1)) (a .room) (sym (c .before .before .bus-of .ensures) ∙ c .before .if1 .left) (c .if2 .taken))
 
 cast-bounds-of : tie.Need-cast-bounds-of
 cast-bounds-of c = search needs
@@ -40,7 +44,7 @@ bounds-of-requires c κs =
     let x = c .before .before .before .before .before .before .before .before .before .before .read2 .given in
     let s = c .before .before .before .before .before .before .before .before .before .before .before .before .before .before .before .before .args .s in
     let t = answer-taken (now s) (g .0) (x .1) in
-    (sheeted t (c .before .before .before .before .before .before .before .if1 .left) (replicate 33 0) (replicate 33 0) (g .1 .0) (g .1 .1), c .before .before .before .before .before .before .if2 .left)
+    (sheeted t (sym (c .before .before .before .before .before .before .before .before .bus-of .ensures) ∙ c .before .before .before .before .before .before .before .if1 .left) (replicate 33 0) (replicate 33 0) (g .1 .0) (g .1 .1), c .before .before .before .before .before .before .if2 .left)
 
 returns-3 : tie.Need-returns-3
 returns-3 c =
@@ -59,6 +63,7 @@ bounds-spec =
     read-gathering-requires
     enum-known-read
     enum-known-read-2
+    bus-of-requires
     returns
     returns-2
     cast-bounds-of

@@ -1,11 +1,11 @@
 -- `pnet_bounds::by_stream` meets its contract. The invariant: the three runs have their first i places filled, and `at` is the place of the
 -- next stream. Assumes nothing.
 use mathlib.Core.Path.{_≡_}
-use Prim.Native.Nat.{suc, _-_, _≤_}
+use Prim.Native.Nat.{_-_, _≤_}
 use native.Mathlib.Omega.{arith}
 use borrow.Author.Needs.{needs}
 use Rattle.common.proofs.Runs.{Filling, filling-none, filling-more, filling-done}
-use Rattle.sheet_read.specs.Whole.{placeOf}
+use Rattle.sheet_read.specs.Steps.{streamPlace}
 use Rattle.pnet_plan.specs.Planned.{atPlace}
 use Rattle.pnet_plan.specs.Arrays.{segmentIn}
 use Rattle.pnet_plan.proofs.Bytes.{Here, here}
@@ -17,10 +17,10 @@ use Rattle.pnet_bounds.proofs.by_stream.Tie as tie
 abbrev Inv-loop : tie.InvT-loop
 Inv-loop s first n counts turn masters₀ bound₀ spacing₀ at₀ i₀ masters bound spacing at i =
     (i ≤ n)
-    × (at ≡ placeOf s (suc i))
-    × Filling (atPlace (masterOf (segmentIn s n))) i masters₀ masters
-    × Filling (atPlace (boundOf (segmentIn s n))) i bound₀ bound
-    × Filling (atPlace (spacingOf (segmentIn s n))) i spacing₀ spacing
+    × (at ≡ streamPlace s i)
+    × Filling (atPlace (masterOf (segmentIn s))) i masters₀ masters
+    × Filling (atPlace (boundOf (segmentIn s))) i bound₀ bound
+    × Filling (atPlace (spacingOf (segmentIn s))) i spacing₀ spacing
 
 abbrev μ-loop : tie.MeasureT-loop
 μ-loop s first n counts turn masters₀ bound₀ spacing₀ at₀ i₀ masters bound spacing at i = n - i
@@ -28,25 +28,24 @@ abbrev μ-loop : tie.MeasureT-loop
 loop-holds : tie.Need-loop-holds Inv-loop μ-loop
 loop-holds c = (search needs, c .before .before .before .before .pre .0 .0 .starts, filling-none _ _, filling-none _ _, filling-none _ _)
 
-record-of-requires : tie.Need-record-of-requires Inv-loop μ-loop
-record-of-requires c κs = search needs
+stream-at-requires : tie.Need-stream-at-requires Inv-loop μ-loop
+stream-at-requires c κs = search needs
 
--- the record read is stream i + 1
-its : (c : tie.After-record-of Inv-loop μ-loop)
-    → Here (c .before .before .before .before .before .before .before .args .s .now) (c .before .before .before .before .before .before .before .args .n)
-    (c .before .before .loop .i) (c .record-of .result)
+-- what is met is stream i + 1
+its : (c : tie.After-stream-at Inv-loop μ-loop)
+    → Here (c .before .before .before .before .before .before .before .args .s .now) (c .before .before .loop .i) (c .stream-at .result)
 its c =
     let l = c .before .before .loop in
-    here (c .before .before .before .before .before .before .before .pre .0 .0) (l .i) (l .at) (c .record-of .result) (omega arith) (l .inv .1)
-    (c .record-of .ensures)
+    here (c .before .before .before .before .before .before .before .pre .0 .0) (l .i) (l .at) (c .stream-at .result) (omega arith) (l .inv .1)
+    (c .stream-at .ensures)
 
 -- and its master, bound and spacing are those that the code has
-stream : (c : tie.After-record-of Inv-loop μ-loop)
-    → Placed (c .before .before .before .before .before .before .before .args .s .now) (c .before .before .before .before .before .before .before .args .n) (c .before .before .loop .i) (c .before .before .before .before .before .before .before .args .counts .now) (c .before .before .before .before .before .before .before .args .turn)
-    (c .record-of .result .found)
+stream : (c : tie.After-stream-at Inv-loop μ-loop)
+    → Placed (c .before .before .before .before .before .before .before .args .s .now) (c .before .before .loop .i) (c .before .before .before .before .before .before .before .args .counts .now) (c .before .before .before .before .before .before .before .args .turn)
+    (c .stream-at .result .found)
 stream c =
     let start = c .before .before .before .before .before .before .before in
-    placed (start .pre .0 .0) (start .args .counts .now) (start .args .turn) (start .pre .1 .0) (start .pre .1 .1) (c .before .before .loop .i) (c .record-of .result) (omega arith) (its c)
+    placed (start .pre .0 .0) (start .args .counts .now) (start .args .turn) (start .pre .1 .0) (start .pre .1 .1) (c .before .before .loop .i) (c .stream-at .result) (omega arith) (its c)
 
 cast-masters : tie.Need-cast-masters Inv-loop μ-loop
 cast-masters c = omega (arith, stream (c .before .before))
@@ -114,7 +113,7 @@ by-stream-spec =
     Inv-loop
     μ-loop
     loop-holds
-    record-of-requires
+    stream-at-requires
     cast-masters
     slice-write-masters
     cast-bound

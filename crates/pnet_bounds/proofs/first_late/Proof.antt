@@ -1,13 +1,13 @@
 -- `pnet_bounds::first_late` meets its contract. The invariant: none of the first i streams fails, and `at` is the place of the next. Assumes nothing.
 use mathlib.Core.Path.{_≡_, ap, _∙_}
 use mathlib.Core.Bool.{false}
-use Prim.Native.Nat.{ℕ, suc, _+_, _-_, _≤_, _<_}
+use Prim.Native.Nat.{ℕ, _+_, _-_, _≤_, _<_}
 use native.Mathlib.Omega.{arith}
 use borrow.Author.Count.{below-none, below-more}
 use borrow.Author.Needs.{needs}
 use Rattle.common.specs.Sums.{firstOf}
 use Rattle.common.proofs.Firsts.{first-here, first-nowhere}
-use Rattle.sheet_read.specs.Whole.{placeOf}
+use Rattle.sheet_read.specs.Steps.{streamPlace}
 use Rattle.pnet_rules.specs.Segment.{late}
 use Rattle.pnet_plan.specs.Planned.{firstLate}
 use Rattle.pnet_plan.specs.Arrays.{segmentIn}
@@ -17,7 +17,7 @@ use Rattle.pnet_bounds.proofs.first_late.Statement.{statement}
 use Rattle.pnet_bounds.proofs.first_late.Tie as tie
 
 abbrev Inv-loop : tie.InvT-loop
-Inv-loop s first n counts turn at₀ i₀ at i = (i ≤ n) × (at ≡ placeOf s (suc i)) × ((j : ℕ) → j < i → late (segmentIn s n) (j + 1) ≡ false)
+Inv-loop s first n counts turn at₀ i₀ at i = (i ≤ n) × (at ≡ streamPlace s i) × ((j : ℕ) → j < i → late (segmentIn s) (j + 1) ≡ false)
 
 abbrev μ-loop : tie.MeasureT-loop
 μ-loop s first n counts turn at₀ i₀ at i = n - i
@@ -25,21 +25,21 @@ abbrev μ-loop : tie.MeasureT-loop
 loop-holds : tie.Need-loop-holds Inv-loop μ-loop
 loop-holds c = (search needs, c .before .pre .0 .starts, below-none _)
 
-record-of-requires : tie.Need-record-of-requires Inv-loop μ-loop
-record-of-requires c κs = search needs
+stream-at-requires : tie.Need-stream-at-requires Inv-loop μ-loop
+stream-at-requires c κs = search needs
 
--- the record read is stream i + 1
-its : (c : tie.After-record-of Inv-loop μ-loop)
-    → Here (c .before .before .before .before .args .s .now) (c .before .before .before .before .args .n) (c .before .before .loop .i) (c .record-of .result)
+-- what is met is stream i + 1
+its : (c : tie.After-stream-at Inv-loop μ-loop)
+    → Here (c .before .before .before .before .args .s .now) (c .before .before .loop .i) (c .stream-at .result)
 its c =
     let l = c .before .before .loop in
-    here (c .before .before .before .before .pre .0) (l .i) (l .at) (c .record-of .result) (omega arith) (l .inv .1) (c .record-of .ensures)
+    here (c .before .before .before .before .pre .0) (l .i) (l .at) (c .stream-at .result) (omega arith) (l .inv .1) (c .stream-at .ensures)
 
-stream : (c : tie.After-record-of Inv-loop μ-loop)
-    → Placed (c .before .before .before .before .args .s .now) (c .before .before .before .before .args .n) (c .before .before .loop .i) (c .before .before .before .before .args .counts .now) (c .before .before .before .before .args .turn) (c .record-of .result .found)
+stream : (c : tie.After-stream-at Inv-loop μ-loop)
+    → Placed (c .before .before .before .before .args .s .now) (c .before .before .loop .i) (c .before .before .before .before .args .counts .now) (c .before .before .before .before .args .turn) (c .stream-at .result .found)
 stream c =
     let start = c .before .before .before .before in
-    placed (start .pre .0) (start .args .counts .now) (start .args .turn) (start .pre .1 .0) (start .pre .1 .1) (c .before .before .loop .i) (c .record-of .result) (omega arith) (its c)
+    placed (start .pre .0) (start .args .counts .now) (start .args .turn) (start .pre .1 .0) (start .pre .1 .1) (c .before .before .loop .i) (c .stream-at .result) (omega arith) (its c)
 
 cast-bound : tie.Need-cast-bound Inv-loop μ-loop
 cast-bound c = omega (arith, stream (c .before .before))
@@ -63,8 +63,8 @@ returns c =
     let l = r .before .before .loop in
     let a = r .before .before .before .before .args in
     let p = r .before .before .before .before .pre in
-    let S = segmentIn (a .s .now) (a .n) in
-    let hit = its-late (p .0) (omega arith) (r .record-of .result) (its r) (a .counts .now) (a .turn) (p .1 .1) (p .1 .0) (c .if1 .taken) in
+    let S = segmentIn (a .s .now) in
+    let hit = its-late (p .0) (omega arith) (r .stream-at .result) (its r) (a .counts .now) (a .turn) (p .1 .1) (p .1 .0) (c .if1 .taken) in
     first-here (late S) (S .number) (l .i) (l .inv .2) (omega (arith, number-is (p .0))) hit
 
 add-i : tie.Need-add-i Inv-loop μ-loop
@@ -81,7 +81,7 @@ loop-again c =
     let p = r .before .before .before .before .pre in (
       search needs,
       its r .next,
-      below-more _ _ (l .inv .2) (its-not-late (p .0) (omega arith) (r .record-of .result) (its r) (a .counts .now) (a .turn) (p .1 .1) (p .1 .0) (omega (arith, c .if1 .left))),
+      below-more _ _ (l .inv .2) (its-not-late (p .0) (omega arith) (r .stream-at .result) (its r) (a .counts .now) (a .turn) (p .1 .1) (p .1 .0) (omega (arith, c .if1 .left))),
     )
 
 add-result-2 : tie.Need-add-result-2 Inv-loop μ-loop
@@ -93,7 +93,7 @@ returns-2 c =
     let l = c .before .loop in
     let a = c .before .before .before .args in
     let p = c .before .before .before .pre in
-    let S = segmentIn (a .s .now) (a .n) in
+    let S = segmentIn (a .s .now) in
     let e : l .i ≡ a .n = omega arith in
     first-nowhere (late S) (a .n) (l .i) (l .inv .2) e ∙ ap (λ (k : ℕ). firstOf (late S) k 1) (number-is (p .0))
 
@@ -104,7 +104,7 @@ first-late-spec =
     Inv-loop
     μ-loop
     loop-holds
-    record-of-requires
+    stream-at-requires
     cast-bound
     element-copy-out-bound
     cast-bound-2

@@ -7,6 +7,7 @@ use native.Mathlib.Omega.{arith}
 use borrow.Author.Tests.{ltb-true, ltb-false}
 use lib.ListN.{length, replicate}
 use Rattle.sheet_record.specs.declared.Record.{Record}
+use Rattle.sheet_record.specs.Kinds.{busOf}
 use Rattle.sheet_read.specs.Steps.{sheetIn}
 use Rattle.sheet_read.proofs.Taken.{Taken, taken, not-taken}
 use Rattle.pnet_plan.proofs.Bytes.{sheeted, streams-few}
@@ -35,12 +36,14 @@ took c =
     taken (c .before .before .before .before .before .before .before .before .before .args .s .now) (c .read2 .given .0 .0) (c .read2 .given .0 .1 .0) (c .read2 .given .0 .1 .1 .0)
     (sym (c .before .before .read-gathering .ensures .0) ∙ c .read2 .given .1)
 
+bus-of-requires : tie.Need-bus-of-requires
+bus-of-requires c κs = search needs
+
 returns : tie.Need-returns
 returns c =
     let a = c .before .before .before .before .before .before .before .before .before .before .before .before .args in
-    let x = c .before .before .before .read2 .given in
     let t = took (c .before .before .before) in
-    let o = planned-other (a .s .now) (length (a .bound .now)) (length (a .refined .now)) (length (a .rounds .now)) (sheetIn (a .s .now) (x .0 .1 .0)) (t .reads) (λ k. c .if1 .taken (ap (λ (r : Record). r .kind) (t .begins) ∙ k)) in
+    let o = planned-other (a .s .now) (length (a .bound .now)) (length (a .refined .now)) (length (a .rounds .now)) (sheetIn (a .s .now)) (t .reads) (λ k. c .if1 .taken (c .before .bus-of .ensures ∙ (ap (λ (r : Record). busOf (r .kind)) (t .begins) ∙ k))) in
     returned-refused (a .s .now) (a .bound .now) (a .refined .now) (a .rounds .now) 3 0 o
 
 cast-n : tie.Need-cast-n
@@ -51,10 +54,10 @@ returns-2 c =
     let a = c .before .before .before .before .before .before .before .before .before .before .before .before .before .before .args in
     let x = c .before .before .before .before .before .read2 .given in
     let t = took (c .before .before .before .before .before) in
-    let kind = ap (λ (r : Record). r .kind) (sym (t .begins)) ∙ c .before .before .if1 .left in
+    let bus = ap (λ (r : Record). busOf (r .kind)) (sym (t .begins)) ∙ (sym (c .before .before .before .bus-of .ensures) ∙ c .before .before .if1 .left) in
     let short : (x .0 .0 .a ≤ length (a .bound .now) → x .0 .0 .a ≤ length (a .refined .now) → x .0 .0 .a ≤ length (a .rounds .now) → ⊥) =
     λ l m r. ⊎-elim (λ w. omega (arith, ltb-true)) (⊎-elim (λ w. omega (arith, ltb-true)) (λ w. omega (arith, ltb-true))) (c .if2 .came) in
-    let o = planned-short (a .s .now) (length (a .bound .now)) (length (a .refined .now)) (length (a .rounds .now)) (sheetIn (a .s .now) (x .0 .1 .0)) (t .reads) kind (x .0 .0 .a) (ap (λ (r : Record). r .a) (t .begins)) short in
+    let o = planned-short (a .s .now) (length (a .bound .now)) (length (a .refined .now)) (length (a .rounds .now)) (sheetIn (a .s .now)) (t .reads) bus (x .0 .0 .a) (ap (λ (r : Record). r .a) (t .begins)) short in
     returned-refused (a .s .now) (a .bound .now) (a .refined .now) (a .rounds .now) 13 (x .0 .0 .a) o
 
 slice-aggregate-plan-segment : tie.Need-slice-aggregate-plan-segment
@@ -64,7 +67,7 @@ plan-segment-requires : tie.Need-plan-segment-requires
 plan-segment-requires c κs =
     let t = took (c .before .before .before .before .before .before .before .before .before .before .before .before .before .before) in
     let g = c .before .before .before .before .before .before .before .before .before .before .before .before .before .before .before .before .read-gathering .ensures in
-    let h = sheeted t (c .before .before .before .before .before .before .before .before .before .before .before .if1 .left) zeros zeros (g .1 .0) (g .1 .1) in
+    let h = sheeted t (sym (c .before .before .before .before .before .before .before .before .before .before .before .before .bus-of .ensures) ∙ c .before .before .before .before .before .before .before .before .before .before .before .if1 .left) zeros zeros (g .1 .0) (g .1 .1) in
     ((h, c .before .before .before .before .before .before .if5 .taken), (c .before .before .before .before .before .before .before .before .before .if2 .left, ltb-false _ _ (c .before .before .before .before .before .before .before .before .if3 .left), ltb-false _ _ (c .before .before .before .before .before .before .before .if4 .left)))
 
 same-length : tie.Need-same-length
@@ -86,7 +89,7 @@ plan-segment-requires-2 : tie.Need-plan-segment-requires-2
 plan-segment-requires-2 c κs =
     let t = took (c .before .before .before .before .before .before .before .before .before .before .before .before .before .before) in
     let g = c .before .before .before .before .before .before .before .before .before .before .before .before .before .before .before .before .read-gathering .ensures in
-    let h = sheeted t (c .before .before .before .before .before .before .before .before .before .before .before .if1 .left) zeros zeros (g .1 .0) (g .1 .1) in
+    let h = sheeted t (sym (c .before .before .before .before .before .before .before .before .before .before .before .before .bus-of .ensures) ∙ c .before .before .before .before .before .before .before .before .before .before .before .if1 .left) zeros zeros (g .1 .0) (g .1 .1) in
     ((h, streams-few (h .ready)), (c .before .before .before .before .before .before .before .before .before .if2 .left, ltb-false _ _ (c .before .before .before .before .before .before .before .before .if3 .left), ltb-false _ _ (c .before .before .before .before .before .before .before .if4 .left)))
 
 returns-4 : tie.Need-returns-4
@@ -115,6 +118,7 @@ plan-spec =
     read-gathering-requires
     enum-known-read
     enum-known-read-2
+    bus-of-requires
     returns
     cast-n
     returns-2
