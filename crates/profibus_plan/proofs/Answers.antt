@@ -7,7 +7,8 @@ use native.Mathlib.Decide.{ℕ-discrete, decLe}
 use native.Mathlib.Omega.{arith}
 use borrow.Author.Tests.{eq-eqb, ne-eqb, le-leb, lt-leb}
 use Rattle.common.specs.Checks.{verdict}
-use Rattle.sheet_read.specs.Sheets.{Sheet}
+use Rattle.sheet_record.specs.Kinds.{profibus}
+use Rattle.sheet_read.specs.Sheets.{Sheet, busIn}
 use Rattle.sheet_read.specs.Whole.Outcome.{Read}
 use Rattle.profibus_rules.specs.Ring.{ringOf, Declared}
 use Rattle.profibus_rules.specs.Target.{AllPass, FirstFails, Limited, target, firstFailing}
@@ -21,23 +22,23 @@ use Rattle.profibus_plan.specs.Planned.{failsAtLatency, planChecks, plan
 use Rattle.profibus_plan.specs.Planned.Answers.{another-bus, fails, limited}
 
 module _ (S : Sheet) where
-  pub plan-other-bus : (S .head .kind ≡ 3 → ⊥) → planOf (Read S) ≡ plan.Refused 3 0
+  pub plan-other-bus : (busIn S ≡ profibus → ⊥) → planOf (Read S) ≡ plan.Refused 3 0
   unfolding planOf planBy planChecks verdict
-  plan-other-bus e = rw (ne-eqb (S .head .kind) 3 e)
+  plan-other-bus e = rw (ne-eqb (busIn S) profibus e)
 
-  module _ (bus : S .head .kind ≡ 3) where
+  module _ (bus : busIn S ≡ profibus) where
     pub plan-fails : (i : ℕ) → FirstFails (ringOf S) (ringOf S .latency) i → planOf (Read S) ≡ plan.Refused 9 i
     unfolding planOf planBy planChecks failsAtLatency verdict
     plan-fails i f =
         let R = ringOf S in
-        rw (eq-eqb (S .head .kind) 3 bus, fails-named R (R .latency) i f, le-leb i (R .number) (f .there .1))
+        rw (eq-eqb (busIn S) profibus bus, fails-named R (R .latency) i f, le-leb i (R .number) (f .there .1))
 
     pub plan-passes : AllPass (ringOf S) (ringOf S .latency)
         → planOf (Read S) ≡ plan.Target (record { 0 = target (ringOf S) }) (firstFailing (ringOf S) (target (ringOf S) + 1))
     unfolding planOf planBy planChecks failsAtLatency verdict
     plan-passes p =
         let R = ringOf S in
-        rw (eq-eqb (S .head .kind) 3 bus, none-named R (R .latency) p, lt-leb (1 + R .number) (R .number) (omega arith))
+        rw (eq-eqb (busIn S) profibus bus, none-named R (R .latency) p, lt-leb (1 + R .number) (R .number) (omega arith))
 
     pub plan-limited : Declared (ringOf S) → (ttr i : ℕ) → Limited (ringOf S) ttr i → planOf (Read S) ≡ plan.Target (record { 0 = ttr }) i
     plan-limited within ttr i a =
@@ -49,9 +50,9 @@ module _ (S : Sheet) where
 
 module _ (s : List ℕ) (S : Sheet) (known : Known s S) where
   pub plan-answers : Answers S (planOf (Read S))
-  plan-answers = of-kind (ℕ-discrete (S .head .kind) 3)
+  plan-answers = by-bus (ℕ-discrete (busIn S) profibus)
     where
-      at-latency : S .head .kind ≡ 3 → Dec (firstFailing (ringOf S) (ringOf S .latency) ≤ ringOf S .number) → Answers S (planOf (Read S))
+      at-latency : busIn S ≡ profibus → Dec (firstFailing (ringOf S) (ringOf S .latency) ≤ ringOf S .number) → Answers S (planOf (Read S))
       at-latency bus (yes l) =
           let R = ringOf S in
           let f = named-fails R (R .latency) l in
@@ -61,9 +62,9 @@ module _ (s : List ℕ) (S : Sheet) (known : Known s S) where
           let p = none-fails R (R .latency) (omega (arith, l)) in
           rw (plan-passes S bus p) (limited (target R) (firstFailing R (target R + 1)) bus (target-limited R (declared s S known bus) p))
 
-      of-kind : Dec (S .head .kind ≡ 3) → Answers S (planOf (Read S))
-      of-kind (yes bus) = at-latency bus (decLe (firstFailing (ringOf S) (ringOf S .latency)) (ringOf S .number))
-      of-kind (no e) = rw (plan-other-bus S e) (another-bus e)
+      by-bus : Dec (busIn S ≡ profibus) → Answers S (planOf (Read S))
+      by-bus (yes bus) = at-latency bus (decLe (firstFailing (ringOf S) (ringOf S .latency)) (ringOf S .number))
+      by-bus (no e) = rw (plan-other-bus S e) (another-bus e)
 
   pub answers-plan : {p : Plan} → Answers S p → p ≡ planOf (Read S)
   answers-plan (another-bus e) = sym (plan-other-bus S e)

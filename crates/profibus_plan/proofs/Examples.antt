@@ -2,16 +2,10 @@
 use Prim.Native.Nat.{ℕ}
 use mathlib.Core.Path.{_≡_, refl}
 use mathlib.Core.List.{List, [], _∷_}
-use Rattle.common.specs.Sums.{upto, firstOf}
-use Rattle.common.specs.Checks.{verdict}
-use Rattle.sheet_record.specs.Numbers.{be}
-use Rattle.sheet_record.specs.Kinds.{kinds, fieldsOf, widths, sizeOf, known, fieldAt, decode, limit, within, ranged, inRange}
-use Rattle.sheet_read.specs.Sheets.{streamsOf, headOf, sheetOf, fits, countOf, mostInAll, hasMaster, overLimit, metBefore}
-use Rattle.sheet_read.specs.Whole.{placeOf, recordsOf, recordChecks, endChecks, judge, ended, readFrom, reading}
-use Rattle.profibus_rules.specs.Ring.{ringOf, streamAt, owns, count, messages, rotation, needed, fails}
-use Rattle.profibus_rules.specs.Target.{bears, least, target, firstFailing}
+use Rattle.sheet_read.specs.Sheets.{sheetOf}
+use Rattle.sheet_read.specs.Whole.{reading}
 use Rattle.profibus_plan.specs.declared.answer.Plan.the-variants as plan
-use Rattle.profibus_plan.specs.Planned.{failsAtLatency, planChecks, planBy, planOf}
+use Rattle.profibus_plan.specs.Planned.{planOf}
 
 -- n 3, L 300, M 500; master 1: C 400 D 8,400 and C 500 D 10,000; master 2: C 300 D 5,000
 abbrev three : List ℕ
@@ -23,5 +17,5 @@ three =
     ∷ []
 
 answer : planOf (reading three) ≡ plan.Target (record { 0 = 2500 }) 1
-unfolding planOf planBy planChecks failsAtLatency verdict ringOf streamAt owns count messages rotation needed fails upto firstOf bears least target firstFailing reading readFrom ended judge recordChecks endChecks recordsOf placeOf streamsOf headOf sheetOf fits countOf mostInAll hasMaster overLimit metBefore kinds fieldsOf widths sizeOf known fieldAt decode limit within ranged inRange be
+unfolding planOf reading sheetOf
 answer = refl

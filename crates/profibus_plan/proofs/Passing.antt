@@ -1,45 +1,46 @@
 -- What a pass over the streams meets: stream after stream of the sheet's ring, and each master's count. Assumes nothing.
 use mathlib.Core.Path.{_≡_, sym, ap}
 use mathlib.Core.List.{List}
-use Prim.Native.Nat.{ℕ, suc, _+_, _-_, _<_}
+use Prim.Native.Nat.{ℕ, _+_, _-_, _<_}
 use native.Mathlib.Omega.{arith}
 use borrow.Author.Tests.{ne-eqb}
 use Rattle.common.specs.Runs.{tab}
 use Rattle.common.proofs.Runs.{tab-same}
 use Rattle.sheet_record.specs.declared.Met.{Met}
-use Rattle.sheet_record.specs.Kinds.{metOf}
-use Rattle.sheet_read.specs.Whole.{placeOf, reading, streamsOfMaster, countsTold}
-use Rattle.sheet_read.specs.Steps.{sheetIn, Ready}
-use Rattle.sheet_read.proofs.Taken.{ready-known, ready-streams, stream-met-of}
+use Rattle.sheet_record.specs.Kinds.{profibus, worldfip, streamMet}
+use Rattle.sheet_read.specs.Sheets.{busIn}
+use Rattle.sheet_read.specs.Whole.{reading, streamsOfMaster, countsTold}
+use Rattle.sheet_read.specs.Steps.{sheetIn, streamPlace, Ready}
+use Rattle.sheet_read.proofs.Taken.{ready-known, stream-met}
 use Rattle.profibus_rules.specs.Ring.{Ring, Stream, streamOf, streamAt, ringOf, On, count, Declared}
 use Rattle.profibus_rules.proofs.Declared.{declared, count-is}
 
 -- ---- Stream after stream
 
--- a record that was met is stream i of the ring, and behind it stands record i + 1
+-- a record that was met is stream i of the ring, counted from 1, and behind it stands the next
 pub record Stepped (s : List ℕ) (R : Ring) (i : ℕ) (m : Met) : Type 0 where
   pub on : On R i
   pub master : m .found .a ≡ R .stream i .master
   pub cycle : m .found .b ≡ R .stream i .cycle
   pub deadline : m .found .c ≡ R .stream i .deadline
   pub small : m .found .a < 33
-  pub next : m .next ≡ placeOf s (suc i)
+  pub next : m .next ≡ streamPlace s i
 
-module _ (s : List ℕ) (first n : ℕ) (ready : Ready s 3 first n) where
-  pub ready-declared : Declared (ringOf (sheetIn s n))
-  ready-declared = declared s (sheetIn s n) (ready-known ready) (ready .bus)
+module _ (s : List ℕ) (first n : ℕ) (ready : Ready s profibus first n) where
+  pub ready-declared : Declared (ringOf (sheetIn s))
+  ready-declared = declared s (sheetIn s) (ready-known ready) (ready .on-bus)
 
-  pub ready-number : ringOf (sheetIn s n) .number ≡ n
+  pub ready-number : ringOf (sheetIn s) .number ≡ n
   unfolding ringOf
-  ready-number = ready-streams ready
+  ready-number = ready .number
 
-  pub stepped : (i at : ℕ) (m : Met) → i < n → at ≡ placeOf s (suc i) → m ≡ metOf s at 4 → Stepped s (ringOf (sheetIn s n)) (i + 1) m
+  pub stepped : (i at : ℕ) (m : Met) → i < n → at ≡ streamPlace s i → m ≡ streamMet s at profibus → Stepped s (ringOf (sheetIn s)) (i + 1) m
   unfolding ringOf streamAt
   stepped i at m l e q =
-      let here = stream-met-of ready i at m l e q in
+      let here = stream-met ready i at m l e q in
       let p : i + 1 - 1 ≡ i = omega arith in
-      let on : On (ringOf (sheetIn s n)) (i + 1) = (omega arith, omega (arith, ready-number)) in
-      let e' : streamOf (m .found) ≡ ringOf (sheetIn s n) .stream (i + 1) = rw (p, here .is) in
+      let on : On (ringOf (sheetIn s)) (i + 1) = (omega arith, omega (arith, ready-number)) in
+      let e' : streamOf (m .found) ≡ ringOf (sheetIn s) .stream (i + 1) = rw (p, here .is) in
       let a = ap (λ (x : Stream). x .master) e' in
       record {
         on = on;
@@ -51,10 +52,10 @@ module _ (s : List ℕ) (first n : ℕ) (ready : Ready s 3 first n) where
       }
 
   -- the counts that reading hands over are each master's h
-  pub ready-counts : (old : List ℕ) → countsTold (reading s) old ≡ tab (count (ringOf (sheetIn s n))) 33
+  pub ready-counts : (old : List ℕ) → countsTold (reading s) old ≡ tab (count (ringOf (sheetIn s))) 33
   unfolding countsTold streamsOfMaster
   ready-counts old =
-      let S = sheetIn s n in
-      let other : S .head .kind ≡ 5 → ⊥ = λ e. omega (arith, ready .bus) in
-      rw (ready .reads, ne-eqb (S .head .kind) 5 other)
+      let S = sheetIn s in
+      let other : busIn S ≡ worldfip → ⊥ = λ e. omega (arith, ready .on-bus) in
+      rw (ready .reads, ne-eqb (busIn S) worldfip other)
       (tab-same (streamsOfMaster S) (count (ringOf S)) 33 (λ k l. sym (count-is S k)))

@@ -7,7 +7,8 @@ use mathlib.Core.Path.{_≡_}
 use lib.Dec.{eqb, leb}
 use Rattle.common.specs.Checks.{Check, check, Verdict, verdict}
 use Rattle.common.specs.Checks.Verdict.{Passed, Refused}
-use Rattle.sheet_read.specs.Sheets.{Sheet}
+use Rattle.sheet_record.specs.Kinds.{profibus}
+use Rattle.sheet_read.specs.Sheets.{Sheet, busIn}
 use Rattle.sheet_read.specs.Whole.{Outcome}
 use Rattle.sheet_read.specs.Whole.Outcome.{Read, Not}
 use Rattle.profibus_rules.specs.Ring.{Ring, ringOf}
@@ -22,7 +23,7 @@ failsAtLatency R = check 9 (leb (firstFailing R (R .latency)) (R .number)) (firs
 
 unfoldable pub planChecks : Sheet → List Check
 unfolding failsAtLatency ringOf
-planChecks S = check 3 (not (eqb (S .head .kind) 3)) 0 ∷ failsAtLatency (ringOf S) ∷ []
+planChecks S = check 3 (not (eqb (busIn S) profibus)) 0 ∷ failsAtLatency (ringOf S) ∷ []
 
 -- the largest TTR and the first stream that fails at TTR + 1, or the refusal
 unfoldable pub planBy : Verdict → Ring → Plan
@@ -39,6 +40,6 @@ planOf (Not n p) = plan.Refused n p
 
 -- an answer to a sheet that reads without refusal
 pub data Answers (S : Sheet) : Plan → Type 0 where
-  another-bus : (S .head .kind ≡ 3 → ⊥) → Answers S (plan.Refused 3 0)
-  fails : (i : ℕ) → S .head .kind ≡ 3 → FirstFails (ringOf S) (ringOf S .latency) i → Answers S (plan.Refused 9 i)
-  limited : (ttr i : ℕ) → S .head .kind ≡ 3 → Limited (ringOf S) ttr i → Answers S (plan.Target (record { 0 = ttr }) i)
+  another-bus : (busIn S ≡ profibus → ⊥) → Answers S (plan.Refused 3 0)
+  fails : (i : ℕ) → busIn S ≡ profibus → FirstFails (ringOf S) (ringOf S .latency) i → Answers S (plan.Refused 9 i)
+  limited : (ttr i : ℕ) → busIn S ≡ profibus → Limited (ringOf S) ttr i → Answers S (plan.Target (record { 0 = ttr }) i)

@@ -6,6 +6,7 @@ pub use answer::RingPeriods;
 use sheet_read::Reading;
 ghost use mathlib.Core.Path.{_≡_};
 ghost use Rattle.common.specs.Runs.{tab};
+ghost use Rattle.sheet_record.specs.Kinds.{profibus};
 ghost use Rattle.sheet_read.specs.Whole.{reading};
 ghost use Rattle.sheet_read.specs.Steps.{sheetIn, Ready};
 ghost use Rattle.sheet_read.specs.Whole.Outcome.{Read};
@@ -25,10 +26,10 @@ fn largest_target(
     latency: u64,
     longest: u64,
 ) -> Plan
-    requires { ⌜ Ready (now s) 3 first streams ⌝ }
-    requires { ⌜ now counts ≡ tab (count (ringOf (sheetIn (now s) streams))) 33 ⌝ }
-    requires { ⌜ (latency ≡ ringOf (sheetIn (now s) streams) .latency) × (longest ≡ messages (ringOf (sheetIn (now s) streams))) ⌝ }
-    ensures { λ r. ⌜ r ≡ planOf (Read (sheetIn (now (s .entry)) streams)) ⌝ }
+    requires { ⌜ Ready (now s) profibus first streams ⌝ }
+    requires { ⌜ now counts ≡ tab (count (ringOf (sheetIn (now s)))) 33 ⌝ }
+    requires { ⌜ (latency ≡ ringOf (sheetIn (now s)) .latency) × (longest ≡ messages (ringOf (sheetIn (now s)))) ⌝ }
+    ensures { λ r. ⌜ r ≡ planOf (Read (sheetIn (now (s .entry)))) ⌝ }
 {
     let shortest = latency + longest;
     let mut borne = LONGEST;
@@ -36,7 +37,7 @@ fn largest_target(
     let mut at = first;
     let mut i: usize = 0;
     while i < streams {
-        let met = sheet_record::record_of(s, at, 4);
+        let met = sheet_record::stream_at(s, at, 3);
         let r = met.found;
         let master = r.a as usize;
         let h = counts[master] as u64;
@@ -71,7 +72,7 @@ pub fn plan(s: &[u8]) -> Plan
             streams,
             first,
         } => {
-            if head.kind != 3 {
+            if sheet_record::bus_of(head.kind) != 3 {
                 return Plan::Refused { no: 3, place: 0 };
             }
             let longest = head.a as u64 * head.c as u64;

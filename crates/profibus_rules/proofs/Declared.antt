@@ -1,12 +1,15 @@
--- A sheet of kind 3 that reads without refusal declares a ring: every figure is within the page's limits. Assumes nothing.
-use mathlib.Core.Path.{_≡_}
-use mathlib.Core.List.{List}
+-- A PROFIBUS sheet that reads without refusal declares a ring: every figure is within the page's limits. Assumes nothing.
+use mathlib.Core.Path.{_≡_, sym, _∙_}
+use mathlib.Core.Bool.{true}
+use mathlib.Core.List.{List, []}
 use Prim.Native.Nat.{ℕ, _-_, _≤_, _<_}
 use native.Mathlib.Omega.{arith}
+use borrow.Author.Tests.{eqb-true}
 use lib.ListN.{length, getD}
-use Rattle.sheet_record.specs.Kinds.{nothing}
+use Rattle.sheet_record.specs.Kinds.{nothing, profibus, isStreamOf}
+use Rattle.sheet_record.proofs.Parts.{first-bus, ring-streams}
 use Rattle.sheet_record.proofs.Ranges.{Range, RingRanges, RingStreamRanges, ring-ranges, ring-stream-ranges}
-use Rattle.sheet_read.specs.Sheets.{Sheet, countOf}
+use Rattle.sheet_read.specs.Sheets.{Sheet, busIn, given, sheetOf, countOf}
 use Rattle.sheet_read.proofs.Counts.{counted-by-number}
 use Rattle.sheet_read.proofs.Known.{Known}
 use Rattle.profibus_rules.specs.Ring.{streamAt, ringOf, owns, count, Declared}
@@ -19,7 +22,7 @@ count-is S k = counted-by-number k (S .streams)
 both : {lo x hi : ℕ} → Range lo x hi → (lo ≤ x) × (x ≤ hi)
 both r = (r .least, r .most)
 
-pub declared : (s : List ℕ) (S : Sheet) → Known s S → S .head .kind ≡ 3 → Declared (ringOf S)
+pub declared : (s : List ℕ) (S : Sheet) → Known s S → busIn S ≡ profibus → Declared (ringOf S)
 unfolding ringOf streamAt
 declared s S known k =
     record {
@@ -34,9 +37,11 @@ declared s S known k =
     }
   where
     head : RingRanges (S .head)
-    head = ring-ranges 0 0 (S .head) (known .head-ranged) k
+    head = ring-ranges (given (sheetOf []) (S .head .a)) (S .head) (known .head-ranged) (sym (first-bus (S .head .kind) (known .head-first)) ∙ k)
 
-    stream : (i : ℕ) → (1 ≤ i) × (i ≤ length (S .streams)) → RingStreamRanges (S .head .a) (S .head .c) (getD (S .streams) (i - 1) nothing)
+    stream : (i : ℕ) → (1 ≤ i) × (i ≤ length (S .streams)) → RingStreamRanges (given S (getD (S .streams) (i - 1) nothing .a)) (getD (S .streams) (i - 1) nothing)
     stream i on =
         let l : i - 1 < length (S .streams) = omega arith in
-        ring-stream-ranges (S .head .a) (S .head .c) (getD (S .streams) (i - 1) nothing) (known .ranged (i - 1) l) (omega (arith, known .kinds (i - 1) l, k))
+        let r = getD (S .streams) (i - 1) nothing in
+        let its : isStreamOf profibus (r .kind) ≡ true = rw k at (known .kinds (i - 1) l) in
+        ring-stream-ranges (given S (r .a)) r (known .ranged (i - 1) l) (eqb-true (r .kind) 4 (sym (ring-streams (r .kind)) ∙ its))

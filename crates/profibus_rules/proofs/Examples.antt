@@ -8,7 +8,7 @@ use Rattle.profibus_rules.specs.Ring.{Ring, ringOf, streamAt, owns, coun
 use Rattle.profibus_rules.specs.Target.{bears, least, target, firstFailing}
 
 abbrev stream : ℕ → ℕ → ℕ → Record
-stream y C D = record { kind = 4; a = y; b = C; c = D; d = 0 }
+stream y C D = record { kind = 4; a = y; b = C; c = D; d = 0; e = 0 }
 
 -- n 3, L 300, M 500
 abbrev three : Ring
@@ -16,7 +16,8 @@ unfolding ringOf
 three =
     ringOf
     (record {
-      head = record { kind = 3; a = 3; b = 300; c = 500; d = 0 };
+      head = record { kind = 3; a = 3; b = 300; c = 500; d = 0; e = 0 };
+      settings = [];
       streams = stream 1 400 8400 ∷ stream 1 500 10000 ∷ stream 2 300 5000 ∷ [];
     })
 

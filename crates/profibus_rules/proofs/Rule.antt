@@ -8,14 +8,14 @@ use native.Mathlib.Omega.{arith}
 use borrow.Author.Tests.{eq-eqb}
 use Rattle.common.specs.Sums.{when}
 use Rattle.common.proofs.Sums.{upto-term, upto-even}
-use Rattle.sheet_read.specs.Sheets.{Sheet}
+use Rattle.sheet_read.specs.Sheets.{Sheet, mastersOf}
 use Rattle.profibus_rules.specs.Ring.{Ring, ringOf, On, owns, count, messages, rotation, needed, Declared}
 use Rattle.profibus_rules.specs.Target.{AllPass, bears}
 
 -- the sum of the longest messages is the page's n·M where one M holds for all
-pub messages-of-one : (S : Sheet) → messages (ringOf S) ≡ S .head .a * S .head .c
+pub messages-of-one : (S : Sheet) → messages (ringOf S) ≡ mastersOf S * S .head .c
 unfolding messages ringOf
-messages-of-one S = upto-even (S .head .c) (S .head .a)
+messages-of-one S = upto-even (S .head .c) (mastersOf S)
 
 -- ---- A lower target
 

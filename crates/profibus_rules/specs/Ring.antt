@@ -8,7 +8,7 @@ use lib.Dec.{eqb, ltb}
 use Rattle.common.specs.Sums.{when, upto}
 use Rattle.sheet_record.specs.declared.Record.{Record}
 use Rattle.sheet_record.specs.Kinds.{nothing}
-use Rattle.sheet_read.specs.Sheets.{Sheet}
+use Rattle.sheet_read.specs.Sheets.{Sheet, mastersOf, messageOf}
 
 -- ---- A ring as a sheet declares it
 
@@ -27,7 +27,7 @@ pub record Ring : Type 0 where
   pub number : ℕ
   pub stream : ℕ → Stream
 
--- a kind 4 record's fields
+-- the fields of a high-priority stream
 abbrev pub streamOf : Record → Stream
 streamOf r = record { master = r .a; cycle = r .b; deadline = r .c }
 
@@ -35,14 +35,13 @@ streamOf r = record { master = r .a; cycle = r .b; deadline = r .c }
 unfoldable pub streamAt : List Record → ℕ → Stream
 streamAt rs i = streamOf (getD rs (i - 1) nothing)
 
--- a kind 3 record has one M for every master
 unfoldable pub ringOf : Sheet → Ring
 unfolding streamAt
 ringOf S =
     record {
-      masters = S .head .a;
+      masters = mastersOf S;
       latency = S .head .b;
-      longest = λ y. S .head .c;
+      longest = messageOf S;
       number = length (S .streams);
       stream = streamAt (S .streams);
     }
@@ -82,7 +81,7 @@ unfoldable pub fails : Ring → ℕ → ℕ → Bool
 unfolding needed
 fails R ttr i = ltb (R .stream i .deadline) (needed R ttr i)
 
--- ---- What kinds 3 and 4 allow
+-- ---- What a sheet allows
 
 pub record Declared (R : Ring) : Type 0 where
   pub masters-in : (1 ≤ R .masters) × (R .masters ≤ 32)

@@ -3,7 +3,7 @@ use Prim.Native.Nat.{ℕ}
 use mathlib.Core.Path.{_≡_, refl}
 use mathlib.Core.List.{List, [], _∷_}
 use Rattle.common.specs.Runs.{tab}
-use Rattle.sheet_read.specs.Sheets.{headOf, streamsOf}
+use Rattle.sheet_read.specs.Sheets.{sheetOf}
 use Rattle.sheet_read.specs.Whole.{reading}
 use Rattle.worldfip_rules.specs.Build.{row, missRow, byRank}
 use Rattle.worldfip_rules.specs.Traffic.{askedOf}
@@ -25,15 +25,15 @@ even =
     ∷ []
 
 even-plan : planOf (reading even) 6 ≡ plan.Accepted 1000 2 4
-unfolding planOf reading headOf streamsOf row missRow byRank askedOf
+unfolding planOf reading sheetOf row missRow byRank askedOf
 even-plan = refl
 
 even-rows : runOf (reading even) six ≡ 3 ∷ 5 ∷ 3 ∷ 9 ∷ 7 ∷ 7 ∷ []
-unfolding runOf reading headOf streamsOf row missRow byRank askedOf
+unfolding runOf reading sheetOf row missRow byRank askedOf
 even-rows = refl
 
 even-names : tab (identifierOf (reading even)) 6 ≡ 17 ∷ 18 ∷ 19 ∷ 20 ∷ 0 ∷ 0 ∷ []
-unfolding tab identifierOf reading headOf streamsOf
+unfolding tab identifierOf reading sheetOf
 even-names = refl
 
 -- with the third at 2,000: refused, 12, variable 4
@@ -47,11 +47,11 @@ full =
     ∷ []
 
 full-plan : planOf (reading full) 6 ≡ plan.Refused 12 4
-unfolding planOf reading headOf streamsOf missRow byRank askedOf
+unfolding planOf reading sheetOf missRow byRank askedOf
 full-plan = refl
 
 full-run : runOf (reading full) six ≡ six
-unfolding runOf reading headOf streamsOf row missRow byRank askedOf
+unfolding runOf reading sheetOf row missRow byRank askedOf
 full-run = refl
 
 -- E 210; periods 1,000 four times, then 3,000: refused, 12, variable 5
@@ -66,12 +66,12 @@ source004 =
     ∷ []
 
 source004-plan : planOf (reading source004) 6 ≡ plan.Refused 12 5
-unfolding planOf reading headOf streamsOf missRow byRank askedOf
+unfolding planOf reading sheetOf missRow byRank askedOf
 source004-plan = refl
 
 -- the same with room for two rows: 13 comes before 12, with the rows that it needs
 source004-room : planOf (reading source004) 2 ≡ plan.Refused 13 3
-unfolding planOf reading headOf streamsOf missRow byRank askedOf
+unfolding planOf reading sheetOf missRow byRank askedOf
 source004-room = refl
 
 -- ---- Equal periods go by sheet order: E 300; periods 2,000, 1,000, 2,000, 1,000 of identifiers 9, 8, 7, 6
@@ -86,9 +86,9 @@ falling =
     ∷ []
 
 falling-names : tab (identifierOf (reading falling)) 4 ≡ 8 ∷ 6 ∷ 9 ∷ 7 ∷ []
-unfolding tab identifierOf reading headOf streamsOf
+unfolding tab identifierOf reading sheetOf
 falling-names = refl
 
 falling-rows : runOf (reading falling) six ≡ 7 ∷ 11 ∷ 7 ∷ 7 ∷ 7 ∷ 7 ∷ []
-unfolding runOf reading headOf streamsOf row missRow byRank askedOf
+unfolding runOf reading sheetOf row missRow byRank askedOf
 falling-rows = refl

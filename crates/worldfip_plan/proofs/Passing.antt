@@ -1,25 +1,27 @@
 -- What the bytes of a WorldFIP sheet say: what it declares is within the page's ranges, and record after record is a variable of it.
 -- Assumes nothing.
 use mathlib.Core.Path.{_≡_, refl, sym, ap, _∙_, fun-ext}
-use mathlib.Core.List.{List}
-use Prim.Native.Nat.{ℕ, suc, _+_, _-_, _≤_, _<_}
+use mathlib.Core.Bool.{true}
+use mathlib.Core.List.{List, []}
+use Prim.Native.Nat.{ℕ, _+_, _-_, _≤_, _<_}
 use native.Mathlib.Omega.{arith}
 use native.Mathlib.Decide.{decLt}
 use lib.Dec.{ltb}
 use lib.ListN.{length, getD, List·getD-eq-default}
-use borrow.Author.Tests.{lt-ltb, le-ltb, eq-eqb, ne-eqb}
+use borrow.Author.Tests.{lt-ltb, le-ltb, eq-eqb, ne-eqb, eqb-true}
 use Rattle.common.specs.Sums.{when}
 use Rattle.common.specs.Checks.{Check, Verdict, verdict}
 use Rattle.common.specs.Checks.Verdict.{Passed, Refused}
 use Rattle.sheet_record.specs.declared.Met.{Met}
-use Rattle.sheet_record.specs.Kinds.{nothing, metOf}
+use Rattle.sheet_record.specs.Kinds.{nothing, worldfip, isStreamOf, streamMet}
+use Rattle.sheet_record.proofs.Parts.{first-bus, variables}
 use Rattle.sheet_record.proofs.Ranges.{VariableRanges, exchange-ranges, variable-ranges}
-use Rattle.sheet_read.specs.Sheets.{Sheet}
-use Rattle.sheet_read.specs.Whole.{Outcome, placeOf, reading}
-use Rattle.sheet_read.specs.Steps.{sheetIn, Ready}
+use Rattle.sheet_read.specs.Sheets.{Sheet, busIn, given, sheetOf}
+use Rattle.sheet_read.specs.Whole.{Outcome, reading}
+use Rattle.sheet_read.specs.Steps.{sheetIn, streamPlace, Ready}
 use Rattle.sheet_read.specs.Whole.Outcome.{Read}
 use Rattle.sheet_read.proofs.Known.{Known}
-use Rattle.sheet_read.proofs.Taken.{ready-known, ready-streams, stream-met-of}
+use Rattle.sheet_read.proofs.Taken.{ready-known, stream-met}
 use Rattle.worldfip_rules.specs.Traffic.{Traffic, Declared, plain, periodOf, ahead, rankOf, variableOf, identifierAt, microcycle, slots, inRows, rows, periodAt, askedOf, missingOf}
 use Rattle.worldfip_rules.proofs.Plain.{plainOf, plain-declared, plain-variable}
 use Rattle.worldfip_plan.specs.declared.answer.Plan.the-variants as plan
@@ -29,14 +31,17 @@ use Rattle.worldfip_plan.proofs.Tied.{variable-is}
 
 -- ---- A sheet that reads without refusal declares traffic within the ranges
 
-module _ (s : List ℕ) (S : Sheet) (known : Known s S) (bus : S .head .kind ≡ 5) where
+module _ (s : List ℕ) (S : Sheet) (known : Known s S) (bus : busIn S ≡ worldfip) where
   in-range : (i : ℕ) → i < length (S .streams) → VariableRanges (getD (S .streams) i nothing)
-  in-range i l = variable-ranges _ _ _ (known .ranged i l) (known .kinds i l ∙ ap (λ (x : ℕ). x + 1) bus)
+  in-range i l =
+      let r = getD (S .streams) i nothing in
+      let its : isStreamOf worldfip (r .kind) ≡ true = rw bus at (known .kinds i l) in
+      variable-ranges (given S (r .a)) r (known .ranged i l) (eqb-true (r .kind) 6 (sym (variables (r .kind)) ∙ its))
 
   pub declared : Declared (trafficOf S)
   unfolding trafficOf variableAt
   declared =
-      let x = exchange-ranges 0 0 (S .head) (known .head-ranged) bus in
+      let x = exchange-ranges (given (sheetOf []) (S .head .a)) (S .head) (known .head-ranged) (sym (first-bus (S .head .kind) (known .head-first)) ∙ bus) in
       record {
         exchange-in = (x .exchange .least, x .exchange .most);
         number-in = (known .some, known .few-variables bus);
@@ -45,27 +50,27 @@ module _ (s : List ℕ) (S : Sheet) (known : Known s S) (bus : S .head .kind ≡
 
 -- ---- Record after record
 
-module _ {s : List ℕ} {first n : ℕ} (ready : Ready s 5 first n) where
-  pub ready-declared : Declared (trafficOf (sheetIn s n))
-  ready-declared = declared s (sheetIn s n) (ready-known ready) (ready .bus)
+module _ {s : List ℕ} {first n : ℕ} (ready : Ready s worldfip first n) where
+  pub ready-declared : Declared (trafficOf (sheetIn s))
+  ready-declared = declared s (sheetIn s) (ready-known ready) (ready .on-bus)
 
-  pub ready-number : trafficOf (sheetIn s n) .number ≡ n
+  pub ready-number : trafficOf (sheetIn s) .number ≡ n
   unfolding trafficOf
-  ready-number = ready-streams ready
+  ready-number = ready .number
 
-  -- a record that was met is the next variable, and its identifier has two bytes; behind it stands the next record
+  -- a record that was met is the next variable, and its identifier has two bytes; behind it stands the one after
   pub record Stepped (i : ℕ) (m : Met) : Type 0 where
-    pub variable : variableBy (m .found) ≡ trafficOf (sheetIn s n) .variable (i + 1)
+    pub variable : variableBy (m .found) ≡ trafficOf (sheetIn s) .variable (i + 1)
     pub small : m .found .a < 65536
-    pub next : m .next ≡ placeOf s (suc (i + 1))
+    pub next : m .next ≡ streamPlace s (i + 1)
 
-  pub stepped : (i at : ℕ) (m : Met) → i < n → at ≡ placeOf s (suc i) → m ≡ metOf s at 6 → Stepped i m
+  pub stepped : (i at : ℕ) (m : Met) → i < n → at ≡ streamPlace s i → m ≡ streamMet s at worldfip → Stepped i m
   unfolding trafficOf variableAt
   stepped i at m l e q =
-      let l' : i < length (sheetIn s n .streams) = omega (arith, ready-number) in
-      let here = stream-met-of ready i at m l e q in
+      let l' : i < length (sheetIn s .streams) = omega (arith, ready-number) in
+      let here = stream-met ready i at m l e q in
       let p : i + 1 - 1 ≡ i = omega arith in
-      let b : m .found .a ≤ 65535 = rw (here .is) (in-range s (sheetIn s n) (ready-known ready) (ready .bus) i l' .identifier .most) in
+      let b : m .found .a ≤ 65535 = rw (here .is) (in-range s (sheetIn s) (ready-known ready) (ready .on-bus) i l' .identifier .most) in
       record {
         variable = rw (p, ← here .is);
         small = omega arith;
@@ -73,11 +78,11 @@ module _ {s : List ℕ} {first n : ℕ} (ready : Ready s 5 first n) where
       }
 
   -- behind the last, both fields are 0
-  pub none-behind : (i : ℕ) → n ≤ i → trafficOf (sheetIn s n) .variable (i + 1) ≡ record { identifier = 0; period = 0 }
+  pub none-behind : (i : ℕ) → n ≤ i → trafficOf (sheetIn s) .variable (i + 1) ≡ record { identifier = 0; period = 0 }
   unfolding trafficOf variableAt
   none-behind i l =
       let p : i + 1 - 1 ≡ i = omega arith in
-      rw (p, List·getD-eq-default (sheetIn s n .streams) nothing {n = i} (omega (arith, ready-number)))
+      rw (p, List·getD-eq-default (sheetIn s .streams) nothing {n = i} (omega (arith, ready-number)))
 
 -- ---- The arrays, and the answer
 
@@ -108,77 +113,77 @@ module _ (T : Traffic) where
       ∙ plain-rows-by (verdict (tableChecks T (length old))) old
 
 -- a sheet of this bus goes on to 10
-module _ (S : Sheet) (bus : S .head .kind ≡ 5) where
+module _ (S : Sheet) (bus : busIn S ≡ worldfip) where
   pub this-bus : (room : ℕ) → planOf (Read S) room ≡ tablePlan (trafficOf S) room
   unfolding planOf planChecks verdict tablePlan
-  this-bus room = rw (eq-eqb (S .head .kind) 5 bus)
+  this-bus room = rw (eq-eqb (busIn S) worldfip bus)
 
   pub this-run : (old : List ℕ) → runOf (Read S) old ≡ tableRun (trafficOf S) old
   unfolding runOf planChecks verdict tableRun
-  this-run old = rw (eq-eqb (S .head .kind) 5 bus)
+  this-run old = rw (eq-eqb (busIn S) worldfip bus)
 
   pub this-name : (r : ℕ) → identifierOf (Read S) r ≡ identifierAt (trafficOf S) r
   unfolding identifierOf
-  this-name r = simp (eq-eqb (S .head .kind) 5 bus)
+  this-name r = simp (eq-eqb (busIn S) worldfip bus)
 
 -- one of another is refused with 3 at 0
-module _ (S : Sheet) (other : S .head .kind ≡ 5 → ⊥) where
+module _ (S : Sheet) (other : busIn S ≡ worldfip → ⊥) where
   pub other-bus : (room : ℕ) → planOf (Read S) room ≡ plan.Refused 3 0
   unfolding planOf planChecks verdict
-  other-bus room = rw (ne-eqb (S .head .kind) 5 other)
+  other-bus room = rw (ne-eqb (busIn S) worldfip other)
 
   pub other-run : (old : List ℕ) → runOf (Read S) old ≡ old
   unfolding runOf planChecks verdict
-  other-run old = rw (ne-eqb (S .head .kind) 5 other)
+  other-run old = rw (ne-eqb (busIn S) worldfip other)
 
   pub other-name : (r : ℕ) → identifierOf (Read S) r ≡ 0
   unfolding identifierOf
-  other-name r = simp (ne-eqb (S .head .kind) 5 other)
+  other-name r = simp (ne-eqb (busIn S) worldfip other)
 
-module _ {s : List ℕ} {first n e : ℕ} {names periods : List ℕ} (ready : Ready s 5 first n) (head : e ≡ sheetIn s n .head .a)
-    (g : Gathered (trafficOf (sheetIn s n)) names periods) where
-  pub held-is : held periods n e ≡ plainOf (trafficOf (sheetIn s n))
+module _ {s : List ℕ} {first n e : ℕ} {names periods : List ℕ} (ready : Ready s worldfip first n) (head : e ≡ sheetIn s .head .a)
+    (g : Gathered (trafficOf (sheetIn s)) names periods) where
+  pub held-is : held periods n e ≡ plainOf (trafficOf (sheetIn s))
   unfolding held trafficOf
   held-is =
       ap (λ (x : ℕ). held periods n x) head
-      ∙ (ap (λ (x : ℕ). held periods x (sheetIn s n .head .a)) (sym (ready-number ready))
-      ∙ ap (plain (trafficOf (sheetIn s n) .exchange) (trafficOf (sheetIn s n) .number)) (fun-ext each))
+      ∙ (ap (λ (x : ℕ). held periods x (sheetIn s .head .a)) (sym (ready-number ready))
+      ∙ ap (plain (trafficOf (sheetIn s) .exchange) (trafficOf (sheetIn s) .number)) (fun-ext each))
     where
-      each : (i : ℕ) → numbered periods i ≡ periodOf (trafficOf (sheetIn s n)) i
+      each : (i : ℕ) → numbered periods i ≡ periodOf (trafficOf (sheetIn s)) i
       each i =
           let p : i - 1 + 1 - 1 ≡ i - 1 = omega arith in
-          g .periods-are (i - 1) ∙ ap (λ (x : ℕ). getD (sheetIn s n .streams) x nothing .b) p
+          g .periods-are (i - 1) ∙ ap (λ (x : ℕ). getD (sheetIn s .streams) x nothing .b) p
 
   pub sheeted : Sheeted periods n e
   sheeted =
       record {
         there = omega (arith, g .periods-long, ready-number ready, ready-declared ready .number-in);
-        declares = rw held-is (plain-declared (trafficOf (sheetIn s n)) (ready-declared ready));
+        declares = rw held-is (plain-declared (trafficOf (sheetIn s)) (ready-declared ready));
       }
 
   -- the answer to the periods is the answer to the sheet
   pub plan-is : (room : ℕ) → tablePlan (held periods n e) room ≡ planOf (reading s) room
   plan-is room =
       ap (λ (T : Traffic). tablePlan T room) held-is
-      ∙ (plain-plan (trafficOf (sheetIn s n)) room ∙ (sym (this-bus (sheetIn s n) (ready .bus) room) ∙ ap (λ (o : Outcome). planOf o room) (sym (ready .reads))))
+      ∙ (plain-plan (trafficOf (sheetIn s)) room ∙ (sym (this-bus (sheetIn s) (ready .on-bus) room) ∙ ap (λ (o : Outcome). planOf o room) (sym (ready .reads))))
 
   pub run-is : (old : List ℕ) → tableRun (held periods n e) old ≡ runOf (reading s) old
   run-is old =
       ap (λ (T : Traffic). tableRun T old) held-is
-      ∙ (plain-run (trafficOf (sheetIn s n)) old ∙ (sym (this-run (sheetIn s n) (ready .bus) old) ∙ ap (λ (o : Outcome). runOf o old) (sym (ready .reads))))
+      ∙ (plain-run (trafficOf (sheetIn s)) old ∙ (sym (this-run (sheetIn s) (ready .on-bus) old) ∙ ap (λ (o : Outcome). runOf o old) (sym (ready .reads))))
 
   -- the places by rank of the periods are those of the sheet's variables
-  variable-of : (r : ℕ) → variableOf (held periods n e) r ≡ variableOf (trafficOf (sheetIn s n)) r
-  variable-of r = ap (λ (T : Traffic). variableOf T r) held-is ∙ plain-variable (trafficOf (sheetIn s n)) r
+  variable-of : (r : ℕ) → variableOf (held periods n e) r ≡ variableOf (trafficOf (sheetIn s)) r
+  variable-of r = ap (λ (T : Traffic). variableOf T r) held-is ∙ plain-variable (trafficOf (sheetIn s)) r
 
   -- and so are the identifiers by rank
   pub name-is : {v q : List ℕ} → Placed periods n v → Ranked (λ i. getD names i 0) v n q → (r : ℕ) → getD q r 0 ≡ identifierOf (reading s) r
   unfolding identifierAt
   name-is {v} {q} P Q r =
-      Q .are r ∙ (go (decLt r n) ∙ (sym (this-name (sheetIn s n) (ready .bus) r) ∙ ap (λ (o : Outcome). identifierOf o r) (sym (ready .reads))))
+      Q .are r ∙ (go (decLt r n) ∙ (sym (this-name (sheetIn s) (ready .on-bus) r) ∙ ap (λ (o : Outcome). identifierOf o r) (sym (ready .reads))))
     where
       T : Traffic
-      T = trafficOf (sheetIn s n)
+      T = trafficOf (sheetIn s)
 
       number : T .number ≡ n
       number = ready-number ready

@@ -10,7 +10,8 @@ use Rattle.common.specs.Checks.{Verdict, verdict}
 use Rattle.common.specs.Checks.Verdict.{Passed, Refused}
 use Rattle.common.specs.Runs.{tab, filled}
 use Rattle.common.proofs.Runs.{length-tab, length-filled, filled-at}
-use Rattle.sheet_read.specs.Sheets.{Sheet}
+use Rattle.sheet_record.specs.Kinds.{worldfip}
+use Rattle.sheet_read.specs.Sheets.{Sheet, busIn}
 use Rattle.sheet_read.specs.Whole.{Outcome}
 use Rattle.sheet_read.specs.Whole.Outcome.{Read, Not}
 use Rattle.sheet_read.proofs.Known.{Known}
@@ -46,7 +47,7 @@ accepted-by (Refused x q) T old c k n e = let z : _≡_ {A = ℕ} 0 1 = cc in ab
 
 -- what an acceptance takes in
 pub record Accepts (S : Sheet) (room : ℕ) : Type 0 where
-  pub bus : S .head .kind ≡ 5
+  pub bus : busIn S ≡ worldfip
   pub room-for : Room (trafficOf S) room
   pub is-table : Table (askedOf (trafficOf S)) (rowOf (trafficOf S))
 

@@ -8,7 +8,8 @@ use native.Mathlib.Omega.{arith}
 use native.Mathlib.Decide.{ℕ-discrete, decLt}
 use Rattle.common.specs.Checks.{Verdict, verdict}
 use Rattle.common.specs.Checks.Verdict.{Refused}
-use Rattle.sheet_read.specs.Sheets.{Sheet}
+use Rattle.sheet_record.specs.Kinds.{worldfip}
+use Rattle.sheet_read.specs.Sheets.{Sheet, busIn}
 use Rattle.sheet_read.specs.Whole.Outcome.{Read}
 use Rattle.sheet_read.proofs.Known.{Known}
 use Rattle.worldfip_rules.specs.Traffic.{Traffic, Declared, microcycle, slots, rows, missOf, missingOf}
@@ -40,7 +41,7 @@ module _ (T : Traffic) (D : Declared T) where
   nobody l i N = omega (arith, named-miss T D N)
 
 module _ (s : List ℕ) (S : Sheet) (known : Known s S) (room : ℕ) where
-  module _ (bus : S .head .kind ≡ 5) where
+  module _ (bus : busIn S ≡ worldfip) where
     D : Declared (trafficOf S)
     D = declared s S known bus
 
@@ -87,9 +88,9 @@ module _ (s : List ℕ) (S : Sheet) (known : Known s S) (room : ℕ) where
     by-slots (no l) = by-rows (record { exchange = omega (arith, l) }) (decLt 4096 (rows (trafficOf S)))
 
   pub plan-answers : Answers S room (planOf (Read S) room)
-  plan-answers = by-bus (ℕ-discrete (S .head .kind) 5)
+  plan-answers = by-bus (ℕ-discrete (busIn S) worldfip)
     where
-      by-bus : Dec (S .head .kind ≡ 5) → Answers S room (planOf (Read S) room)
+      by-bus : Dec (busIn S ≡ worldfip) → Answers S room (planOf (Read S) room)
       by-bus (yes e) = by-slots e (decLt (microcycle (trafficOf S)) (trafficOf S .exchange))
       by-bus (no e) = rw (other-bus S e room) (another-bus e)
 

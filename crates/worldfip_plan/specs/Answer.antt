@@ -10,8 +10,8 @@ use Rattle.common.specs.Checks.Verdict.{Passed, Refused}
 use Rattle.common.specs.Runs.{filled}
 use Rattle.common.specs.Sums.{when}
 use Rattle.sheet_record.specs.declared.Record.{Record}
-use Rattle.sheet_record.specs.Kinds.{nothing}
-use Rattle.sheet_read.specs.Sheets.{Sheet}
+use Rattle.sheet_record.specs.Kinds.{nothing, worldfip}
+use Rattle.sheet_read.specs.Sheets.{Sheet, busIn}
 use Rattle.sheet_read.specs.Whole.{Outcome}
 use Rattle.sheet_read.specs.Whole.Outcome.{Read, Not}
 use Rattle.worldfip_rules.specs.Traffic.{Variable, Traffic, microcycle, slots, rows, rowOf, missOf, missingOf, identifierAt}
@@ -20,7 +20,7 @@ use Rattle.worldfip_plan.specs.declared.answer.Plan.the-variants as plan
 
 -- ---- What a WorldFIP sheet declares
 
--- a kind 6 record's fields
+-- a variable's fields
 abbrev pub variableBy : Record → Variable
 variableBy r = record { identifier = r .a; period = r .b }
 
@@ -45,7 +45,7 @@ tableChecks T room =
 
 unfoldable pub planChecks : Sheet → ℕ → List Check
 unfolding trafficOf tableChecks
-planChecks S room = check 3 (not (eqb (S .head .kind) 5)) 0 ∷ tableChecks (trafficOf S) room
+planChecks S room = check 3 (not (eqb (busIn S) worldfip)) 0 ∷ tableChecks (trafficOf S) room
 
 -- ---- The answer
 
@@ -73,5 +73,5 @@ runOf (Not n p) old = old
 
 unfoldable pub identifierOf : Outcome → ℕ → ℕ
 unfolding trafficOf identifierAt
-identifierOf (Read S) r = when (eqb (S .head .kind) 5) (identifierAt (trafficOf S) r)
+identifierOf (Read S) r = when (eqb (busIn S) worldfip) (identifierAt (trafficOf S) r)
 identifierOf (Not n p) r = 0

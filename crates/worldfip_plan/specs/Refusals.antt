@@ -2,7 +2,8 @@
 -- refusal, lent a run of so many places. A line for each answer; each takes in that none before it is given. Assumes nothing.
 use mathlib.Core.Path.{_≡_}
 use Prim.Native.Nat.{ℕ, _≤_, _<_}
-use Rattle.sheet_read.specs.Sheets.{Sheet}
+use Rattle.sheet_record.specs.Kinds.{worldfip}
+use Rattle.sheet_read.specs.Sheets.{Sheet, busIn}
 use Rattle.worldfip_rules.specs.Table.{Table}
 use Rattle.worldfip_rules.specs.Traffic.{Traffic, microcycle, slots, rows, askedOf, rowOf}
 use Rattle.worldfip_rules.specs.Misses.{Named}
@@ -26,15 +27,15 @@ pub record Room (T : Traffic) (room : ℕ) : Type 0 where
 
 pub data Answers (S : Sheet) (room : ℕ) : Plan → Type 0 where
   -- 3: another bus's sheet
-  another-bus : (S .head .kind ≡ 5 → ⊥) → Answers S room (plan.Refused 3 0)
+  another-bus : (busIn S ≡ worldfip → ⊥) → Answers S room (plan.Refused 3 0)
   -- 10: no exchange fits a microcycle
-  none-fits : S .head .kind ≡ 5 → microcycle (trafficOf S) < trafficOf S .exchange → Answers S room (plan.Refused 10 0)
+  none-fits : busIn S ≡ worldfip → microcycle (trafficOf S) < trafficOf S .exchange → Answers S room (plan.Refused 10 0)
   -- 11: more than 4,096 rows
-  too-many : S .head .kind ≡ 5 → Fits (trafficOf S) → 4096 < rows (trafficOf S) → Answers S room (plan.Refused 11 0)
+  too-many : busIn S ≡ worldfip → Fits (trafficOf S) → 4096 < rows (trafficOf S) → Answers S room (plan.Refused 11 0)
   -- 13: lent room too short, place the length needed
-  too-short : S .head .kind ≡ 5 → Few (trafficOf S) → room < rows (trafficOf S) → Answers S room (plan.Refused 13 (rows (trafficOf S)))
+  too-short : busIn S ≡ worldfip → Few (trafficOf S) → room < rows (trafficOf S) → Answers S room (plan.Refused 13 (rows (trafficOf S)))
   -- 12: a variable misses its period, place that variable's number
-  misses : (i : ℕ) → S .head .kind ≡ 5 → Room (trafficOf S) room → Named (trafficOf S) i → Answers S room (plan.Refused 12 i)
+  misses : (i : ℕ) → busIn S ≡ worldfip → Room (trafficOf S) room → Named (trafficOf S) i → Answers S room (plan.Refused 12 i)
   -- else the rows are a table
-  table : S .head .kind ≡ 5 → Room (trafficOf S) room → ((i : ℕ) → Named (trafficOf S) i → ⊥) → Table (askedOf (trafficOf S)) (rowOf (trafficOf S))
+  table : busIn S ≡ worldfip → Room (trafficOf S) room → ((i : ℕ) → Named (trafficOf S) i → ⊥) → Table (askedOf (trafficOf S)) (rowOf (trafficOf S))
       → Answers S room (plan.Accepted (microcycle (trafficOf S)) (slots (trafficOf S)) (rows (trafficOf S)))

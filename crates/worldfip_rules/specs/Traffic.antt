@@ -21,7 +21,7 @@ pub record Traffic : Type 0 where
   pub number : ℕ
   pub variable : ℕ → Variable
 
--- what kinds 5 and 6 allow
+-- what a sheet allows
 pub record Declared (T : Traffic) : Type 0 where
   pub exchange-in : (1 ≤ T .exchange) × (T .exchange ≤ 1000000)
   pub number-in : (1 ≤ T .number) × (T .number ≤ 64)

@@ -1,14 +1,13 @@
 -- `profibus_plan::largest_target` meets its contract. After i streams, `borne` is the longest rotation that streams 1..i bear, and `limiting`
 -- the first of them that bears no longer one. Assumes nothing.
-use Prim.Native.Nat.{ℕ, suc, _+_, _-_, _≤_}
+use Prim.Native.Nat.{ℕ, _+_, _-_, _≤_}
 use mathlib.Core.Path.{_≡_, sym, ap, _∙_}
 use mathlib.Core.List.{List}
 use native.Mathlib.Omega.{arith}
 use borrow.Author.Needs.{needs}
 use lib.ListN.{getD}
 use Rattle.common.proofs.Runs.{getD-tab}
-use Rattle.sheet_read.specs.Whole.{placeOf}
-use Rattle.sheet_read.specs.Steps.{sheetIn}
+use Rattle.sheet_read.specs.Steps.{sheetIn, streamPlace}
 use Rattle.profibus_rules.specs.Ring.{Ring, ringOf, count, rotation, Declared}
 use Rattle.profibus_plan.proofs.Passing.{Stepped, ready-declared, ready-number, stepped}
 use Rattle.profibus_rules.specs.Target.{Limited}
@@ -20,7 +19,7 @@ use Rattle.profibus_plan.proofs.largest_target.Tie as tie
 
 abbrev Inv-loop : tie.InvT-loop
 Inv-loop s first streams counts latency longest shortest borne₀ limiting₀ at₀ i₀ borne limiting at i =
-    (i ≤ streams) × (at ≡ placeOf s (suc i)) × Tight (ringOf (sheetIn s streams)) i borne limiting
+    (i ≤ streams) × (at ≡ streamPlace s i) × Tight (ringOf (sheetIn s)) i borne limiting
 
 abbrev μ-loop : tie.MeasureT-loop
 μ-loop s first streams counts latency longest shortest borne₀ limiting₀ at₀ i₀ borne limiting at i =
@@ -29,7 +28,7 @@ abbrev μ-loop : tie.MeasureT-loop
 -- the ring, from the entry
 module _ (start : tie.Start Inv-loop μ-loop) where
   abbrev ring : Ring
-  ring = ringOf (sheetIn (start .args .s .now) (start .args .streams))
+  ring = ringOf (sheetIn (start .args .s .now))
 
   within : Declared ring
   within = ready-declared (start .args .s .now) (start .args .first) (start .args .streams) (start .pre .0)
@@ -44,27 +43,27 @@ module _ (start : tie.Start Inv-loop μ-loop) where
 
 -- the record that was met is stream i + 1
 step : (c : tie.After-struct-known Inv-loop μ-loop)
-    → Stepped (c .before .before .before .before .before .before .args .s .now) (ring (c .before .before .before .before .before .before)) (c .before .before .before .before .loop .i + 1) (c .before .before .record-of .result)
+    → Stepped (c .before .before .before .before .before .before .args .s .now) (ring (c .before .before .before .before .before .before)) (c .before .before .before .before .loop .i + 1) (c .before .before .stream-at .result)
 step c =
     let start = c .before .before .before .before .before .before in
     let l = c .before .before .before .before .loop in
-    stepped (start .args .s .now) (start .args .first) (start .args .streams) (start .pre .0) (l .i) (l .at) (c .before .before .record-of .result)
-    (c .before .before .before .loop-test .taken) (l .inv .1) (c .before .before .record-of .ensures)
+    stepped (start .args .s .now) (start .args .first) (start .args .streams) (start .pre .0) (l .i) (l .at) (c .before .before .stream-at .result)
+    (c .before .before .before .loop-test .taken) (l .inv .1) (c .before .before .stream-at .ensures)
 
 -- its master's count is the ring's h
 share : (c : tie.After-struct-known Inv-loop μ-loop)
-    → getD (c .before .before .before .before .before .before .args .counts .now) (c .before .before .record-of .result .found .a) 0 ≡ count (ring (c .before .before .before .before .before .before)) (ring (c .before .before .before .before .before .before) .stream (c .before .before .before .before .loop .i + 1) .master)
+    → getD (c .before .before .before .before .before .before .args .counts .now) (c .before .before .stream-at .result .found .a) 0 ≡ count (ring (c .before .before .before .before .before .before)) (ring (c .before .before .before .before .before .before) .stream (c .before .before .before .before .loop .i + 1) .master)
 share c =
     let start = c .before .before .before .before .before .before in
-    let master = c .before .before .record-of .result .found .a in
+    let master = c .before .before .stream-at .result .found .a in
     ap (λ (l : List ℕ). getD l master 0) (start .pre .1 .0) ∙ (getD-tab (count (ring start)) 33 master (step c .small) ∙ ap (count (ring start)) (step c .master))
 
 -- and stands behind streams 1..i, with its figures
 next : (c : tie.After-struct-known3 Inv-loop μ-loop)
     → Next (ring (c .before .before .before .before .before .before .before .before .before)) (c .before .before .before .before .before .before .before .loop .i) (c .before .before .before .before .before .before .before .loop .borne) (c .before .before .before .before .before .before .before .loop .limiting)
-    (getD (c .before .before .before .before .before .before .before .before .before .args .counts .now) (c .before .before .before .before .before .record-of .result .found .a) 0)
-    (c .before .before .before .before .before .record-of .result .found .b)
-    (c .before .before .before .before .before .record-of .result .found .c)
+    (getD (c .before .before .before .before .before .before .before .before .before .args .counts .now) (c .before .before .before .before .before .stream-at .result .found .a) 0)
+    (c .before .before .before .before .before .stream-at .result .found .b)
+    (c .before .before .before .before .before .stream-at .result .found .c)
 next c =
     let s = step (c .before .before .before) in
     record {
@@ -83,8 +82,8 @@ loop-holds c =
     let l : rotation (ring (c .before)) (ring (c .before) .latency) ≤ 1000000000 = omega (arith, at-latency (c .before), at-latency-most (c .before)) in
     (omega arith, c .before .pre .0 .starts, tight-none (ring (c .before)) l)
 
-record-of-requires : tie.Need-record-of-requires Inv-loop μ-loop
-record-of-requires c κs = search needs
+stream-at-requires : tie.Need-stream-at-requires Inv-loop μ-loop
+stream-at-requires c κs = search needs
 
 cast-master : tie.Need-cast-master Inv-loop μ-loop
 cast-master c = omega (arith, step c .small)
@@ -125,7 +124,7 @@ add-if2 c =
 returns : tie.Need-returns Inv-loop μ-loop
 returns c =
     let start = c .before .before .before .before .before .before .before .before .before .before .before in
-    sym (plan-fails (sheetIn (start .args .s .now) (start .args .streams)) (start .pre .0 .bus) (c .before .before .before .before .before .before .before .before .before .loop .i + 1)
+    sym (plan-fails (sheetIn (start .args .s .now)) (start .pre .0 .on-bus) (c .before .before .before .before .before .before .before .before .before .loop .i + 1)
     (tight-fails (within start) (next (c .before .before)) (rw (← (at-latency start)) (c .if2 .taken))))
 
 sub-borne : tie.Need-sub-borne Inv-loop μ-loop
@@ -161,7 +160,7 @@ returns-2 c =
     let e : l .i ≡ ring start .number = omega (arith, ready-number (start .args .s .now) (start .args .first) (start .args .streams) (start .pre .0)) in
     let t : Tight (ring start) (ring start .number) (l .borne) (l .limiting) = rw e at (l .inv .2) in
     let a : Limited (ring start) (l .borne - start .args .longest) (l .limiting) = rw (start .pre .1 .1 .1) (tight-limited (ring start) (within start) (l .borne) (l .limiting) t) in
-    sym (plan-limited (sheetIn (start .args .s .now) (start .args .streams)) (start .pre .0 .bus) (within start) (l .borne - start .args .longest) (l .limiting) a)
+    sym (plan-limited (sheetIn (start .args .s .now)) (start .pre .0 .on-bus) (within start) (l .borne - start .args .longest) (l .limiting) a)
 
 pub largest-target-spec : {M : Type 1} → statement M
 largest-target-spec =
@@ -171,7 +170,7 @@ largest-target-spec =
     μ-loop
     add-shortest
     loop-holds
-    record-of-requires
+    stream-at-requires
     cast-master
     element-copy-out-h
     cast-h

@@ -5,6 +5,7 @@ use native.Mathlib.Omega.{arith}
 use Rattle.sheet_read.proofs.Taken.{Taken, taken, not-taken, taken-ready}
 use Rattle.sheet_read.specs.Steps.{sheetIn, Ready}
 use Rattle.sheet_record.specs.declared.Record.{Record}
+use Rattle.sheet_record.specs.Kinds.{profibus, busOf}
 use Rattle.profibus_rules.specs.Ring.{ringOf, messages}
 use Rattle.profibus_rules.proofs.Rule.{messages-of-one}
 use Rattle.profibus_rules.proofs.Sizes.{messages-most}
@@ -23,17 +24,17 @@ took c =
     (sym (c .before .before .read-counting .ensures .0) ∙ c .head .given .1)
 
 -- is a PROFIBUS sheet
-ready : (c : tie.Else1) → Ready (c .before .before .before .before .before .before .before .before .args .s .now) 3 (c .before .before .before .head .given .0 .1 .1 .0) (c .before .before .before .head .given .0 .1 .0)
-ready c = taken-ready (took (c .before .before .before)) (c .if1 .left)
+ready : (c : tie.Else1) → Ready (c .before .before .before .before .before .before .before .before .args .s .now) profibus (c .before .before .before .head .given .0 .1 .1 .0) (c .before .before .before .head .given .0 .1 .0)
+ready c = taken-ready (took (c .before .before .before)) (sym (c .before .bus-of .ensures) ∙ c .if1 .left)
 
 -- n·M of its first record is the ring's
 longest : (c : tie.Else1)
-    → c .before .before .before .head .given .0 .0 .a * c .before .before .before .head .given .0 .0 .c ≡ messages (ringOf (sheetIn (c .before .before .before .before .before .before .before .before .args .s .now) (c .before .before .before .head .given .0 .1 .0)))
+    → c .before .before .before .head .given .0 .0 .a * c .before .before .before .head .given .0 .0 .c ≡ messages (ringOf (sheetIn (c .before .before .before .before .before .before .before .before .args .s .now)))
 longest c =
     ap (λ (r : Record). r .a * r .c) (took (c .before .before .before) .begins)
-    ∙ sym (messages-of-one (sheetIn (c .before .before .before .before .before .before .before .before .args .s .now) (c .before .before .before .head .given .0 .1 .0)))
+    ∙ sym (messages-of-one (sheetIn (c .before .before .before .before .before .before .before .before .args .s .now)))
 
-latency : (c : tie.Else1) → c .before .before .before .head .given .0 .0 .b ≡ ringOf (sheetIn (c .before .before .before .before .before .before .before .before .args .s .now) (c .before .before .before .head .given .0 .1 .0)) .latency
+latency : (c : tie.Else1) → c .before .before .before .head .given .0 .0 .b ≡ ringOf (sheetIn (c .before .before .before .before .before .before .before .before .args .s .now)) .latency
 unfolding ringOf
 latency c = ap (λ (r : Record). r .b) (took (c .before .before .before) .begins)
 
@@ -46,11 +47,14 @@ enum-known-no c = search needs
 enum-known-head : tie.Need-enum-known-head
 enum-known-head c = search needs
 
+bus-of-requires : tie.Need-bus-of-requires
+bus-of-requires c κs = search needs
+
 returns : tie.Need-returns
 returns c =
     let t = took (c .before .before .before) in
-    let S = sheetIn (c .before .before .before .before .before .before .before .before .args .s .now) (c .before .before .before .head .given .0 .1 .0) in
-    sym (ap planOf (t .reads) ∙ plan-other-bus S (λ e. c .if1 .taken (ap (λ (r : Record). r .kind) (t .begins) ∙ e)))
+    let S = sheetIn (c .before .before .before .before .before .before .before .before .args .s .now) in
+    sym (ap planOf (t .reads) ∙ plan-other-bus S (λ e. c .if1 .taken (c .before .bus-of .ensures ∙ (ap (λ (r : Record). busOf (r .kind)) (t .begins) ∙ e))))
 
 cast-longest : tie.Need-cast-longest
 cast-longest c = search needs
@@ -64,7 +68,7 @@ mul-longest c =
     let s = e .before .before .before .before .before .before .before .before .args .s .now in
     let n = e .before .before .before .head .given .0 .1 .0 in
     let d = ready-declared s (e .before .before .before .head .given .0 .1 .1 .0) n (ready e) in
-    omega (arith, longest e, messages-most (ringOf (sheetIn s n)) d)
+    omega (arith, longest e, messages-most (ringOf (sheetIn s)) d)
 
 cast-largest-target : tie.Need-cast-largest-target
 cast-largest-target c = search needs
@@ -94,6 +98,7 @@ plan-spec =
     read-counting-requires
     enum-known-no
     enum-known-head
+    bus-of-requires
     returns
     cast-longest
     cast-longest-2

@@ -1,14 +1,13 @@
--- `worldfip_plan::gather` meets its contract. The invariant: the first i variables are kept, with 0 behind them, and the next record stands at
+-- `worldfip_plan::gather` meets its contract. The invariant: the first i variables are kept, with 0 behind them, and the next stands at
 -- `at`. Assumes nothing.
 use borrow.Author.Needs.{needs}
 use mathlib.Core.Path.{_≡_, refl, ap}
-use Prim.Native.Nat.{ℕ, suc, _+_, _-_, _≤_, _<_}
+use Prim.Native.Nat.{ℕ, _+_, _-_, _≤_, _<_}
 use native.Mathlib.Omega.{arith}
 use lib.Dec.{ltb}
 use lib.ListN.{length, getD, length-set}
 use Rattle.common.specs.Sums.{when}
-use Rattle.sheet_read.specs.Whole.{placeOf}
-use Rattle.sheet_read.specs.Steps.{sheetIn}
+use Rattle.sheet_read.specs.Steps.{sheetIn, streamPlace}
 use Rattle.worldfip_rules.specs.Traffic.{Variable}
 use Rattle.worldfip_plan.specs.Answer.{trafficOf}
 use Rattle.worldfip_plan.proofs.Turns.{front-none, front-more, front-all}
@@ -21,16 +20,16 @@ Inv-loop s first n names₀ periods₀ at₀ i₀ names periods at i =
     (i ≤ n)
     × (length names ≡ 64)
     × (length periods ≡ 64)
-    × (at ≡ placeOf s (suc i))
-    × ((j : ℕ) → getD names j 0 ≡ when (ltb j i) (trafficOf (sheetIn s n) .variable (j + 1) .identifier))
-    × ((j : ℕ) → getD periods j 0 ≡ when (ltb j i) (trafficOf (sheetIn s n) .variable (j + 1) .period))
+    × (at ≡ streamPlace s i)
+    × ((j : ℕ) → getD names j 0 ≡ when (ltb j i) (trafficOf (sheetIn s) .variable (j + 1) .identifier))
+    × ((j : ℕ) → getD periods j 0 ≡ when (ltb j i) (trafficOf (sheetIn s) .variable (j + 1) .period))
 
 abbrev μ-loop : tie.MeasureT-loop
 μ-loop s first n names₀ periods₀ at₀ i₀ names periods at i = n - i
 
 -- the record that was met is the next variable
-step : (c : tie.After-struct-known Inv-loop μ-loop) → Stepped (c .before .before .before .before .before .before .pre) (c .before .before .before .before .loop .i) (c .before .before .record-of .result)
-step c = stepped (c .before .before .before .before .before .before .pre) (c .before .before .before .before .loop .i) (c .before .before .before .before .loop .at) (c .before .before .record-of .result) (omega arith) (c .before .before .before .before .loop .inv .3) (c .before .before .record-of .ensures)
+step : (c : tie.After-struct-known Inv-loop μ-loop) → Stepped (c .before .before .before .before .before .before .pre) (c .before .before .before .before .loop .i) (c .before .before .stream-at .result)
+step c = stepped (c .before .before .before .before .before .before .pre) (c .before .before .before .before .loop .i) (c .before .before .before .before .loop .at) (c .before .before .stream-at .result) (omega arith) (c .before .before .before .before .loop .inv .3) (c .before .before .stream-at .ensures)
 
 -- and there is room for it
 few : (c : tie.After-struct-known Inv-loop μ-loop) → c .before .before .before .before .loop .i < 64
@@ -39,8 +38,8 @@ few c = omega (arith, ready-declared (c .before .before .before .before .before 
 loop-holds : tie.Need-loop-holds Inv-loop μ-loop
 loop-holds c = (search needs, refl, refl, c .before .pre .starts, front-none _ 64, front-none _ 64)
 
-record-of-requires : tie.Need-record-of-requires Inv-loop μ-loop
-record-of-requires c κs = search needs
+stream-at-requires : tie.Need-stream-at-requires Inv-loop μ-loop
+stream-at-requires c κs = search needs
 
 cast-names : tie.Need-cast-names Inv-loop μ-loop
 cast-names c = omega (arith, step c .small)
@@ -72,8 +71,8 @@ loop-again c =
       simp length-set (l .inv .1),
       simp length-set (l .inv .2),
       step c .next,
-      front-more (λ j. trafficOf (sheetIn (s .args .s .now) (s .args .n)) .variable (j + 1) .identifier) (l .names) (l .i) _ (l .inv .4) (omega (arith, f)) (ap (λ (v : Variable). v .identifier) (step c .variable)),
-      front-more (λ j. trafficOf (sheetIn (s .args .s .now) (s .args .n)) .variable (j + 1) .period) (l .periods) (l .i) _ (l .inv .5) (omega (arith, f)) (ap (λ (v : Variable). v .period) (step c .variable)),
+      front-more (λ j. trafficOf (sheetIn (s .args .s .now)) .variable (j + 1) .identifier) (l .names) (l .i) _ (l .inv .4) (omega (arith, f)) (ap (λ (v : Variable). v .identifier) (step c .variable)),
+      front-more (λ j. trafficOf (sheetIn (s .args .s .now)) .variable (j + 1) .period) (l .periods) (l .i) _ (l .inv .5) (omega (arith, f)) (ap (λ (v : Variable). v .period) (step c .variable)),
     )
 
 returns : tie.Need-returns Inv-loop μ-loop
@@ -85,8 +84,8 @@ returns c =
     record {
       names-long = l .inv .1;
       periods-long = l .inv .2;
-      names-are = front-all (λ j. trafficOf (sheetIn (s .args .s .now) (s .args .n)) .variable (j + 1) .identifier) (l .names) (s .args .n) (rw e at (l .inv .4)) (λ j k. ap (λ (v : Variable). v .identifier) (none j k));
-      periods-are = front-all (λ j. trafficOf (sheetIn (s .args .s .now) (s .args .n)) .variable (j + 1) .period) (l .periods) (s .args .n) (rw e at (l .inv .5)) (λ j k. ap (λ (v : Variable). v .period) (none j k));
+      names-are = front-all (λ j. trafficOf (sheetIn (s .args .s .now)) .variable (j + 1) .identifier) (l .names) (s .args .n) (rw e at (l .inv .4)) (λ j k. ap (λ (v : Variable). v .identifier) (none j k));
+      periods-are = front-all (λ j. trafficOf (sheetIn (s .args .s .now)) .variable (j + 1) .period) (l .periods) (s .args .n) (rw e at (l .inv .5)) (λ j k. ap (λ (v : Variable). v .period) (none j k));
     }
 
 pub gather-spec : {M : Type 1} → statement M
@@ -96,7 +95,7 @@ gather-spec =
     Inv-loop
     μ-loop
     loop-holds
-    record-of-requires
+    stream-at-requires
     cast-names
     mul-names
     array-write-names

@@ -5,6 +5,8 @@ use borrow.Author.Needs.{needs}
 use Rattle.sheet_read.proofs.Taken.{Taken, taken, not-taken, taken-ready}
 use Rattle.common.proofs.Runs.{tab-places}
 use Rattle.sheet_record.specs.declared.Record.{Record}
+use Rattle.sheet_record.specs.Kinds.{worldfip, busOf}
+use Rattle.sheet_read.specs.Sheets.{busIn}
 use Rattle.sheet_read.specs.Whole.{Outcome, reading}
 use Rattle.sheet_read.specs.Steps.{sheetIn, Ready}
 use Rattle.worldfip_plan.specs.Answer.{identifierOf}
@@ -22,11 +24,11 @@ took c =
     (sym (c .before .before .read .ensures) ∙ c .head .given .1)
 
 -- is a WorldFIP sheet
-ready : (c : tie.Else1) → Ready (c .before .before .before .before .before .before .before .args .s .now) 5 (c .before .before .before .head .given .0 .1 .1 .0) (c .before .before .before .head .given .0 .1 .0)
-ready c = taken-ready (took (c .before .before .before)) (c .if1 .left)
+ready : (c : tie.Else1) → Ready (c .before .before .before .before .before .before .before .args .s .now) worldfip (c .before .before .before .head .given .0 .1 .1 .0) (c .before .before .before .head .given .0 .1 .0)
+ready c = taken-ready (took (c .before .before .before)) (sym (c .before .bus-of .ensures) ∙ c .if1 .left)
 
 -- with its E
-exchange : (c : tie.After-head) → c .head .given .0 .0 .a ≡ sheetIn (c .before .before .before .before .args .s .now) (c .head .given .0 .1 .0) .head .a
+exchange : (c : tie.After-head) → c .head .given .0 .0 .a ≡ sheetIn (c .before .before .before .before .args .s .now) .head .a
 exchange c = ap (λ (r : Record). r .a) (took c .begins)
 
 read-requires : tie.Need-read-requires
@@ -38,11 +40,14 @@ enum-told c = search needs
 enum-known-head : tie.Need-enum-known-head
 enum-known-head c = search needs
 
+bus-of-requires : tie.Need-bus-of-requires
+bus-of-requires c κs = search needs
+
 returns : tie.Need-returns
 returns c =
     let t = took (c .before .before .before) in
-    let S = sheetIn (c .before .before .before .before .before .before .before .args .s .now) (c .before .before .before .head .given .0 .1 .0) in
-    let other : (S .head .kind ≡ 5 → ⊥) = λ (e : S .head .kind ≡ 5). c .if1 .taken (ap (λ (r : Record). r .kind) (t .begins) ∙ e) in
+    let S = sheetIn (c .before .before .before .before .before .before .before .args .s .now) in
+    let other : (busIn S ≡ worldfip → ⊥) = λ (e : busIn S ≡ worldfip). c .if1 .taken (c .before .bus-of .ensures ∙ (ap (λ (r : Record). busOf (r .kind)) (t .begins) ∙ e)) in
     zero-run (identifierOf (reading (c .before .before .before .before .before .before .before .args .s .now))) (λ r. ap (λ (o : Outcome). identifierOf o r) (t .reads) ∙ other-name S other r)
 
 gather-requires : tie.Need-gather-requires
@@ -88,6 +93,7 @@ identifiers-spec =
     read-requires
     enum-told
     enum-known-head
+    bus-of-requires
     returns
     gather-requires
     slice-aggregate-by-rank

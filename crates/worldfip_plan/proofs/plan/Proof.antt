@@ -4,6 +4,8 @@ use borrow.Author.Needs.{needs}
 use lib.ListN.{length}
 use Rattle.sheet_read.proofs.Taken.{Taken, taken, not-taken, taken-ready}
 use Rattle.sheet_record.specs.declared.Record.{Record}
+use Rattle.sheet_record.specs.Kinds.{worldfip, busOf}
+use Rattle.sheet_read.specs.Sheets.{busIn}
 use Rattle.sheet_read.specs.Whole.{Outcome}
 use Rattle.sheet_read.specs.Steps.{sheetIn, Ready}
 use Rattle.worldfip_plan.specs.Answer.{planOf, runOf}
@@ -19,11 +21,11 @@ took c =
     (sym (c .before .before .read .ensures) ∙ c .head .given .1)
 
 -- is a WorldFIP sheet
-ready : (c : tie.Else1) → Ready (c .before .before .before .before .before .before .before .before .args .s .now) 5 (c .before .before .before .head .given .0 .1 .1 .0) (c .before .before .before .head .given .0 .1 .0)
-ready c = taken-ready (took (c .before .before .before)) (c .if1 .left)
+ready : (c : tie.Else1) → Ready (c .before .before .before .before .before .before .before .before .args .s .now) worldfip (c .before .before .before .head .given .0 .1 .1 .0) (c .before .before .before .head .given .0 .1 .0)
+ready c = taken-ready (took (c .before .before .before)) (sym (c .before .bus-of .ensures) ∙ c .if1 .left)
 
 -- with its E
-exchange : (c : tie.After-head) → c .head .given .0 .0 .a ≡ sheetIn (c .before .before .before .before .before .args .s .now) (c .head .given .0 .1 .0) .head .a
+exchange : (c : tie.After-head) → c .head .given .0 .0 .a ≡ sheetIn (c .before .before .before .before .before .args .s .now) .head .a
 exchange c = ap (λ (r : Record). r .a) (took c .begins)
 
 read-requires : tie.Need-read-requires
@@ -35,12 +37,15 @@ enum-known-no c = search needs
 enum-known-head : tie.Need-enum-known-head
 enum-known-head c = search needs
 
+bus-of-requires : tie.Need-bus-of-requires
+bus-of-requires c κs = search needs
+
 returns : tie.Need-returns
 returns c =
     let t = took (c .before .before .before) in
     let s = c .before .before .before .before .before .before .before .before .args in
-    let S = sheetIn (s .s .now) (c .before .before .before .head .given .0 .1 .0) in
-    let other : (S .head .kind ≡ 5 → ⊥) = λ (e : S .head .kind ≡ 5). c .if1 .taken (ap (λ (r : Record). r .kind) (t .begins) ∙ e) in
+    let S = sheetIn (s .s .now) in
+    let other : (busIn S ≡ worldfip → ⊥) = λ (e : busIn S ≡ worldfip). c .if1 .taken (c .before .bus-of .ensures ∙ (ap (λ (r : Record). busOf (r .kind)) (t .begins) ∙ e)) in
     (sym (ap (λ (o : Outcome). planOf o (length (s .rows .now))) (t .reads) ∙ other-bus S other (length (s .rows .now))), sym (ap (λ (o : Outcome). runOf o (s .rows .now)) (t .reads) ∙ other-run S other (s .rows .now)))
 
 gather-requires : tie.Need-gather-requires
@@ -78,6 +83,7 @@ plan-spec =
     read-requires
     enum-known-no
     enum-known-head
+    bus-of-requires
     returns
     gather-requires
     slice-aggregate-table
