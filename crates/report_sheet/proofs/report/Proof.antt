@@ -13,8 +13,8 @@ returns : tie.Need-returns
 unfolding answerOf runOf
 returns c = (simp (lt-ltb _ mostText (c .if1 .taken)), simp (lt-ltb _ mostText (c .if1 .taken)))
 
-first-kind-requires : tie.Need-first-kind-requires
-first-kind-requires c κs = search needs
+first-bus-requires : tie.Need-first-bus-requires
+first-bus-requires c κs = search needs
 
 put-report-requires : tie.Need-put-report-requires
 put-report-requires c κs = search needs
@@ -32,4 +32,4 @@ returns-2 c =
 
 pub report-spec : {M : Type 1} → statement M
 report-spec =
-    tie.close (tie.spec returns first-kind-requires put-report-requires same-length returns-2)
+    tie.close (tie.spec returns first-bus-requires put-report-requires same-length returns-2)
