@@ -8,7 +8,7 @@ use Rattle.common.specs.Checks.{Verdict}
 use Rattle.common.specs.Checks.Verdict.{Passed, Refused}
 use Rattle.common.specs.Runs.{filled}
 use Rattle.common.proofs.Runs.{filled-same, filled-at}
-use Rattle.sheet_read.specs.Sheets.{Sheet}
+use Rattle.sheet_read.specs.Sheets.{Sheet, mastersOf}
 use Rattle.sheet_read.specs.Whole.{Outcome, orElse}
 use Rattle.sheet_read.specs.Whole.Outcome.{Read, Not}
 use Rattle.pnet_rules.specs.Segment.{Segment, segmentOf}
@@ -27,13 +27,13 @@ use Rattle.capture_compare.specs.Steps.{planBy, runBy}
 pub record Accepts (s : List ℕ) (room m k : ℕ) : Type 0 where
   pub sheet : Sheet
   pub is : bounded s room ≡ Read sheet
-  pub masters : sheet .head .a ≡ m
+  pub masters : mastersOf sheet ≡ m
   pub number : length (sheet .streams) ≡ k
   pub fits : k ≤ room
   pub few : k ≤ most
 
 -- what an outcome that is told as accepted is
-told-accepted : (o : Outcome) (m k : ℕ) → planOf o ≡ answer.Accepted m k → (H : Sheet) × ((o ≡ Read H) × ((H .head .a ≡ m) × (length (H .streams) ≡ k)))
+told-accepted : (o : Outcome) (m k : ℕ) → planOf o ≡ answer.Accepted m k → (H : Sheet) × ((o ≡ Read H) × ((mastersOf H ≡ m) × (length (H .streams) ≡ k)))
 told-accepted (Read H) m k e = (H, (refl, (cc, cc)))
 told-accepted (Not n p) m k e = let z : _≡_ {A = ℕ} 0 1 = cc in absurd (omega arith)
 

@@ -14,7 +14,8 @@ use Rattle.common.specs.Checks.Verdict.{Passed, Refused}
 use Rattle.common.proofs.Checks.{Applies, Clear, refused-then}
 use Rattle.common.proofs.Checks.Applies.{here, later}
 use Rattle.common.proofs.Checks.Clear.{none, and}
-use Rattle.sheet_read.specs.Sheets.{Sheet}
+use Rattle.sheet_record.specs.Kinds.{pnet}
+use Rattle.sheet_read.specs.Sheets.{Sheet, busIn}
 use Rattle.sheet_read.specs.Whole.{Outcome, orElse, reading}
 use Rattle.sheet_read.specs.Whole.Outcome.{Read, Not}
 use Rattle.pnet_rules.specs.Segment.{segmentOf}
@@ -49,12 +50,12 @@ module _ (s c : List ℕ) (la lb lc ld : ℕ) where
     abbrev checks : List Check
     checks = segmentChecks H (ltb room (length (H .streams))) (length (H .streams))
 
-    on-bus : not (eqb (H .head .kind) 1) ≡ false → OnBus s H
-    on-bus k = record { reads = e; pnet = eqb-true (H .head .kind) 1 (not-false _ k) }
+    on-bus : not (eqb (busIn H) pnet) ≡ false → OnBus s H
+    on-bus k = record { reads = e; pnet = eqb-true (busIn H) pnet (not-false _ k) }
 
     line : (x p : ℕ) → Applies checks x p → Given s c la lb lc ld x p
     unfolding segmentOf
-    line x p (here k) = another-bus e (eqb-false (H .head .kind) 1 (not-true _ k))
+    line x p (here k) = another-bus e (eqb-false (busIn H) pnet (not-true _ k))
     line x p (later k (here r)) =
         no-room (on-bus k) (λ has. omega (arith, ltb-true room (length (H .streams)) r, room-if (length (H .streams)) has))
     line x p (later k (later r (here l))) =

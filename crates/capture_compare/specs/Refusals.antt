@@ -4,7 +4,8 @@ use Prim.Native.Nat.{ℕ, _≤_}
 use mathlib.Core.Path.{_≡_}
 use mathlib.Core.List.{List}
 use lib.ListN.{length}
-use Rattle.sheet_read.specs.Sheets.{Sheet}
+use Rattle.sheet_record.specs.Kinds.{pnet}
+use Rattle.sheet_read.specs.Sheets.{Sheet, busIn}
 use Rattle.sheet_read.specs.Whole.{reading}
 use Rattle.sheet_read.specs.Whole.Outcome.{Read, Not}
 use Rattle.pnet_rules.specs.Segment.{segmentOf}
@@ -29,7 +30,7 @@ pub data Given (s c : List ℕ) (la lb lc ld : ℕ) : ℕ → ℕ → Type 0 whe
   -- the sheet is not read
   unread : {x p : ℕ} → reading s ≡ Not x p → Given s c la lb lc ld x p
   -- it isn't P-NET: 3 at 0
-  another-bus : {H : Sheet} → reading s ≡ Read H → (H .head .kind ≡ 1 → ⊥) → Given s c la lb lc ld 3 0
+  another-bus : {H : Sheet} → reading s ≡ Read H → (busIn H ≡ pnet → ⊥) → Given s c la lb lc ld 3 0
   -- lent room too short: the number of streams
   no-room : {H : Sheet} → OnBus s H → (Room la lb lc ld (length (H .streams)) → ⊥) → Given s c la lb lc ld 13 (length (H .streams))
   -- a bound above a deadline: the first such stream

@@ -30,6 +30,7 @@ impl Sheet {
             b: 0,
             c: 0,
             d: 0,
+            e: 0,
         };
         let mut bytes = [0u8; 9602];
         sheet_write::put_record(&mut bytes, 0, head);
@@ -54,6 +55,7 @@ impl Sheet {
             b: c as u32,
             c: 1000000,
             d: 1000000,
+            e: 0,
         };
         let mut bytes = self.bytes;
         let mut owner = self.owner;

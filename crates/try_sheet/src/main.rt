@@ -86,7 +86,14 @@ fn try_lines(text: &[u8]) {
 }
 
 fn record_of(kind: u8, a: u32, b: u32, c: u32, d: u32) -> Record {
-    Record { kind, a, b, c, d }
+    Record {
+        kind,
+        a,
+        b,
+        c,
+        d,
+        e: 0,
+    }
 }
 
 // Puts n records from a place on, each with the next number of least..=most in its first field; the place behind the last.
