@@ -39,11 +39,12 @@ behind d (answer.Refused r q) = answer.Refused r (d + q)
 
 -- ---- The runs then
 
--- a run that is to hold `new` behind the piece: it does where all is taken, and keeps what it had, `old`, where the piece is refused
+-- a run holds `new` where all of the piece is taken, and where it is refused what it had, `old`
 abbrev pub runBy : Taken → List ℕ → List ℕ → List ℕ
 runBy answer.All new old = new
 runBy (answer.Refused r q) new old = old
 
+-- what is new of each of the five, by all records of the piece
 unfoldable pub leftAfter : List ℕ → Before → List ℕ
 unfolding tab Log.left events
 leftAfter p b = tab (λ i. Log.left b (events p) (i + 1)) most

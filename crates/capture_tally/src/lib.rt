@@ -104,7 +104,7 @@ fn keep(
     above[k] = std::num::wrapping_add_u64(above[k], exceeds(bound[k], shown));
 }
 
-// The records of a piece, one after the other; behind a refusal the runs hold what the records before it say.
+// The records of a piece, one after the other, up to the first that is refused.
 fn take_each(
     piece: &[u8],
     streams: usize,
@@ -140,7 +140,7 @@ fn take_each(
 }
 
 // Takes the records of a piece, the next of a capture, behind those whose open requests, stamps and figures the runs keep. A refused piece
-// leaves the runs as they were: they are copied before, so that no second pass has to look for a refusal, and put back.
+// leaves the runs as they were: a copy is put back, so that no pass need go ahead to look for a refusal.
 pub fn take(
     piece: &[u8],
     streams: usize,
