@@ -6,9 +6,8 @@ use Rattle.sheet_read.specs.Whole.{Outcome, orElse}
 use Rattle.sheet_read.specs.Whole.Outcome.{Read, Not}
 use Rattle.pnet_rules.specs.Segment.{Segment}
 use Rattle.pnet_bounds.specs.Bounded.{bounded, boundOf}
-use Rattle.capture_log.specs.declared.Event.{Event}
 use Rattle.capture_log.specs.Log.{fresh, left, answered, largest, above}
-use Rattle.capture_log.specs.Records.{eventsIn, records, heard}
+use Rattle.capture_log.specs.Records.{events, heard}
 
 -- the sheet's refusals, then those of the capture c, record by record
 abbrev pub comparedBy : Outcome → List ℕ → Outcome
@@ -21,11 +20,6 @@ unfolding bounded heard
 compared s c la lb lc ld = comparedBy (bounded s (min la (min lb (min lc ld)))) c
 
 -- ---- The figures of a stream
-
--- all records of a capture
-unfoldable pub events : List ℕ → List Event
-unfolding eventsIn records
-events c = eventsIn c (records c)
 
 -- answers, the largest response, answers above the bound, and 1 or 0 requests left open
 unfoldable pub answeredOf : List ℕ → Segment → ℕ → ℕ

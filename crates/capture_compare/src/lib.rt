@@ -10,10 +10,10 @@ ghost use Rattle.common.specs.Runs.{filled};
 ghost use Rattle.pnet_plan.specs.Planned.{planOf};
 ghost use Rattle.capture_log.specs.Log;
 ghost use Rattle.capture_log.specs.Log.{fresh};
-ghost use Rattle.capture_log.specs.Records.{heard};
+ghost use Rattle.capture_log.specs.Records.{events, heard};
 ghost use Rattle.pnet_bounds.specs.Bounded.{streamRun};
 ghost use Rattle.capture_tally.specs.Pieces.{most};
-ghost use Rattle.capture_compare.specs.Compared.{compared, events, answeredOf, largestOf, aboveOf, leftOf};
+ghost use Rattle.capture_compare.specs.Compared.{compared, answeredOf, largestOf, aboveOf, leftOf};
 ghost use Rattle.capture_compare.specs.Steps.{planBy, runBy};
 
 fn shorter(a: usize, b: usize) -> usize

@@ -108,7 +108,7 @@ module _ (c p : List ℕ) (m : ℕ) (whole : length c ≡ size * m) (n : ℕ) wh
             ap (λ (x : ℕ). isRefused (judge (c ++ p) n b x)) e
             ∙ (same (j - m) ∙ first-refused p n b' .fails (j - m) (omega arith) (omega arith))
 
-    pub taken-behind : taken (c ++ p) n b ≡ m + taken p n b'
+    taken-behind : taken (c ++ p) n b ≡ m + taken p n b'
     unfolding taken
     taken-behind = split (ltb (taken p n b') (records p)) refl
       where

@@ -65,10 +65,14 @@ abbrev pub isRefused : Verdict → Bool
 isRefused Passed = false
 isRefused (Refused n p) = true
 
--- how many records there are; the last may be cut
+-- how many records there are, and all of them; the last may be cut
 unfoldable pub records : List ℕ → ℕ
 unfolding up
 records c = up (length c) size
+
+unfoldable pub events : List ℕ → List Event
+unfolding eventsIn records
+events c = eventsIn c (records c)
 
 -- how many are taken: all before the first that is refused
 unfoldable pub taken : List ℕ → ℕ → Before → ℕ

@@ -14,3 +14,7 @@ told-refused (Refused a b) r p e = cc
 pub told-passed : (v : Verdict) → takenBy v ≡ answer.All → v ≡ Passed
 told-passed Passed e = refl
 told-passed (Refused a b) e = let z : _≡_ {A = ℕ} 0 1 = cc in absurd (omega arith)
+
+-- a refused piece is not taken
+pub refused-not-all : {A : Type 0} {r q : ℕ} → answer.Refused r q ≡ answer.All → A
+refused-not-all e = let z : _≡_ {A = ℕ} 0 1 = cc in absurd (omega arith)

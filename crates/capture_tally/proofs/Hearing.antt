@@ -20,10 +20,10 @@ use Rattle.sheet_record.proofs.Ranges.{within-range}
 use Rattle.capture_log.specs.declared.Event.{Event}
 use Rattle.capture_log.specs.Log as Log
 use Rattle.capture_log.specs.Log.{Before, shown}
-use Rattle.capture_log.specs.Records.{size, eventAt, eventsIn, known, metAt, eventChecks, judge, isRefused, records, taken, heard}
+use Rattle.capture_log.specs.Records.{size, eventAt, eventsIn, known, metAt, eventChecks, judge, isRefused, records, events, taken, heard}
 use Rattle.capture_log.proofs.Laws as laws
 use Rattle.capture_log.proofs.Records.{met-whole}
-use Rattle.capture_tally.specs.Pieces.{most, before, takenIn, leftAfter, sinceAfter, answersAfter, largestAfter, aboveAfter}
+use Rattle.capture_tally.specs.Pieces.{most, before, leftAfter, sinceAfter, answersAfter, largestAfter, aboveAfter}
 use Rattle.capture_tally.specs.Steps.{noOf, spot, leftWith, sinceWith, answersWith, shownBy, largestWith, aboveWith}
 use Rattle.capture_tally.proofs.Judged.{Whole, passed-by, refused-by, whole-if}
 
@@ -261,7 +261,7 @@ module _ {c : List ℕ} {n : ℕ} {bound : List ℕ} {K₀ K : Kept} {at : ℕ} 
 
   -- it is refused
   pub hearing-refused : at < length c → (noOf (judge c n (beforeOf K₀) (h .j)) ≡ 0 → ⊥)
-      → (h .j ≡ taken c n (beforeOf K₀)) × (heard c n (beforeOf K₀) ≡ Refused (noOf (judge c n (beforeOf K₀) (h .j))) at)
+      → heard c n (beforeOf K₀) ≡ Refused (noOf (judge c n (beforeOf K₀) (h .j))) at
   unfolding taken heard records up
   hearing-refused l r =
       let v : judge c n (beforeOf K₀) (h .j) ≡ Refused (noOf (judge c n (beforeOf K₀) (h .j))) at =
@@ -269,24 +269,25 @@ module _ {c : List ℕ} {n : ℕ} {bound : List ℕ} {K₀ K : Kept} {at : ℕ} 
       let few : h .j < records c = omega (arith, h .place, l) in
       let t : h .j ≡ taken c n (beforeOf K₀) =
       found-first (λ j. isRefused (judge c n (beforeOf K₀) j)) (records c) (h .j) (h .passed) (ap isRefused v) few in
-      (t, rw (← t, lt-ltb (h .j) (records c) few) v)
+      rw (← t, lt-ltb (h .j) (records c) few) v
 
   -- the piece ends
-  pub hearing-all : length c ≤ at → (h .j ≡ taken c n (beforeOf K₀)) × (heard c n (beforeOf K₀) ≡ Passed)
-  unfolding taken heard records up
-  hearing-all l =
-      let all : h .j ≡ records c = omega (arith, h .place, h .inside, l) in
-      let t : h .j ≡ taken c n (beforeOf K₀) = found-none (λ j. isRefused (judge c n (beforeOf K₀) j)) (records c) (h .j) (h .passed) all in
-      (t, rw (← t, le-ltb (h .j) (records c) (omega (arith, all))) refl)
+  module _ (end : length c ≤ at) where
+    all : h .j ≡ records c
+    unfolding records up
+    all = omega (arith, h .place, h .inside, end)
 
--- the runs then, where all records that are taken are taken
-pub hearing-kept : (n : ℕ) {c : List ℕ} {bound : List ℕ} {K₀ K : Kept} {at : ℕ} (h : Hearing c (min n most) bound K₀ K at)
-    → h .j ≡ taken c (min n most) (beforeOf K₀)
-    → (K .left ≡ leftAfter c n (K₀ .left) (K₀ .since)) × ((K .since ≡ sinceAfter c n (K₀ .left) (K₀ .since))
-    × ((K .answers ≡ answersAfter c n (K₀ .left) (K₀ .since) (K₀ .answers)) × ((K .largest ≡ largestAfter c n (K₀ .left) (K₀ .since) (K₀ .largest))
-    × (K .above ≡ aboveAfter c n bound (K₀ .left) (K₀ .since) (K₀ .above)))))
-unfolding leftAfter sinceAfter answersAfter largestAfter aboveAfter takenIn
-hearing-kept n {c} {bound} {K₀} {K} h t =
-    let k : Keeps bound K₀ (beforeOf K₀) (eventsIn c (taken c (min n most) (beforeOf K₀))) K =
-    subst (λ (x : ℕ). Keeps bound K₀ (beforeOf K₀) (eventsIn c x) K) t (h .keeps) in
-    (holds-tab (k .left-is), (holds-tab (k .since-is), (holds-tab (k .answers-is), (holds-tab (k .largest-is), holds-tab (k .above-is)))))
+    pub hearing-all : heard c n (beforeOf K₀) ≡ Passed
+    unfolding taken heard
+    hearing-all =
+        let t : h .j ≡ taken c n (beforeOf K₀) = found-none (λ j. isRefused (judge c n (beforeOf K₀) j)) (records c) (h .j) (h .passed) all in
+        rw (← t, le-ltb (h .j) (records c) (omega (arith, all))) refl
+
+    -- the runs then
+    pub hearing-kept : (K .left ≡ leftAfter c (beforeOf K₀)) × ((K .since ≡ sinceAfter c (beforeOf K₀))
+        × ((K .answers ≡ answersAfter c (K₀ .answers)) × ((K .largest ≡ largestAfter c (beforeOf K₀) (K₀ .largest))
+        × (K .above ≡ aboveAfter c (beforeOf K₀) bound (K₀ .above)))))
+    unfolding leftAfter sinceAfter answersAfter largestAfter aboveAfter events
+    hearing-kept =
+        let k : Keeps bound K₀ (beforeOf K₀) (eventsIn c (records c)) K = subst (λ (x : ℕ). Keeps bound K₀ (beforeOf K₀) (eventsIn c x) K) all (h .keeps) in
+        (holds-tab (k .left-is), (holds-tab (k .since-is), (holds-tab (k .answers-is), (holds-tab (k .largest-is), holds-tab (k .above-is)))))

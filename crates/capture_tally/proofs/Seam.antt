@@ -12,11 +12,11 @@ use Rattle.common.proofs.Runs.{getD-tab, tab-same}
 use Rattle.capture_log.specs.declared.Event.{Event}
 use Rattle.capture_log.specs.Log as Log
 use Rattle.capture_log.specs.Log.{Before}
-use Rattle.capture_log.specs.Records.{size, eventsIn, judge, taken, heard}
-use Rattle.capture_log.proofs.Joined.{Leaves, later, events-behind, records-whole}
-use Rattle.capture_log.proofs.Heard.{all-taken, taken-behind, heard-behind}
+use Rattle.capture_log.specs.Records.{size, eventsIn, judge, records, events, heard}
+use Rattle.capture_log.proofs.Joined.{Leaves, later, events-behind, records-whole, records-joined}
+use Rattle.capture_log.proofs.Heard.{heard-behind}
 use Rattle.capture_tally.specs.declared.Taken.the-variants as answer
-use Rattle.capture_tally.specs.Pieces.{most, before, behind, takenIn, takenBy, answerTo, leftAfter, sinceAfter}
+use Rattle.capture_tally.specs.Pieces.{most, before, behind, takenBy, answerTo, leftAfter, sinceAfter}
 use Rattle.capture_tally.specs.Steps.{noOf}
 use Rattle.capture_tally.proofs.Judged.{passed-by, refused-by}
 use Rattle.capture_tally.proofs.Answers.{told-passed}
@@ -38,62 +38,44 @@ refused-place p n b j r q e = split (ℕ-discrete (noOf (judge p n b j)) 0)
     split (no z) = let g : Refused (noOf (judge p n b j)) (size * j) ≡ Refused r q = sym (refused-by p n b j z) ∙ e in cc
 
 -- the runs keep what a piece leaves of the streams that have a place
-module _ (c : List ℕ) (n : ℕ) (left since : List ℕ) where
-  abbrev b : Before
-  b = before left since
-
+module _ (c : List ℕ) (b : Before) where
   abbrev b' : Before
-  b' = before (leftAfter c n left since) (sinceAfter c n left since)
+  b' = before (leftAfter c b) (sinceAfter c b)
 
-  pub leaves : Leaves most b (takenIn c n b) b'
+  pub leaves : Leaves most b (events c) b'
   unfolding leftAfter sinceAfter
-  leaves = record { waiting-is = at (Log.left b (takenIn c n b)); stamp-is = at (Log.since b (takenIn c n b)) }
+  leaves = record { waiting-is = at (Log.left b (events c)); stamp-is = at (Log.since b (events c)) }
     where
       at : (f : ℕ → ℕ) (i : ℕ) → 1 ≤ i → i ≤ most → f i ≡ getD (tab (λ k. f (k + 1)) most) (i - 1) 0
       at f i from to =
           let e : i - 1 + 1 ≡ i = omega arith in
           sym (getD-tab (λ k. f (k + 1)) most (i - 1) (omega arith) ∙ ap f e)
 
-  -- a piece c of m whole records that is taken, then a piece p
-  module _ (p : List ℕ) (m : ℕ) (whole : length c ≡ size * m) (all : answerTo c n left since ≡ answer.All) where
-    passed : heard c (min n most) b ≡ Passed
-    unfolding answerTo
-    passed = told-passed _ all
+-- a piece c of m whole records, then a piece p
+module _ (c p : List ℕ) (m : ℕ) (whole : length c ≡ size * m) where
+  -- the first is taken, for n streams
+  pub both-heard : (n : ℕ) (b : Before) → answerTo c n b ≡ answer.All → heard (c ++ p) (min n most) b ≡ later (length c) (heard p (min n most) (b' c b))
+  unfolding answerTo events
+  both-heard n b all =
+      let l : Leaves most b (eventsIn c m) (b' c b) = subst (λ (j : ℕ). Leaves most b (eventsIn c j) (b' c b)) (records-whole c m whole) (leaves c b) in
+      heard-behind c p m whole (min n most) (told-passed _ all) l (omega arith)
 
-    first-events : takenIn c n b ≡ eventsIn c m
-    unfolding takenIn
-    first-events = ap (eventsIn c) (all-taken c (min n most) b passed ∙ records-whole c m whole)
+  both-events : events (c ++ p) ≡ events p ++ events c
+  unfolding events
+  both-events =
+      ap (eventsIn (c ++ p)) (records-joined c p m whole)
+      ∙ (events-behind c p m whole (records p) ∙ ap (λ (j : ℕ). eventsIn p (records p) ++ eventsIn c j) (sym (records-whole c m whole)))
 
-    first-leaves : Leaves most b (eventsIn c m) b'
-    first-leaves = subst (λ (es : List Event). Leaves most b es b') first-events leaves
+  -- ---- The runs behind both, place by place
 
-    pub both-heard : heard (c ++ p) (min n most) b ≡ later (length c) (heard p (min n most) b')
-    both-heard = heard-behind c p m whole (min n most) passed first-leaves (omega arith)
+  pub by-place : (f : List Event → ℕ → ℕ) (g : ℕ → ℕ) → ((i : ℕ) → i < most → f (events p ++ events c) i ≡ g i) → tab (f (events (c ++ p))) most ≡ tab g most
+  by-place f g e = ap (λ (x : List Event). tab (f x) most) both-events ∙ tab-same (f (events p ++ events c)) g most e
 
-    both-events : takenIn (c ++ p) n b ≡ takenIn p n b' ++ takenIn c n b
-    unfolding takenIn
-    both-events =
-        ap (eventsIn (c ++ p)) (taken-behind c p m whole (min n most) passed first-leaves (omega arith))
-        ∙ (events-behind c p m whole (taken p (min n most) b')
-        ∙ ap (λ (es : List Event). eventsIn p (taken p (min n most) b') ++ es) (sym first-events))
-
-    -- ---- The runs behind both, place by place
-
-    abbrev es : List Event
-    es = takenIn c n b
-
-    abbrev fs : List Event
-    fs = takenIn p n b'
-
-    pub by-place : (f : List Event → ℕ → ℕ) (g : ℕ → ℕ) → ((i : ℕ) → i < most → f (fs ++ es) i ≡ g i)
-        → tab (f (takenIn (c ++ p) n b)) most ≡ tab g most
-    by-place f g e = ap (λ (x : List Event). tab (f x) most) both-events ∙ tab-same (f (fs ++ es)) g most e
-
-    -- a figure that goes on from what a run had
-    pub goes-on : (op : ℕ → ℕ → ℕ) (f : List Event → ℕ → ℕ) (g : ℕ → ℕ) (old : List ℕ)
-        → ((i : ℕ) → i < most → (a : ℕ) → op a (f (fs ++ es) i) ≡ op (op a (f es i)) (g i))
-        → tab (λ i. op (getD old i 0) (f (takenIn (c ++ p) n b) i)) most
-        ≡ tab (λ i. op (getD (tab (λ k. op (getD old k 0) (f es k)) most) i 0) (g i)) most
-    goes-on op f g old e =
-        by-place (λ x i. op (getD old i 0) (f x i)) (λ i. op (getD (tab (λ k. op (getD old k 0) (f es k)) most) i 0) (g i))
-        (λ i l. e i l (getD old i 0) ∙ ap (λ (y : ℕ). op y (g i)) (sym (getD-tab (λ k. op (getD old k 0) (f es k)) most i l)))
+  -- a figure that goes on from what a run had
+  pub goes-on : (op : ℕ → ℕ → ℕ) (f : List Event → ℕ → ℕ) (g : ℕ → ℕ) (old : List ℕ)
+      → ((i : ℕ) → i < most → (a : ℕ) → op a (f (events p ++ events c) i) ≡ op (op a (f (events c) i)) (g i))
+      → tab (λ i. op (getD old i 0) (f (events (c ++ p)) i)) most
+      ≡ tab (λ i. op (getD (tab (λ k. op (getD old k 0) (f (events c) k)) most) i 0) (g i)) most
+  goes-on op f g old e =
+      by-place (λ x i. op (getD old i 0) (f x i)) (λ i. op (getD (tab (λ k. op (getD old k 0) (f (events c) k)) most) i 0) (g i))
+      (λ i l. e i l (getD old i 0) ∙ ap (λ (y : ℕ). op y (g i)) (sym (getD-tab (λ k. op (getD old k 0) (f (events c) k)) most i l)))

@@ -7,11 +7,9 @@ use lib.ListN.{getD}
 use Rattle.common.specs.Checks.{Verdict}
 use Rattle.common.specs.Checks.Verdict.{Passed, Refused}
 use Rattle.common.specs.Runs.{tab}
-use Rattle.capture_log.specs.declared.Event.{Event}
 use Rattle.capture_log.specs.Log as Log
 use Rattle.capture_log.specs.Log.{Before}
-use Rattle.capture_log.specs.Records.{eventsIn, heard}
-use Rattle.capture_log.specs.Records as Records
+use Rattle.capture_log.specs.Records.{events, heard}
 use Rattle.capture_tally.specs.declared.Taken.{Taken}
 use Rattle.capture_tally.specs.declared.Taken.the-variants as answer
 
@@ -23,51 +21,47 @@ most = 800
 abbrev pub before : List ℕ → List ℕ → Before
 before left since = record { waiting = λ i. getD left (i - 1) 0; stamp = λ i. getD since (i - 1) 0 }
 
--- the records of the piece p that are taken, for n streams: all before the first that is refused
-unfoldable pub takenIn : List ℕ → ℕ → Before → List Event
-unfolding eventsIn Records.taken
-takenIn p n b = eventsIn p (Records.taken p (min n most) b)
+-- ---- The answer to the piece p, for n streams, behind b
 
--- the answer: all of it, or the refusal with its place in the piece
+-- all of it, or the refusal with its place in the piece
 abbrev pub takenBy : Verdict → Taken
 takenBy Passed = answer.All
 takenBy (Refused n p) = answer.Refused n p
 
--- `left` and `since` are the runs before the piece
-unfoldable pub answerTo : List ℕ → ℕ → List ℕ → List ℕ → Taken
+unfoldable pub answerTo : List ℕ → ℕ → Before → Taken
 unfolding heard
-answerTo p n left since = takenBy (heard p (min n most) (before left since))
+answerTo p n b = takenBy (heard p (min n most) b)
 
 -- the answer to a piece with d bytes before it: its place is counted from their start
 abbrev pub behind : ℕ → Taken → Taken
 behind d answer.All = answer.All
 behind d (answer.Refused r q) = answer.Refused r (d + q)
 
--- ---- The runs behind it
+-- ---- The runs then
 
-unfoldable pub leftAfter : List ℕ → ℕ → List ℕ → List ℕ → List ℕ
-unfolding tab Log.left takenIn
-leftAfter p n left since = let b = before left since in tab (λ i. Log.left b (takenIn p n b) (i + 1)) most
+-- a run holds `new` where all of the piece is taken, and where it is refused what it had, `old`
+abbrev pub runBy : Taken → List ℕ → List ℕ → List ℕ
+runBy answer.All new old = new
+runBy (answer.Refused r q) new old = old
 
-unfoldable pub sinceAfter : List ℕ → ℕ → List ℕ → List ℕ → List ℕ
-unfolding tab Log.since takenIn
-sinceAfter p n left since = let b = before left since in tab (λ i. Log.since b (takenIn p n b) (i + 1)) most
+-- what is new of each of the five, by all records of the piece
+unfoldable pub leftAfter : List ℕ → Before → List ℕ
+unfolding tab Log.left events
+leftAfter p b = tab (λ i. Log.left b (events p) (i + 1)) most
+
+unfoldable pub sinceAfter : List ℕ → Before → List ℕ
+unfolding tab Log.since events
+sinceAfter p b = tab (λ i. Log.since b (events p) (i + 1)) most
 
 -- counts have 64 bits, which no capture below 2^64 bytes fills
-unfoldable pub answersAfter : List ℕ → ℕ → List ℕ → List ℕ → List ℕ → List ℕ
-unfolding tab Log.answered takenIn
-answersAfter p n left since old =
-    let b = before left since in
-    tab (λ i. (getD old i 0 + Log.answered (takenIn p n b) (i + 1)) % 2 ^ 64) most
+unfoldable pub answersAfter : List ℕ → List ℕ → List ℕ
+unfolding tab Log.answered events
+answersAfter p old = tab (λ i. (getD old i 0 + Log.answered (events p) (i + 1)) % 2 ^ 64) most
 
-unfoldable pub largestAfter : List ℕ → ℕ → List ℕ → List ℕ → List ℕ → List ℕ
-unfolding tab Log.largest takenIn
-largestAfter p n left since old =
-    let b = before left since in
-    tab (λ i. max (getD old i 0) (Log.largest b (takenIn p n b) (i + 1))) most
+unfoldable pub largestAfter : List ℕ → Before → List ℕ → List ℕ
+unfolding tab Log.largest events
+largestAfter p b old = tab (λ i. max (getD old i 0) (Log.largest b (events p) (i + 1))) most
 
-unfoldable pub aboveAfter : List ℕ → ℕ → List ℕ → List ℕ → List ℕ → List ℕ → List ℕ
-unfolding tab Log.above takenIn
-aboveAfter p n bound left since old =
-    let b = before left since in
-    tab (λ i. (getD old i 0 + Log.above b (getD bound i 0) (takenIn p n b) (i + 1)) % 2 ^ 64) most
+unfoldable pub aboveAfter : List ℕ → Before → List ℕ → List ℕ → List ℕ
+unfolding tab Log.above events
+aboveAfter p b bound old = tab (λ i. (getD old i 0 + Log.above b (getD bound i 0) (events p) (i + 1)) % 2 ^ 64) most

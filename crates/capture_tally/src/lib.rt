@@ -10,7 +10,8 @@ ghost use Rattle.common.specs.Checks.{verdict};
 ghost use Rattle.common.specs.Sums.{when};
 ghost use Rattle.sheet_record.specs.Kinds.{within};
 ghost use Rattle.capture_log.specs.Records.{eventAt, eventChecks};
-ghost use Rattle.capture_tally.specs.Pieces.{most, answerTo, leftAfter, sinceAfter, answersAfter, largestAfter, aboveAfter};
+ghost use Rattle.capture_tally.specs.declared.Taken.the-variants as answer;
+ghost use Rattle.capture_tally.specs.Pieces.{most, before, answerTo, runBy, leftAfter, sinceAfter, answersAfter, largestAfter, aboveAfter};
 ghost use Rattle.capture_tally.specs.Steps.{Long, noOf, openNo, spot, leftWith, sinceWith, answersWith, largestWith, aboveWith};
 
 // What taking a piece answers: all its records, or the refusal's number and its place in the piece.
@@ -103,7 +104,7 @@ fn keep(
     above[k] = std::num::wrapping_add_u64(above[k], exceeds(bound[k], shown));
 }
 
-// The records of a piece, one after the other.
+// The records of a piece, one after the other, up to the first that is refused.
 fn take_each(
     piece: &[u8],
     streams: usize,
@@ -115,12 +116,15 @@ fn take_each(
     above: &mut [u64],
 ) -> Taken
     requires { ⌜ Long (now bound) (now left) (now since) (now answers) (now largest) (now above) ⌝ }
-    ensures { λ r. ⌜ r ≡ answerTo (now (piece .entry)) streams (now (left .entry)) (now (since .entry)) ⌝ }
-    ensures { λ _. ⌜ now (left .exit) ≡ leftAfter (now (piece .entry)) streams (now (left .entry)) (now (since .entry)) ⌝ }
-    ensures { λ _. ⌜ now (since .exit) ≡ sinceAfter (now (piece .entry)) streams (now (left .entry)) (now (since .entry)) ⌝ }
-    ensures { λ _. ⌜ now (answers .exit) ≡ answersAfter (now (piece .entry)) streams (now (left .entry)) (now (since .entry)) (now (answers .entry)) ⌝ }
-    ensures { λ _. ⌜ now (largest .exit) ≡ largestAfter (now (piece .entry)) streams (now (left .entry)) (now (since .entry)) (now (largest .entry)) ⌝ }
-    ensures { λ _. ⌜ now (above .exit) ≡ aboveAfter (now (piece .entry)) streams (now (bound .entry)) (now (left .entry)) (now (since .entry)) (now (above .entry)) ⌝ }
+    ensures { λ r.
+        let p = now (piece .entry) in
+        let b = before (now (left .entry)) (now (since .entry)) in
+        ⌜ (r ≡ answerTo p streams b)
+        × (r ≡ answer.All → now (left .exit) ≡ leftAfter p b)
+        × (r ≡ answer.All → now (since .exit) ≡ sinceAfter p b)
+        × (r ≡ answer.All → now (answers .exit) ≡ answersAfter p (now (answers .entry)))
+        × (r ≡ answer.All → now (largest .exit) ≡ largestAfter p b (now (largest .entry)))
+        × (r ≡ answer.All → now (above .exit) ≡ aboveAfter p b (now (bound .entry)) (now (above .entry))) ⌝ }
 {
     let mut at: usize = 0;
     while at < piece.len() {
@@ -135,8 +139,8 @@ fn take_each(
     Taken::All
 }
 
-// Takes the records of a piece, the next of a capture, behind those whose open requests, stamps and figures the runs keep. A refused
-// record is not taken, nor any behind it.
+// Takes the records of a piece, the next of a capture, behind those whose open requests, stamps and figures the runs keep. A refused piece
+// leaves the runs as they were: a copy is put back, so that no pass need go ahead to look for a refusal.
 pub fn take(
     piece: &[u8],
     streams: usize,
@@ -147,12 +151,29 @@ pub fn take(
     largest: &mut [u32; MOST],
     above: &mut [u64; MOST],
 ) -> Taken
-    ensures { λ r. ⌜ r ≡ answerTo (now (piece .entry)) streams (now (left .entry)) (now (since .entry)) ⌝ }
-    ensures { λ _. ⌜ now (left .exit) ≡ leftAfter (now (piece .entry)) streams (now (left .entry)) (now (since .entry)) ⌝ }
-    ensures { λ _. ⌜ now (since .exit) ≡ sinceAfter (now (piece .entry)) streams (now (left .entry)) (now (since .entry)) ⌝ }
-    ensures { λ _. ⌜ now (answers .exit) ≡ answersAfter (now (piece .entry)) streams (now (left .entry)) (now (since .entry)) (now (answers .entry)) ⌝ }
-    ensures { λ _. ⌜ now (largest .exit) ≡ largestAfter (now (piece .entry)) streams (now (left .entry)) (now (since .entry)) (now (largest .entry)) ⌝ }
-    ensures { λ _. ⌜ now (above .exit) ≡ aboveAfter (now (piece .entry)) streams (now (bound .entry)) (now (left .entry)) (now (since .entry)) (now (above .entry)) ⌝ }
+    ensures { λ r.
+        let p = now (piece .entry) in
+        let b = before (now (left .entry)) (now (since .entry)) in
+        let told = answerTo p streams b in
+        ⌜ (r ≡ told)
+        × (now (left .exit) ≡ runBy told (leftAfter p b) (now (left .entry)))
+        × (now (since .exit) ≡ runBy told (sinceAfter p b) (now (since .entry)))
+        × (now (answers .exit) ≡ runBy told (answersAfter p (now (answers .entry))) (now (answers .entry)))
+        × (now (largest .exit) ≡ runBy told (largestAfter p b (now (largest .entry))) (now (largest .entry)))
+        × (now (above .exit) ≡ runBy told (aboveAfter p b (now (bound .entry)) (now (above .entry))) (now (above .entry))) ⌝ }
 {
-    take_each(piece, streams, bound, left, since, answers, largest, above)
+    let old_left = *left;
+    let old_since = *since;
+    let old_answers = *answers;
+    let old_largest = *largest;
+    let old_above = *above;
+    let taken = take_each(piece, streams, bound, left, since, answers, largest, above);
+    if let Taken::Refused { no: _, place: _ } = taken {
+        *left = old_left;
+        *since = old_since;
+        *answers = old_answers;
+        *largest = old_largest;
+        *above = old_above;
+    }
+    taken
 }

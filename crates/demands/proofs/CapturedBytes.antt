@@ -18,9 +18,9 @@ use Rattle.pnet_run.specs.Run.{Belongs, Request, Answer, Queues, Token, Run}
 use Rattle.pnet_run.specs.Promise.{Spaced, Accepted}
 use Rattle.capture_log.specs.declared.Event.{Event}
 use Rattle.capture_log.specs.Log.{fresh, largest, above}
-use Rattle.capture_log.specs.Records.{size, eventsIn, records}
+use Rattle.capture_log.specs.Records.{size, eventsIn, records, events}
 use Rattle.capture_log.proofs.Refusals.{passed-exactly}
-use Rattle.capture_compare.specs.Compared.{compared, events, largestOf, aboveOf}
+use Rattle.capture_compare.specs.Compared.{compared, largestOf, aboveOf}
 use Rattle.pnet_bounds.specs.Bounded.{boundOf, streamRun}
 use Rattle.capture_compare.specs.Refusals.{Room}
 use Rattle.capture_compare.proofs.Refusals.{accepted-exactly}

@@ -23,6 +23,11 @@ use Rattle.pnet_rules.specs.Segment.{Segment}
 use Rattle.pnet_plan.specs.Planned.{planned, runOf}
 use Rattle.worldfip_plan.specs.Answer as fip
 use Rattle.worldfip_plan.specs.declared.answer.Plan.the-variants as plan
+use Rattle.capture_log.specs.Log.{Before}
+use Rattle.capture_tally.specs.declared.Taken.the-variants as taken
+use Rattle.capture_tally.specs.Pieces.{answerTo, runBy}
+use Rattle.capture_compare.specs.Compared.{compared}
+use Rattle.pnet_bounds.specs.Bounded.{streamRun}
 
 -- ---- 'Every byte sequence offered as a sheet gets an answer.'
 
@@ -71,3 +76,13 @@ reading-refusal-keeps-the-counts s old n p e = rw e
 -- the writer's buffer
 pub writing-refusal-keeps-the-buffer : (b : List ℕ) (at : ℕ) (r : Record) (n p : ℕ) → putAnswer (length b) at r ≡ put.Refused n p → putBytes b at r ≡ b
 writing-refusal-keeps-the-buffer = refused-keeps
+
+-- the five runs that are kept of a capture, whatever each was to hold behind a piece that is refused, also at its last record
+pub piece-refusal-keeps-every-run : (p : List ℕ) (n : ℕ) (b : Before) (r q : ℕ) → answerTo p n b ≡ taken.Refused r q → (new old : List ℕ)
+    → runBy (answerTo p n b) new old ≡ old
+piece-refusal-keeps-every-run p n b r q e new old = rw e
+
+-- and the four of one that stands in memory as a whole
+pub capture-refusal-keeps-every-run : (s c : List ℕ) (la lb lc ld n p : ℕ) → compared s c la lb lc ld ≡ Not n p → (figure : Segment → ℕ → ℕ) (old : List ℕ)
+    → streamRun (compared s c la lb lc ld) figure old ≡ old
+capture-refusal-keeps-every-run s c la lb lc ld n p e figure old = rw e

@@ -2,8 +2,8 @@
 -- the log of a fault-free run of the model on an accepted sheet whose masters keep their spacing, and its successive records are less than
 -- 2^31 bp apart, following it counts no request as too soon and no two records as too far apart, and finds no request open beyond its bound.
 -- So of such a capture no line of the report says any of these. `planned` is what the planner answers, `bounded` and `streamRun` are what the
--- sheet gives to lay a capture beside, `followed` is what is kept of a capture, and `leftAfter` and `overdueRun` are the runs of open requests
--- and of those open for too long: all are words of contracts. Assumes nothing.
+-- sheet gives to lay a capture beside, `followed` is what is kept of a capture, `answerTo` is what taking it answers, and `runBy` with `leftAfter`,
+-- and `overdueRun`, are the runs of open requests and of those open for too long: all are words of contracts. Assumes nothing.
 use Prim.Native.Nat.{ℕ, _+_, _-_, _*_, _/_, _^_, _≤_, _<_}
 use mathlib.Core.Path.{_≡_, refl, ap, _∙_}
 use mathlib.Core.Bool.{false}
@@ -20,12 +20,13 @@ use Rattle.pnet_plan.proofs.Refusals.{accepted-exactly, pass-first}
 use Rattle.pnet_run.specs.Run.{Belongs, Request, Answer, Queues, Token, Run}
 use Rattle.pnet_run.specs.Promise.{Spaced, Accepted}
 use Rattle.capture_log.specs.Log.{fresh, left}
-use Rattle.capture_log.specs.Records.{size, eventsIn, heard}
+use Rattle.capture_log.specs.Records.{size, eventsIn, events, heard}
 use Rattle.pnet_bounds.specs.Bounded.{bounded, boundOf, spacingOf, streamRun}
 use Rattle.pnet_bounds.proofs.Bounded.{bounded-read}
-use Rattle.capture_tally.specs.Pieces.{leftAfter}
-use Rattle.capture_compare.specs.Compared.{events}
-use Rattle.capture_compare.proofs.Told.{left-whole}
+use Rattle.capture_tally.specs.declared.Taken.{Taken}
+use Rattle.capture_tally.specs.declared.Taken.the-variants as answer
+use Rattle.capture_tally.specs.Pieces.{before, answerTo, runBy, leftAfter}
+use Rattle.capture_compare.proofs.Told.{whole-taken, left-whole}
 use Rattle.capture_watch.specs.Ages.{clock, beyond}
 use Rattle.capture_watch.specs.Follow.{most, began, Seen, seen, followed, metIn, overdueRun}
 use Rattle.capture_watch.proofs.Means.{Keeps, overdue-means}
@@ -71,9 +72,12 @@ module _ (s bounds refined rounds : List ℕ) (H : Sheet) (accepts : planned s (
   abbrev pub kept : Seen
   kept = followed T (seen began zeros) (metIn c (length c / size))
 
-  -- 1 or 0 requests of each stream that are open then
+  -- what taking it answers, and 1 or 0 requests of each stream that are open then
+  abbrev pub told : Taken
+  told = answerTo c (length (H .streams)) (before zeros zeros)
+
   abbrev pub lefts : List ℕ
-  lefts = leftAfter c (length (H .streams)) zeros zeros
+  lefts = runBy told (leftAfter c (before zeros zeros)) zeros
 
   -- ---- The sheet
 
@@ -106,11 +110,16 @@ module _ (s bounds refined rounds : List ℕ) (H : Sheet) (accepts : planned s (
   keeps : Keeps T (eventsIn c (length c / size)) kept
   keeps = passed-means c (length (H .streams)) passes streams-few T zeros zeros-long zeros-each few short
 
+  -- all of them are taken
+  pub the-capture-is-taken : told ≡ answer.All
+  unfolding zeros
+  the-capture-is-taken = whole-taken c (length (H .streams)) streams-few passes
+
   left-at : (i : ℕ) → i < most → getD lefts i 0 ≡ left fresh (eventsIn c (length c / size)) (i + 1)
   unfolding zeros events
   left-at i l =
-      left-whole c (length (H .streams)) streams-few few passes i l
-      ∙ ap (λ (j : ℕ). left fresh (eventsIn c j) (i + 1)) (passed-count c (length (H .streams)) passes)
+      rw the-capture-is-taken
+      (left-whole c i l ∙ ap (λ (j : ℕ). left fresh (eventsIn c j) (i + 1)) (passed-count c (length (H .streams)) passes))
 
   in-time : Timely (λ i. getD T (i - 1) 0) (logOf z run)
   unfolding segmentOf

@@ -82,7 +82,7 @@ fn try_watch(
     say_run(b"; overdue", n, &late);
 }
 
-// Its figures, beside the bounds of a sheet that is accepted.
+// Its figures, beside the bounds of a sheet that is accepted; behind a refused piece, those of the pieces before.
 fn try_takes(c: &[u8], size: usize, n: usize, bound: &[u32; 800], spacing: &[u32; 800]) {
     let mut left = [0u8; 800];
     let mut since = [0u32; 800];
@@ -100,8 +100,8 @@ fn try_takes(c: &[u8], size: usize, n: usize, bound: &[u32; 800], spacing: &[u32
         &mut largest,
         &mut above,
     );
+    say_figures(n, 0, &answers, &largest, &above, &left);
     if all {
-        say_figures(n, 0, &answers, &largest, &above, &left);
         try_watch(c, size, n, bound, spacing, &left);
     }
 }

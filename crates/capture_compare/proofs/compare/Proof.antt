@@ -5,8 +5,9 @@ use native.Mathlib.Omega.{arith}
 use denote.Ref.{now}
 use lib.ListN.{length}
 use Rattle.capture_log.specs.Log.{fresh, above}
+use Rattle.capture_log.specs.Records.{events}
 use Rattle.pnet_bounds.specs.Bounded.{boundOf}
-use Rattle.capture_compare.specs.Compared.{events, answeredOf, largestOf, aboveOf, leftOf}
+use Rattle.capture_compare.specs.Compared.{answeredOf, largestOf, aboveOf, leftOf}
 use Rattle.capture_compare.proofs.Beside.{Accepts, accepts, told-refused, compared-refused, plan-compared, run-compared, sheet-run}
 use borrow.Author.Needs.{needs}
 use Rattle.capture_compare.proofs.compare.Statement.{statement}

@@ -43,15 +43,16 @@ returns-2 c =
     let start = c .before .before .before .before .before .before .before .before .before .before .before .before .before .before .before .before .before .before .before .before .before .before .before .before .before .before .before .before .before .before in
     let a = start .args in
     let t = c .before .before .before .before .before .before .before .before .before .before .before .before .before .before .before .before .before .before .before .take .ensures in
-    let h = whole-passed (now (a .c)) (a .streams) (start .pre .0) (sym (t .0) ∙ c .before .before .before .before .before .before .before .before .before .before .before .before .before .before .before .before .before .enum-told .given .1) in
+    let all = sym (t .0) ∙ c .before .before .before .before .before .before .before .before .before .before .before .before .before .before .before .before .before .enum-told .given .1 in
+    let h = whole-passed (now (a .c)) (a .streams) (start .pre .0) all in
     let k = c .before .before .before .before .before .before .before .before .hand-over .ensures in
     let l = start .pre .0 in
     let m = start .good .0 .0 in (
       rw h refl,
-      handed (now (a .c)) (a .streams) _ _ _ _ _ h (k .0) (t .1 .1 .1 .0) (λ i x. answers-whole (now (a .c)) (a .streams) l m h i (omega arith)),
-      handed (now (a .c)) (a .streams) _ _ _ _ _ h (k .1 .0) (t .1 .1 .1 .1 .0) (λ i x. largest-whole (now (a .c)) (a .streams) l m h i (omega arith)),
-      handed (now (a .c)) (a .streams) _ _ _ _ _ h (k .1 .1 .0) (t .1 .1 .1 .1 .1) (λ i x. above-whole (now (a .c)) (a .streams) l m h i (omega arith) (now (a .bound))),
-      handed (now (a .c)) (a .streams) _ _ _ _ _ h (k .1 .1 .1) (t .1 .0) (λ i x. left-whole (now (a .c)) (a .streams) l m h i (omega arith)),
+      handed (now (a .c)) (a .streams) _ _ _ _ _ _ all h (k .0) (t .3) (λ i x. answers-whole (now (a .c)) i (omega arith) m),
+      handed (now (a .c)) (a .streams) _ _ _ _ _ _ all h (k .1 .0) (t .4) (λ i x. largest-whole (now (a .c)) i (omega arith)),
+      handed (now (a .c)) (a .streams) _ _ _ _ _ _ all h (k .1 .1 .0) (t .5) (λ i x. above-whole (now (a .c)) i (omega arith) m (now (a .bound))),
+      handed (now (a .c)) (a .streams) _ _ _ _ _ _ all h (k .1 .1 .1) (t .1) (λ i x. left-whole (now (a .c)) i (omega arith)),
     )
 
 pub compare-to-spec : {M : Type 1} → statement M

@@ -10,6 +10,7 @@ use Rattle.capture_log.specs.Records.{judge}
 use Rattle.capture_tally.specs.Pieces.{most, before, answerTo}
 use Rattle.capture_tally.specs.Steps.{noOf}
 use Rattle.capture_tally.proofs.Hearing.{kept, Hearing, hearing-none, number-is, next-is, next-read, hearing-next, hearing-refused, hearing-all, hearing-kept}
+use Rattle.capture_tally.proofs.Answers.{refused-not-all}
 use Rattle.capture_tally.proofs.take_each.Statement.{statement}
 use Rattle.capture_tally.proofs.take_each.Tie as tie
 
@@ -58,7 +59,7 @@ returns c =
     let h = c .before .before .before .before .loop .inv in
     let n = number-is h (omega arith) _ (c .before .refusal .ensures) in
     let x = hearing-refused h (omega arith) (omega arith) (λ z. c .if1 .taken (n ∙ z)) in
-    (rw (x .1, n) refl, hearing-kept _ h (x .0))
+    (rw (x, n) refl, λ e. refused-not-all e, λ e. refused-not-all e, λ e. refused-not-all e, λ e. refused-not-all e, λ e. refused-not-all e)
 
 event-at-requires : tie.Need-event-at-requires Inv-loop μ-loop
 event-at-requires c κs = search needs
@@ -123,8 +124,8 @@ returns-2 : tie.Need-returns-2 Inv-loop μ-loop
 unfolding answerTo
 returns-2 c =
     let h = c .before .loop .inv in
-    let x = hearing-all h (omega arith) (omega arith) in
-    (rw (x .1) refl, hearing-kept _ h (x .0))
+    let k = hearing-kept h (omega arith) (omega arith) in
+    (rw (hearing-all h (omega arith) (omega arith)) refl, λ e. k .0, λ e. k .1 .0, λ e. k .1 .1 .0, λ e. k .1 .1 .1 .0, λ e. k .1 .1 .1 .1)
 
 pub take-each-spec : {M : Type 1} → statement M
 take-each-spec =

@@ -59,7 +59,7 @@ add-write-capture-refusal : tie.Need-add-write-capture-refusal Inv-loop μ-loop
 add-write-capture-refusal c =
     let r = c .before .before .before .before .before .before .before .before .before .before .before .before in
     let n = r .read-all .result .length in
-    let i = refused-inside (take n (r .read-all .last .1 .0)) _ _ _ _ _ (sym (c .before .before .before .take .ensures .0) ∙ c .before .taken .given .1) in
+    let i = refused-inside (take n (r .read-all .last .1 .0)) _ _ _ _ (sym (c .before .before .before .take .ensures .0) ∙ c .before .taken .given .1) in
     omega (arith, i, length-take-le n (r .read-all .last .1 .0) (within r), within r, long r)
 
 write-capture-refusal-requires : tie.Need-write-capture-refusal-requires Inv-loop μ-loop
