@@ -8,6 +8,7 @@ use Rattle.sheet_record.specs.Numbers.{be}
 use Rattle.sheet_record.specs.Kinds.{kinds, fieldsOf, widths, sizeOf, known, fieldAt, decode, limit, within, ranged, inRange}
 use Rattle.sheet_read.specs.Sheets.{streamsOf, headOf, sheetOf, fits, countOf, mostInAll, hasMaster, overLimit, metBefore}
 use Rattle.sheet_read.specs.Whole.{placeOf, recordsOf, recordChecks, endChecks, judge, ended, readFrom, reading}
+use Rattle.units.specs.Units.{ringBp}
 use Rattle.profibus_rules.specs.Ring.{ringOf, streamAt, owns, count, messages, rotation, needed, fails}
 use Rattle.profibus_rules.specs.Target.{bears, least, target, firstFailing}
 use Rattle.profibus_plan.specs.declared.answer.Plan.the-variants as plan
@@ -22,6 +23,6 @@ three =
     ∷ 4 ∷ 2 ∷ 0 ∷ 0 ∷ 1 ∷ 44 ∷ 0 ∷ 0 ∷ 19 ∷ 136
     ∷ []
 
-answer : planOf (reading three) ≡ plan.Target (record { 0 = 2500 }) 1
+answer : planOf (reading three) ≡ plan.Target (ringBp 2500) 1
 unfolding planOf planBy planChecks failsAtLatency verdict ringOf streamAt owns count messages rotation needed fails upto firstOf bears least target firstFailing reading readFrom ended judge recordChecks endChecks recordsOf placeOf streamsOf headOf sheetOf fits countOf mostInAll hasMaster overLimit metBefore kinds fieldsOf widths sizeOf known fieldAt decode limit within ranged inRange be
 answer = refl

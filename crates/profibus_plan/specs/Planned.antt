@@ -10,6 +10,7 @@ use Rattle.common.specs.Checks.Verdict.{Passed, Refused}
 use Rattle.sheet_read.specs.Sheets.{Sheet}
 use Rattle.sheet_read.specs.Whole.{Outcome}
 use Rattle.sheet_read.specs.Whole.Outcome.{Read, Not}
+use Rattle.units.specs.Units.{ringBp}
 use Rattle.profibus_rules.specs.Ring.{Ring, ringOf}
 use Rattle.profibus_rules.specs.Target.{FirstFails, Limited, target, firstFailing}
 use Rattle.profibus_plan.specs.declared.answer.Plan.{Plan}
@@ -27,7 +28,7 @@ planChecks S = check 3 (not (eqb (S .head .kind) 3)) 0 ∷ failsAtLatency (ringO
 -- the largest TTR and the first stream that fails at TTR + 1, or the refusal
 unfoldable pub planBy : Verdict → Ring → Plan
 unfolding target firstFailing
-planBy Passed R = plan.Target (record { 0 = target R }) (firstFailing R (target R + 1))
+planBy Passed R = plan.Target (ringBp (target R)) (firstFailing R (target R + 1))
 planBy (Refused n p) R = plan.Refused n p
 
 unfoldable pub planOf : Outcome → Plan
@@ -41,4 +42,4 @@ planOf (Not n p) = plan.Refused n p
 pub data Answers (S : Sheet) : Plan → Type 0 where
   another-bus : (S .head .kind ≡ 3 → ⊥) → Answers S (plan.Refused 3 0)
   fails : (i : ℕ) → S .head .kind ≡ 3 → FirstFails (ringOf S) (ringOf S .latency) i → Answers S (plan.Refused 9 i)
-  limited : (ttr i : ℕ) → S .head .kind ≡ 3 → Limited (ringOf S) ttr i → Answers S (plan.Target (record { 0 = ttr }) i)
+  limited : (ttr i : ℕ) → S .head .kind ≡ 3 → Limited (ringOf S) ttr i → Answers S (plan.Target (ringBp ttr) i)
