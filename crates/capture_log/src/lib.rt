@@ -1,8 +1,10 @@
 // The records of a capture, page 02 'Ask 1'.
+use units::BitPeriods;
 ghost use mathlib.Core.Path.{_≡_};
 ghost use mathlib.Core.Bool.{true};
 ghost use Prim.Native.Nat.{_+_, _≤_, _<_};
 ghost use lib.ListN.{length, getD};
+ghost use Rattle.units.specs.Units.{bp};
 ghost use Rattle.sheet_record.specs.Numbers.{be};
 ghost use Rattle.capture_log.specs.Log.{around};
 ghost use Rattle.capture_log.specs.Records;
@@ -76,9 +78,9 @@ pub fn event_at(c: &[u8], at: usize) -> Event
     whole_at(c, at)
 }
 
-// A response in bp: the later stamp minus the earlier one, taken around the wrap.
-pub fn response(later: u32, earlier: u32) -> u32
-    ensures { λ r. ⌜ r ≡ around later earlier ⌝ }
+// A response: the later stamp minus the earlier one, taken around the wrap.
+pub fn response(later: u32, earlier: u32) -> BitPeriods
+    ensures { λ r. ⌜ r ≡ bp (around later earlier) ⌝ }
 {
-    std::num::wrapping_sub_u32(later, earlier)
+    BitPeriods(std::num::wrapping_sub_u32(later, earlier))
 }

@@ -97,7 +97,7 @@ fn keep(
         since[k] = e.stamp;
         return;
     }
-    let shown = capture_log::response(e.stamp, since[k]);
+    let shown = capture_log::response(e.stamp, since[k]).0;
     left[k] = 0;
     answers[k] = std::num::wrapping_add_u64(answers[k], 1);
     largest[k] = larger(largest[k], shown);

@@ -42,7 +42,7 @@ fn step(w: Watch, stamp: u32) -> u32
     if w.clock == 0 {
         return 1;
     }
-    capture_log::response(stamp, w.stamp)
+    capture_log::response(stamp, w.stamp).0
 }
 
 // The clock at a record with this stamp.

@@ -7,6 +7,7 @@ use native.Mathlib.Omega.{arith}
 use lib.ListN.{length}
 use Rattle.sheet_read.specs.Sheets.{Sheet}
 use Rattle.sheet_read.specs.Whole.Outcome.{Read}
+use Rattle.units.specs.Units.{bp}
 use Rattle.pnet_rules.specs.Segment.{segmentOf}
 use Rattle.pnet_rules.specs.Refined.{refined}
 use Rattle.pnet_rules.proofs.Figures.{refined-at-most-bound}
@@ -32,7 +33,7 @@ module _ (s bounds refineds rounds : List ℕ) (H : Sheet) (accepts : planned s 
     -- 'for every accepted sheet whose masters all keep their spacing, .. every response is within the corrected figure'
     pub each-request-is-answered-within-the-written-refined-figure : {now : ℕ} {token : Token} {queues : Queues} {came : List Request} {went : List Answer}
         → Run (segmentOf H) now token queues came went → ((y : ℕ) → Spaced (segmentOf H) y came)
-        → Answered written-refined (segmentOf H) k now token came went
+        → Answered (bp written-refined) (segmentOf H) k now token came went
     each-request-is-answered-within-the-written-refined-figure run spaced =
         rw written-refined-is-W
         (each-request-is-answered-within-the-refined-figure H (accepted-as-demanded s bounds refineds rounds H accepts) k run spaced)

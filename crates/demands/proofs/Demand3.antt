@@ -12,6 +12,8 @@ use Rattle.common.proofs.Runs.{filled-at}
 use Rattle.sheet_read.specs.Sheets.{Sheet}
 use Rattle.sheet_read.specs.Whole.Outcome.{Read}
 use Rattle.sheet_read.proofs.Known.{reading-read}
+use Rattle.units.specs.Units.{bp}
+use Rattle.units.specs.declared.BitPeriods.{BitPeriods}
 use Rattle.pnet_rules.specs.Segment.{Segment, segmentOf, count, bound, late}
 use Rattle.pnet_rules.specs.Limits.{Declared}
 use Rattle.pnet_rules.proofs.Declares.{declared}
@@ -66,14 +68,14 @@ module _ (s bounds refined rounds : List ℕ) (H : Sheet) (accepts : planned s (
 
     -- 'each of that master's requests is answered within its bound, however often the other masters ask'
     pub each-request-is-answered-within-the-written-bound : {now : ℕ} {token : Token} {queues : Queues} {came : List Request} {went : List Answer}
-        → Run (segmentOf H) now token queues came went → Spaced (segmentOf H) k came → Answered written (segmentOf H) k now token came went
+        → Run (segmentOf H) now token queues came went → Spaced (segmentOf H) k came → Answered (bp written) (segmentOf H) k now token came went
     each-request-is-answered-within-the-written-bound run spaced =
         rw written-is-bound (each-request-is-answered-within-the-bound H accepted-as-demanded k run spaced)
 
     -- 'some such run takes exactly the bound'
-    pub some-run-takes-exactly-the-written-bound : 1 ≤ count (segmentOf H) k → Even (segmentOf H) k → Reached written (segmentOf H) k
+    pub some-run-takes-exactly-the-written-bound : 1 ≤ count (segmentOf H) k → Even (segmentOf H) k → Reached (bp written) (segmentOf H) k
     some-run-takes-exactly-the-written-bound some even = rw written-is-bound (some-run-takes-exactly-the-bound H in-range k some even)
 
     -- 'no lower figure would be true'
-    pub no-lower-figure-than-the-written-would-be-true : 1 ≤ count (segmentOf H) k → Even (segmentOf H) k → (figure : ℕ) → Safe figure (segmentOf H) k → written ≤ figure
+    pub no-lower-figure-than-the-written-would-be-true : 1 ≤ count (segmentOf H) k → Even (segmentOf H) k → (figure : BitPeriods) → Safe figure (segmentOf H) k → written ≤ figure .0
     no-lower-figure-than-the-written-would-be-true some even figure safe = rw written-is-bound (no-lower-figure-would-be-true H in-range k some even figure safe)

@@ -25,6 +25,7 @@ use lib.Dec.{ltb, eqb}
 use borrow.Author.Tests.{eq-eqb, ne-eqb, eqb-true, le-ltb}
 use Rattle.common.specs.Sums.{when}
 use Rattle.sheet_record.proofs.Tables.{both-true}
+use Rattle.units.specs.Units.{bp}
 use Rattle.pnet_rules.specs.Segment.{Segment, hold, boundBy, bound}
 use Rattle.pnet_run.specs.Run.{
   Belongs,
@@ -207,7 +208,7 @@ module _ {S : Segment} (accepted : Accepted S) where
     fits i b = omega (arith, accepted .declared .ranges i (b .from-one) (b .to-last) .deadline-to, accepted .passes k i b)
 
     module _ {t : ℕ} {y : Token} {q : Queues} {came : List Request} {went : List Answer} (run : Run S t y q came went) where
-      in-bound : Spaced S k came → Answered (bound S k) S k t y came went
+      in-bound : Spaced S k came → Answered (bp (bound S k)) S k t y came went
       unfolding bound
       in-bound spaced = answered-by S (hold S) k (ring .0) (ring .1) (hold-covers S) (λ i. S .stream i .spacing) fits run spaced
 

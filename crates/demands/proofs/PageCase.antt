@@ -20,6 +20,8 @@ use Rattle.sheet_read.specs.Sheets.{Sheet, headOf, having, sheetOf, fits, ofKin
 use Rattle.sheet_read.specs.Whole.{placeOf, recordsOf, before, recordChecks, endChecks, judge, ended, readFrom, reading}
 use Rattle.sheet_read.specs.Whole.Outcome.{Read}
 use Rattle.sheet_read.specs.Records.{recordsIn, bytesOf}
+use Rattle.units.specs.Units.{bp}
+use Rattle.units.specs.declared.BitPeriods.{BitPeriods}
 use Rattle.pnet_rules.specs.Segment.{Segment, segmentOf, streamAt, owns, count, longest, hold, turnBy, boundBy, bound, late}
 use Rattle.pnet_plan.specs.Planned.{firstLate, planChecks, planned}
 use Rattle.pnet_run.specs.Promise.{Safe, Reached, Even}
@@ -106,9 +108,9 @@ bound-is-2000 = refl
 pub written-is-2000 : written bytes lent lent lent sheet accepts 1 (omega arith) one ≡ 2000
 written-is-2000 = written-is-bound bytes lent lent lent sheet accepts 1 (omega arith) one ∙ bound-is-2000
 
-pub some-run-takes-2000 : Reached 2000 page 1
+pub some-run-takes-2000 : Reached (bp 2000) page 1
 some-run-takes-2000 = rw written-is-2000 at (some-run-takes-exactly-the-written-bound bytes lent lent lent sheet accepts 1 (omega arith) one some even)
 
-pub no-lower-figure-is-true : (figure : ℕ) → Safe figure page 1 → 2000 ≤ figure
+pub no-lower-figure-is-true : (figure : BitPeriods) → Safe figure page 1 → 2000 ≤ figure .0
 no-lower-figure-is-true figure safe =
     omega (arith, written-is-2000, no-lower-figure-than-the-written-would-be-true bytes lent lent lent sheet accepts 1 (omega arith) one some even figure safe)

@@ -36,7 +36,7 @@ use Rattle.demands.proofs.Demand3.{accepted-on-bus}
 
 module _ (S : ℕ → Segment) (k F R : ℕ → ℕ) where
   -- of segments 1..n, each answers its sender's requests within R
-  module _ (n : ℕ) (safe : (i : ℕ) → 1 ≤ i → i ≤ n → Safe (R i) (S i) (k i)) where
+  module _ (n : ℕ) (safe : (i : ℕ) → 1 ≤ i → i ≤ n → Safe (bp (R i)) (S i) (k i)) where
     -- The segment's step and the gateway's call for each other, with the hops left falling; the hops end at segment n at the latest.
     mutual
       unfolding segmentStep gatewayStep
@@ -64,7 +64,7 @@ module _ (S : ℕ → Segment) (k F R : ℕ → ℕ) where
           (x .0, through {b = x .0} soon (x .1) (omega arith))
 
   -- a run that takes R, begun so that its slow request comes at the instant a: the request is answered at c
-  sent-exactly : {left b : ℕ} (i a c : ℕ) (x : Reached (R i) (S i) (k i)) → x .slow .since ≤ a → c ≡ a + R i → Forwarded S k F left i c b
+  sent-exactly : {left b : ℕ} (i a c : ℕ) (x : Reached (bp (R i)) (S i) (k i)) → x .slow .since ≤ a → c ≡ a + R i → Forwarded S k F left i c b
       → Sent S k F (suc left) i a b
   sent-exactly {left} {b} i a c x late it rest =
       let began = a - x .slow .since in
@@ -74,7 +74,7 @@ module _ (S : ℕ → Segment) (k F R : ℕ → ℕ) where
       (sent began (x .run) (x .spaced (k i)) (x .own) (x .exact) (subst (λ (z : ℕ). Forwarded S k F left i z b) f rest))
 
   -- of segments 1..n, each has a run that takes R
-  module _ (n : ℕ) (reached : (i : ℕ) → 1 ≤ i → i ≤ n → Reached (R i) (S i) (k i)) where
+  module _ (n : ℕ) (reached : (i : ℕ) → 1 ≤ i → i ≤ n → Reached (bp (R i)) (S i) (k i)) where
     -- over g gateways behind segment i, each taking all of its time both ways: at any instant that leaves time for the runs to begin
     sent-over : (g i : ℕ) → 1 ≤ i → i + g ≤ n → (m : ℕ) × ((a : ℕ) → m ≤ a → Sent S k F (2 * g + 1) i a (a + segmentStep R F (2 * g + 1) i))
     unfolding segmentStep gatewayStep
@@ -92,18 +92,18 @@ module _ (S : ℕ → Segment) (k F R : ℕ → ℕ) where
         )
 
   -- So over g gateways: each exchange is within the cost,
-  pub each-is-within-the-cost : (g : ℕ) → ((i : ℕ) → 1 ≤ i → i ≤ g + 1 → Safe (R i) (S i) (k i)) → {a b : ℕ} → Sent S k F (2 * g + 1) 1 a b
+  pub each-is-within-the-cost : (g : ℕ) → ((i : ℕ) → 1 ≤ i → i ≤ g + 1 → Safe (bp (R i)) (S i) (k i)) → {a b : ℕ} → Sent S k F (2 * g + 1) 1 a b
       → b ≤ a + costOver R F g
   unfolding costOver
   each-is-within-the-cost g safe x = sent-within (g + 1) safe (2 * g + 1) 1 (omega arith) (omega arith) x
 
   -- one that is asked for in runs that last comes to its end,
-  pub each-is-answered : (g : ℕ) → ((i : ℕ) → 1 ≤ i → i ≤ g + 1 → Safe (R i) (S i) (k i)) → {a : ℕ} → Asked S k F R (2 * g + 1) 1 a
+  pub each-is-answered : (g : ℕ) → ((i : ℕ) → 1 ≤ i → i ≤ g + 1 → Safe (bp (R i)) (S i) (k i)) → {a : ℕ} → Asked S k F R (2 * g + 1) 1 a
       → (b : ℕ) × Sent S k F (2 * g + 1) 1 a b
   each-is-answered g safe x = asked-answered (g + 1) safe (2 * g + 1) 1 (omega arith) (omega arith) x
 
   -- and from some instant m on, one that begins at any instant a takes all of it.
-  pub some-take-the-cost : (g : ℕ) → ((i : ℕ) → 1 ≤ i → i ≤ g + 1 → Reached (R i) (S i) (k i))
+  pub some-take-the-cost : (g : ℕ) → ((i : ℕ) → 1 ≤ i → i ≤ g + 1 → Reached (bp (R i)) (S i) (k i))
       → (m : ℕ) × ((a : ℕ) → m ≤ a → Sent S k F (2 * g + 1) 1 a (a + costOver R F g))
   unfolding costOver
   some-take-the-cost g reached = sent-over (g + 1) reached g 1 (omega arith) (omega arith)
@@ -121,10 +121,10 @@ sound-is-accepted s H e = let p = bounded-passes s 800 H e in by (p .0) (p .1)
 
 -- a sheet that is accepted, and the master k that sends
 module _ (o : Outcome) (k : ℕ) (H : Sheet) (is : o ≡ Read H) (accepted : Accepted (segmentOf H)) where
-  safe-from : Safe (boundFrom o k) (segmentFrom o) k
+  safe-from : Safe (bp (boundFrom o k)) (segmentFrom o) k
   safe-from = rw is (record { ever = each-request-is-answered-within-the-bound H accepted k })
 
-  reached-from : Present (segmentOf H) k → Even (segmentFrom o) k → Reached (boundFrom o k) (segmentFrom o) k
+  reached-from : Present (segmentOf H) k → Even (segmentFrom o) k → Reached (bp (boundFrom o k)) (segmentFrom o) k
   reached-from present even = rw is (some-run-takes-exactly-the-bound H (accepted .declared) k (present .streams) (rw is at even))
 
 -- ---- An accepted path
@@ -147,11 +147,11 @@ module _ (P : Path) (c : ℕ) (accepts : crossed P ≡ crossing.Within (bp c)) w
     unfolding sheetAt
     accepted = sound-is-accepted (P .hop i .sheet) (sender .sheet) (sender .reads)
 
-    safe : Safe (boundAt P i) (segmentAt P i) (senderAt P i)
+    safe : Safe (bp (boundAt P i)) (segmentAt P i) (senderAt P i)
     unfolding boundAt segmentAt senderAt
     safe = safe-from (sheetAt P i) (P .hop i .sender) (sender .sheet) (sender .reads) accepted
 
-    reached : Even (segmentAt P i) (senderAt P i) → Reached (boundAt P i) (segmentAt P i) (senderAt P i)
+    reached : Even (segmentAt P i) (senderAt P i) → Reached (bp (boundAt P i)) (segmentAt P i) (senderAt P i)
     unfolding boundAt segmentAt senderAt
     reached even = reached-from (sheetAt P i) (P .hop i .sender) (sender .sheet) (sender .reads) accepted (sender .is) even
 

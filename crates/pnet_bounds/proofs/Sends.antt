@@ -13,11 +13,12 @@ use Rattle.sheet_read.specs.Whole.Outcome.{Not}
 use Rattle.pnet_rules.specs.Segment.{count, boundBy, turn, bound}
 use Rattle.pnet_rules.specs.Limits.{Declared}
 use Rattle.pnet_rules.proofs.Holds.{count-above-masters, bound-at-most}
-use Rattle.pnet_turn.specs.Turn.{at, turnOf}
+use Rattle.units.specs.Units.{bp}
+use Rattle.pnet_turn.specs.Turn.{at}
 use Rattle.pnet_plan.specs.Planned.{firstLate}
 use Rattle.pnet_plan.specs.Arrays.{segmentIn, Sheeted}
 use Rattle.pnet_plan.proofs.Bytes.{declares, streams-few}
-use Rattle.pnet_plan.proofs.Cases.{counts-at, turn-is}
+use Rattle.pnet_plan.proofs.Cases.{counts-at}
 use Rattle.pnet_bounds.specs.Sender.{sound, senderOf}
 use Rattle.pnet_bounds.specs.declared.Sender.the-variants as answer
 use Rattle.pnet_bounds.proofs.Bounded.{sheeted-late, sheeted-read}
@@ -27,7 +28,7 @@ sender-refused s k n p e = ap (λ (o : Outcome). senderOf o k) (sym e)
 
 module _ {s : List ℕ} {N n first : ℕ} {counts longests : List ℕ} (h : Sheeted s N n first counts longests) (k : ℕ) where
   -- a count and V as the code has them; a master above 32 is above N, and has no streams
-  module _ (own v : ℕ) (e : own ≡ when (leb k 32) (at counts k)) (ev : v ≡ turnOf counts longests N) where
+  module _ (own v : ℕ) (e : own ≡ when (leb k 32) (at counts k)) (ev : v ≡ turn (segmentIn s)) where
     own-count : own ≡ count (segmentIn s) k
     own-count = e ∙ split (leb k 32) refl
       where
@@ -40,14 +41,14 @@ module _ {s : List ℕ} {N n first : ℕ} {counts longests : List ℕ} (h : Shee
 
     own-bound : own * v ≡ bound (segmentIn s) k
     unfolding bound boundBy turn
-    own-bound = rw (own-count, ev ∙ turn-is h)
+    own-bound = rw (own-count, ev)
 
     pub own-small : own * v ≤ 4083200
     own-small = omega (arith, own-bound, bound-at-most (segmentIn s) (declares (h .ready)) k)
 
-    pub sender-bound : (late : ℕ) → late ≡ firstLate (segmentIn s) → n < late → answer.Bound (own * v) ≡ senderOf (sound s) k
+    pub sender-bound : (late : ℕ) → late ≡ firstLate (segmentIn s) → n < late → answer.Bound (bp (own * v)) ≡ senderOf (sound s) k
     sender-bound late q l =
-        ap answer.Bound own-bound ∙ ap (λ (o : Outcome). senderOf o k) (sym (sheeted-read h 800 (streams-few (h .ready)) late q l))
+        ap (λ (b : ℕ). answer.Bound (bp b)) own-bound ∙ ap (λ (o : Outcome). senderOf o k) (sym (sheeted-read h 800 (streams-few (h .ready)) late q l))
 
   pub sender-late : (late : ℕ) → late ≡ firstLate (segmentIn s) → late ≤ n → answer.Refused 8 late ≡ senderOf (sound s) k
   sender-late late q l = sender-refused s k 8 late (sheeted-late h 800 (streams-few (h .ready)) late q l)

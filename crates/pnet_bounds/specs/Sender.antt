@@ -3,6 +3,7 @@ use Prim.Native.Nat.{ℕ}
 use mathlib.Core.List.{List}
 use Rattle.sheet_read.specs.Whole.{Outcome}
 use Rattle.sheet_read.specs.Whole.Outcome.{Read, Not}
+use Rattle.units.specs.Units.{bp}
 use Rattle.pnet_rules.specs.Segment.{segmentOf, bound}
 use Rattle.pnet_bounds.specs.Bounded.{bounded}
 use Rattle.pnet_bounds.specs.declared.Sender.{Sender}
@@ -15,5 +16,5 @@ sound s = bounded s 800
 
 -- R of master k there, 0 for one without streams; or the sheet's refusal
 abbrev pub senderOf : Outcome → ℕ → Sender
-senderOf (Read H) k = answer.Bound (bound (segmentOf H) k)
+senderOf (Read H) k = answer.Bound (bp (bound (segmentOf H) k))
 senderOf (Not n p) k = answer.Refused n p

@@ -3,6 +3,7 @@
 use pnet_plan::Plan;
 use sheet_read::MOST;
 use sheet_read::Reading;
+use units::BitPeriods;
 ghost use mathlib.Core.Path.{_≡_};
 ghost use Prim.Native.Nat.{ℕ, _≤_};
 ghost use lib.ListN.{length};
@@ -20,7 +21,7 @@ ghost use Rattle.pnet_bounds.specs.Sender.{sound, senderOf};
 
 // What the sheet of a segment says of the master that sends there: its R, or the refusal's number and place.
 pub enum Sender {
-    Bound(u32),
+    Bound(BitPeriods),
     Refused { no: u8, place: usize },
 }
 
@@ -94,7 +95,7 @@ fn bounds_of(
     ensures { λ _. ⌜ now (bound .exit) ≡ streamRun (bounded (now (s .entry)) room) boundOf (now (bound .entry)) ⌝ }
     ensures { λ _. ⌜ now (spacing .exit) ≡ streamRun (bounded (now (s .entry)) room) spacingOf (now (spacing .entry)) ⌝ }
 {
-    let turn = pnet_turn::turn_of(counts, longests, all) as u32;
+    let turn = pnet_turn::turn_of(counts, longests, all).0;
     let late = first_late(s, first, n, counts, turn);
     if late <= n {
         return Plan::Refused { no: 8, place: late };
@@ -178,12 +179,12 @@ fn bound_by(
     requires { ⌜ Sheeted (now s) all n first (now counts) (now longests) ⌝ }
     ensures { λ r. ⌜ r ≡ senderOf (sound (now (s .entry))) master ⌝ }
 {
-    let turn = pnet_turn::turn_of(counts, longests, all) as u32;
+    let turn = pnet_turn::turn_of(counts, longests, all).0;
     let late = first_late(s, first, n, counts, turn);
     if n < late {
         let own = streams_of(counts, master) as u32;
         let bound = own * turn;
-        return Sender::Bound(bound);
+        return Sender::Bound(BitPeriods(bound));
     }
     Sender::Refused { no: 8, place: late }
 }

@@ -58,7 +58,7 @@ stopped w n p = record {
 }
 
 abbrev pub overBy : Way → ℕ → ℕ → Sender → Way
-overBy w F k (sender.Bound R) = further w F k R
+overBy w F k (sender.Bound R) = further w F k (R .0)
 overBy w F k (sender.Refused n p) = stopped w n p
 
 -- the segment of a sheet s is handed over, with its sender k and the forwarding time F of the gateway that leads there; behind a refused

@@ -89,7 +89,7 @@ pub fn over(way: Way, forwarding: BitPeriods, s: &[u8], master: u8) -> Way
     }
     let sender = pnet_bounds::bound_of(s, master);
     match sender {
-        Sender::Bound(bound) => further(way, forwarding.0, master, bound),
+        Sender::Bound(bound) => further(way, forwarding.0, master, bound.0),
         Sender::Refused { no, place } => stopped(way, no, place),
     }
 }

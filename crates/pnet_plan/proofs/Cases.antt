@@ -29,6 +29,8 @@ use Rattle.pnet_rules.proofs.Holds.{longest-at-most, turn-at-most}
 use Rattle.pnet_plan.specs.declared.answer.Plan.{Plan}
 use Rattle.pnet_plan.specs.declared.answer.Plan.the-variants as answer
 use Rattle.pnet_plan.specs.Planned.{firstLate, planChecks, plannedBy, planned, planOf, atPlace, runOf}
+use Rattle.units.specs.Units.{capped}
+use Rattle.units.specs.declared.BitPeriods.{BitPeriods}
 use Rattle.pnet_turn.specs.Turn.{at, chargeIn, turnOf}
 use Rattle.pnet_plan.specs.Arrays.{segmentIn, Sheeted, SetOut, Grouped, turnIn, boundIn, refinedIn, roundsIn, Kept, Shortest}
 use Rattle.pnet_plan.proofs.Bytes.{declares, number-is}
@@ -138,16 +140,16 @@ module _ {s : List ℕ} {N m first : ℕ} {counts longests : List ℕ} (h : Shee
   unfolding chargeIn hold
   charge-is y l = rw (counts-at y l, longests-at y l)
 
-  -- V is that of the segment
-  pub turn-is : turnOf counts longests N ≡ turn (segmentIn s)
-  unfolding turnOf turn turnBy
-  turn-is =
+  -- V is that of the segment, which 32 bits hold
+  pub turn-is : (v : BitPeriods) → v ≡ turnOf counts longests N → v .0 ≡ turn (segmentIn s)
+  unfolding turnOf turn turnBy capped
+  turn-is v e =
       let few : min N 32 ≡ segmentIn s .masters = omega (arith, masters-few, h .masters-are) in
+      let same =
       ap (upto (chargeIn counts longests)) few
       ∙ upto-same (chargeIn counts longests) (hold (segmentIn s)) (segmentIn s .masters) (λ y lo hi. charge-is y (omega (arith, declared .masters-to)))
-
-  pub turn-small : turnOf counts longests N ≤ 51040
-  turn-small = omega (arith, turn-is, turn-at-most (segmentIn s) declared)
+      in
+      omega (arith, ap (λ (b : BitPeriods). b .0) e, same, turn-at-most (segmentIn s) declared)
 
   module _ {holds ends : List ℕ} (o : SetOut counts longests N holds ends) where
     holds-at : (y : ℕ) → 1 ≤ y → y ≤ segmentIn s .masters → at holds y ≡ hold (segmentIn s) y
@@ -161,7 +163,7 @@ module _ {s : List ℕ} {N m first : ℕ} {counts longests : List ℕ} (h : Shee
         o .ends-are y lo (omega (arith, h .masters-are))
         ∙ upto-same (at counts) (count (segmentIn s)) (y - 1) (λ z a b. counts-at z (omega (arith, declared .masters-to))))
 
-    module _ (v : ℕ) (ev : v ≡ turnOf counts longests N) {ends' shortest spacings : List ℕ} (placed : Grouped (segmentIn s) m ends' shortest spacings) where
+    module _ (v : ℕ) (ev : v ≡ turn (segmentIn s)) {ends' shortest spacings : List ℕ} (placed : Grouped (segmentIn s) m ends' shortest spacings) where
       laid : Laid (segmentIn s) counts holds ends' shortest spacings
       laid =
           record {
@@ -172,7 +174,7 @@ module _ {s : List ℕ} {N m first : ℕ} {counts longests : List ℕ} (h : Shee
 
       -- among N masters, for V
       v-is : turnIn holds (segmentIn s .masters) ≡ v
-      v-is = turn-tied declared laid ∙ sym (ev ∙ turn-is)
+      v-is = turn-tied declared laid ∙ sym ev
 
       pub kept-all : Kept N v counts holds ends' spacings
       kept-all =

@@ -4,6 +4,7 @@ pub mod answer;
 pub use answer::Plan;
 use sheet_read::MOST;
 use sheet_read::Reading;
+use units::BitPeriods;
 ghost use mathlib.Core.Path.{_≡_};
 ghost use Prim.Native.Nat.{ℕ, _+_, _-_, _*_, _≤_, _<_, min};
 ghost use lib.ListN.{length};
@@ -67,7 +68,8 @@ fn set_out(
     while y < n {
         y += 1;
         let count = counts[y];
-        holds[y] = pnet_turn::hold_of(count, longests[y]) as u32;
+        let hold = pnet_turn::hold_of(count, BitPeriods(longests[y]));
+        holds[y] = hold.0;
         ends[y] = end;
         end += count as u32;
     }
@@ -343,7 +345,7 @@ fn plan_segment(
     let mut holds = [0u32; 33];
     let mut ends = [0u32; 33];
     let mut shortest = [LONGEST; 33];
-    let turn = pnet_turn::turn_of(counts, longests, n) as u32;
+    let turn = pnet_turn::turn_of(counts, longests, n).0;
     set_out(counts, longests, n, &mut holds, &mut ends);
     let late = place(
         s,

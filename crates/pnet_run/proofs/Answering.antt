@@ -5,6 +5,7 @@ use mathlib.Core.Path.{_≡_, refl, sym, _∙_}
 use mathlib.Core.Logic.{⊎-elim}
 use mathlib.Core.List.{List, _∷_, List·Memᴰ, List·Memᴰ·head, List·Memᴰ·not-nil, List·Memᴰ·cases-cons}
 use native.Mathlib.Omega.{arith}
+use Rattle.units.specs.Units.{bp}
 use Rattle.pnet_rules.specs.Segment.{Segment}
 use Rattle.pnet_run.specs.Run.{Belongs, Request, Answer, answer, Queues, Token, serving, Settled, Run, start, complete, arrive, travel, work, serve, skip}
 use Rattle.pnet_run.specs.Promise.{Lasts, past, at-it, Answered}
@@ -43,7 +44,7 @@ module _ (S : Segment) (k B : ℕ) (Kind : List Request → Type 0) (earlier : (
   not-after n (at-it e s) = omega (arith, n .before s)
 
   pub answered-in-time : {t : ℕ} {y : Token} {q : Queues} {came : List Request} {went : List Answer}
-      → Run S t y q came went → Kind came → Answered B S k t y came went
+      → Run S t y q came went → Kind came → Answered (bp B) S k t y came went
   answered-in-time {t} {y} {q} {came} {went} z s = record {
     in-time = answers-in-time z s;
     none-left = λ r j o l. ⊎-elim (λ (c : List·Memᴰ r (q k)). absurd (not-after (waits t y q came went z s r c) l)) (λ (c : (u : ℕ) × List·Memᴰ (answer r u) went). c)
@@ -52,7 +53,7 @@ module _ (S : Segment) (k B : ℕ) (Kind : List Request → Type 0) (earlier : (
 
 -- a promise about master k need be shown only where k has a stream: else it has no request
 pub answered-if-it-asks : {B k t : ℕ} {S : Segment} {y : Token} {came : List Request} {went : List Answer}
-    → ((i : ℕ) → Belongs S k i → Answered B S k t y came went) → Answered B S k t y came went
+    → ((i : ℕ) → Belongs S k i → Answered (bp B) S k t y came went) → Answered (bp B) S k t y came went
 answered-if-it-asks by = record {
   in-time = λ a j own. by (a .to .of) own .in-time a j own;
   none-left = λ r j own lasts. by (r .of) own .none-left r j own lasts;

@@ -22,6 +22,7 @@ use lib.Dec.{leb}
 use lib.ListN.{length}
 use borrow.Author.Tests.{le-leb}
 use Rattle.common.specs.Sums.{when}
+use Rattle.units.specs.Units.{bp}
 use Rattle.pnet_rules.specs.Segment.{Segment, turnBy, boundBy, count}
 use Rattle.pnet_run.specs.Run.{
   Belongs,
@@ -286,7 +287,7 @@ module _ (S : Segment) (h : ℕ → ℕ) (k : ℕ) (1≤k : 1 ≤ k) (k≤n : k 
   waits-in-time z apart = not-late z (roomy z apart)
 
   pub answered-by : {t : ℕ} {y : Token} {q : Queues} {came : List Request} {went : List Answer}
-      → Run S t y q came went → KeptApart came → Answered (boundBy h S k) S k t y came went
+      → Run S t y q came went → KeptApart came → Answered (bp (boundBy h S k)) S k t y came went
   answered-by = answered-in-time S k (boundBy h S k) KeptApart (λ r came apart i d. apart-before (apart i d)) (λ t y q came went. waits-in-time)
 
   -- ---- What waits in k's queue

@@ -7,6 +7,8 @@ use mathlib.Core.List.{List}
 use native.Mathlib.Omega.{arith}
 use borrow.Author.Tests.{ltb-false}
 use Rattle.sheet_read.specs.Sheets.{Sheet}
+use Rattle.units.specs.Units.{bp}
+use Rattle.units.specs.declared.BitPeriods.{BitPeriods}
 use Rattle.pnet_rules.specs.Segment.{Segment, segmentOf, count, hold, bound, late}
 use Rattle.pnet_rules.specs.Limits.{Declared}
 use Rattle.pnet_rules.specs.Refined.{right, refined}
@@ -47,7 +49,7 @@ fits-spacing accepted m i d = omega (arith, accepted .declared .ranges i (d .fro
 pub each-request-is-answered-within-the-bound : (sheet : Sheet) → Accepted (segmentOf sheet) → (k : ℕ)
     → {now : ℕ} {token : Token} {queues : Queues} {came : List Request} {went : List Answer}
     → Run (segmentOf sheet) now token queues came went → Spaced (segmentOf sheet) k came
-    → Answered (bound (segmentOf sheet) k) (segmentOf sheet) k now token came went
+    → Answered (bp (bound (segmentOf sheet) k)) (segmentOf sheet) k now token came went
 unfolding bound
 each-request-is-answered-within-the-bound sheet accepted k run spaced =
     let S = segmentOf sheet in
@@ -63,7 +65,7 @@ each-request-is-answered-within-the-bound sheet accepted k run spaced =
 -- The sheet need not even be accepted for this; its fields are in range.
 
 pub some-run-takes-exactly-the-bound : (sheet : Sheet) → Declared (segmentOf sheet) → (k : ℕ) → 1 ≤ count (segmentOf sheet) k
-    → Even (segmentOf sheet) k → Reached (bound (segmentOf sheet) k) (segmentOf sheet) k
+    → Even (segmentOf sheet) k → Reached (bp (bound (segmentOf sheet) k)) (segmentOf sheet) k
 some-run-takes-exactly-the-bound sheet declared k some even =
     let own = in-ring declared (belongs-count (segmentOf sheet) k some .1) in
     exact (segmentOf sheet) k (own .0) (own .1) declared even some
@@ -73,7 +75,7 @@ some-run-takes-exactly-the-bound sheet declared k some even =
 -- A figure within which the master's requests are answered in every run is at least the bound.
 
 pub no-lower-figure-would-be-true : (sheet : Sheet) → Declared (segmentOf sheet) → (k : ℕ) → 1 ≤ count (segmentOf sheet) k
-    → Even (segmentOf sheet) k → (figure : ℕ) → Safe figure (segmentOf sheet) k → bound (segmentOf sheet) k ≤ figure
+    → Even (segmentOf sheet) k → (figure : BitPeriods) → Safe figure (segmentOf sheet) k → bound (segmentOf sheet) k ≤ figure .0
 no-lower-figure-would-be-true sheet declared k some even figure safe =
     let x = some-run-takes-exactly-the-bound sheet declared k some even in
     omega (arith, safe .ever (x .run) (x .spaced k) .in-time (answer (x .slow) _) (x .exact) (x .own))
@@ -97,7 +99,7 @@ no-run-is-stuck sheet declared {token = token} run = goes-on (segmentOf sheet) (
 pub each-request-is-answered-within-the-refined-figure : (sheet : Sheet) → Accepted (segmentOf sheet) → (k : ℕ)
     → {now : ℕ} {token : Token} {queues : Queues} {came : List Request} {went : List Answer}
     → Run (segmentOf sheet) now token queues came went → ((y : ℕ) → Spaced (segmentOf sheet) y came)
-    → Answered (refined (segmentOf sheet) k) (segmentOf sheet) k now token came went
+    → Answered (bp (refined (segmentOf sheet) k)) (segmentOf sheet) k now token came went
 unfolding bound right
 each-request-is-answered-within-the-refined-figure sheet accepted k run spaced =
     let S = segmentOf sheet in

@@ -13,6 +13,7 @@ use lib.ListN.{length, length-map}
 use lib.Dec.{ltb}
 use borrow.Author.Tests.{lt-ltb, le-ltb}
 use Rattle.common.specs.Sums.{when}
+use Rattle.units.specs.Units.{bp}
 use Rattle.pnet_rules.specs.Segment.{Segment, owns, count, hold, turn, turnBy, boundBy, bound}
 use Rattle.pnet_rules.specs.Limits.{Declared}
 use Rattle.pnet_rules.proofs.Holds.{hold-none}
@@ -249,7 +250,7 @@ module _ (S : Segment) (k : ℕ) (1≤k : 1 ≤ k) (k≤n : k ≤ S .masters) (d
   turns zero l = record { went = []; stage = at (omega arith) first }
   turns (suc j) l = one-more j l (turns j (omega arith))
 
-  reached : (j : ℕ) → suc j ≡ count S k → Turned (suc j) (j * turn S + turn S) → Reached (bound S k) S k
+  reached : (j : ℕ) → suc j ≡ count S k → Turned (suc j) (j * turn S + turn S) → Reached (bp (bound S k)) S k
   unfolding bound boundBy turn
   reached j e r = record {
     now = j * turn S + turn S;
@@ -268,5 +269,5 @@ module _ (S : Segment) (k : ℕ) (1≤k : 1 ≤ k) (k≤n : k ≤ S .masters) (d
       time : r .slow .since + bound S k ≡ j * turn S + turn S
       time = omega (arith, r .since, ap (λ (x : ℕ). x * turnBy (hold S) S) e)
 
-  pub exact : 1 ≤ count S k → Reached (bound S k) S k
+  pub exact : 1 ≤ count S k → Reached (bp (bound S k)) S k
   exact some = reached (count S k - 1) (omega arith) (turned (omega arith) (turns (count S k - 1) (omega arith) .stage))

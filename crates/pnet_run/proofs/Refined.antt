@@ -22,6 +22,7 @@ use lib.Dec.{eqb, leb}
 use borrow.Author.Tests.{eq-eqb, eqb-true, le-leb}
 use Rattle.common.specs.Sums.{when, upto}
 use Rattle.common.proofs.Sums.{upto-mono, upto-term}
+use Rattle.units.specs.Units.{bp}
 use Rattle.pnet_rules.specs.Segment.{Segment, count, turnBy, boundBy}
 use Rattle.pnet_rules.specs.Refined.{rightBy, askedBy}
 use Rattle.pnet_rules.specs.Limits.{Declared}
@@ -218,5 +219,5 @@ module _ (S : Segment) (declared : Declared S) (h : ℕ → ℕ) (cover : Covers
         calm (skip e z p a b) s = calm z s
 
         pub answered-within : {t : ℕ} {y : Token} {q : Queues} {came : List Request} {went : List Answer}
-            → Run S t y q came went → AllSpaced came → Answered W S k t y came went
+            → Run S t y q came went → AllSpaced came → Answered (bp W) S k t y came went
         answered-within = answered-in-time S k W AllSpaced earlier (λ t y q came went z s. waits z s (calm z s))

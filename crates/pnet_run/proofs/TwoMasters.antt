@@ -10,6 +10,7 @@ use native.Mathlib.Omega.{arith}
 use Rattle.common.specs.Sums.{when}
 use Rattle.common.proofs.Sums.{upto-most}
 use Rattle.sheet_record.specs.declared.Record.{Record}
+use Rattle.units.specs.Units.{bp}
 use Rattle.pnet_rules.specs.Segment.{Segment, streamOf, segmentOf, owns, count, late}
 use Rattle.pnet_rules.specs.Refined.{refined}
 use Rattle.pnet_rules.specs.Limits.{Ranged, Declared}
@@ -99,7 +100,7 @@ once =
     let at-550 : Run two 550 (toward 1 0) _ (askedTo 3) _ = skip {d = 0} 10 (travel {d = 0} 40 at-500) refl (omega arith) refl in
     (_, _, slowest at-550 refl (omega arith))
 
-pub some-run-takes-760 : Reached 760 two 1
+pub some-run-takes-760 : Reached (bp 760) two 1
 unfolding segmentOf
 some-run-takes-760 = record {
   now = 760;
@@ -160,7 +161,7 @@ master-1-keeps-its-spacing i b =
 
 pub not-without-the-others :
     ((t : ℕ) (y : Token) (q : Queues) (came : List Request) (went : List Answer) → Run two t y q came went → Spaced two 1 came
-    → Answered (refined two 1) two 1 t y came went)
+    → Answered (bp (refined two 1)) two 1 t y came went)
     → ⊥
 not-without-the-others safe =
     let answered = safe 1000 (toward 2 40) (twice .0) came went (twice .1) master-1-keeps-its-spacing in

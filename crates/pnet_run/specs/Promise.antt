@@ -4,6 +4,7 @@ use Prim.Native.Nat.{ℕ, _+_, _≤_, _<_}
 use mathlib.Core.Path.{_≡_}
 use mathlib.Core.Logic.{_≢_, _⊎_}
 use mathlib.Core.List.{List, [], _∷_, List·Memᴰ}
+use Rattle.units.specs.declared.BitPeriods.{BitPeriods}
 use Rattle.pnet_rules.specs.Segment.{Segment, count, bound}
 use Rattle.pnet_rules.specs.Limits.{Declared}
 use Rattle.pnet_run.specs.Run.{Belongs, Request, request, Answer, answer, Queues, Token, Settled, Run}
@@ -27,19 +28,20 @@ pub data Lasts (t : ℕ) (y : Token) (u : ℕ) : Type 0 where
   past : u < t → Lasts t y u
   at-it : u ≡ t → Settled y → Lasts t y u
 
--- every request of master k is answered within R: 'completed by arrival plus bound, if the run lasts that long'
-pub record Answered (R : ℕ) (S : Segment) (k t : ℕ) (y : Token) (came : List Request) (went : List Answer) : Type 0 where
-  pub in-time : (a : Answer) → List·Memᴰ a went → Belongs S k (a .to .of) → a .at ≤ a .to .since + R
-  pub none-left : (r : Request) → List·Memᴰ r came → Belongs S k (r .of) → Lasts t y (r .since + R)
+-- every request of master k is answered within R, a count of bp: 'completed by arrival plus bound, if the run lasts that long'. An instant
+-- of a run is a plain number, so many bp from its start
+pub record Answered (R : BitPeriods) (S : Segment) (k t : ℕ) (y : Token) (came : List Request) (went : List Answer) : Type 0 where
+  pub in-time : (a : Answer) → List·Memᴰ a went → Belongs S k (a .to .of) → a .at ≤ a .to .since + R .0
+  pub none-left : (r : Request) → List·Memᴰ r came → Belongs S k (r .of) → Lasts t y (r .since + R .0)
       → (u : ℕ) × List·Memᴰ (answer r u) went
 
 -- no request of master k, in any run in which k keeps its spacing, takes longer than R
-pub record Safe (R : ℕ) (S : Segment) (k : ℕ) : Type 0 where
+pub record Safe (R : BitPeriods) (S : Segment) (k : ℕ) : Type 0 where
   pub ever : {t : ℕ} {y : Token} {q : Queues} {came : List Request} {went : List Answer}
       → Run S t y q came went → Spaced S k came → Answered R S k t y came went
 
 -- some run in which every master keeps its spacing answers a request of master k at its arrival plus R
-pub record Reached (R : ℕ) (S : Segment) (k : ℕ) : Type 0 where
+pub record Reached (R : BitPeriods) (S : Segment) (k : ℕ) : Type 0 where
   pub now : ℕ
   pub token : Token
   pub queues : Queues
@@ -50,7 +52,7 @@ pub record Reached (R : ℕ) (S : Segment) (k : ℕ) : Type 0 where
   pub slow : Request
   pub arrived : List·Memᴰ slow came
   pub own : Belongs S k (slow .of)
-  pub exact : List·Memᴰ (answer slow (slow .since + R)) went
+  pub exact : List·Memᴰ (answer slow (slow .since + R .0)) went
 
 -- ---- Segments
 

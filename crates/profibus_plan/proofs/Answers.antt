@@ -10,6 +10,7 @@ use Rattle.common.specs.Checks.{verdict}
 use Rattle.sheet_record.specs.Kinds.{profibus}
 use Rattle.sheet_read.specs.Sheets.{Sheet, busIn}
 use Rattle.sheet_read.specs.Whole.Outcome.{Read}
+use Rattle.units.specs.Units.{ringBp}
 use Rattle.profibus_rules.specs.Ring.{ringOf, Declared}
 use Rattle.profibus_rules.specs.Target.{AllPass, FirstFails, Limited, target, firstFailing}
 use Rattle.sheet_read.proofs.Known.{Known}
@@ -34,13 +35,13 @@ module _ (S : Sheet) where
         rw (eq-eqb (busIn S) profibus bus, fails-named R (R .latency) i f, le-leb i (R .number) (f .there .1))
 
     pub plan-passes : AllPass (ringOf S) (ringOf S .latency)
-        → planOf (Read S) ≡ plan.Target (record { 0 = target (ringOf S) }) (firstFailing (ringOf S) (target (ringOf S) + 1))
+        → planOf (Read S) ≡ plan.Target (ringBp (target (ringOf S))) (firstFailing (ringOf S) (target (ringOf S) + 1))
     unfolding planOf planBy planChecks failsAtLatency verdict
     plan-passes p =
         let R = ringOf S in
         rw (eq-eqb (busIn S) profibus bus, none-named R (R .latency) p, lt-leb (1 + R .number) (R .number) (omega arith))
 
-    pub plan-limited : Declared (ringOf S) → (ttr i : ℕ) → Limited (ringOf S) ttr i → planOf (Read S) ≡ plan.Target (record { 0 = ttr }) i
+    pub plan-limited : Declared (ringOf S) → (ttr i : ℕ) → Limited (ringOf S) ttr i → planOf (Read S) ≡ plan.Target (ringBp ttr) i
     plan-limited within ttr i a =
         let R = ringOf S in
         let e = limited-is R within ttr i a in

@@ -4,6 +4,7 @@ use mathlib.Core.Path.{_≡_, refl}
 use mathlib.Core.List.{List, [], _∷_}
 use Rattle.sheet_read.specs.Sheets.{sheetOf}
 use Rattle.sheet_read.specs.Whole.{reading}
+use Rattle.units.specs.Units.{ringBp}
 use Rattle.profibus_plan.specs.declared.answer.Plan.the-variants as plan
 use Rattle.profibus_plan.specs.Planned.{planOf}
 
@@ -16,6 +17,6 @@ three =
     ∷ 4 ∷ 2 ∷ 0 ∷ 0 ∷ 1 ∷ 44 ∷ 0 ∷ 0 ∷ 19 ∷ 136
     ∷ []
 
-answer : planOf (reading three) ≡ plan.Target (record { 0 = 2500 }) 1
+answer : planOf (reading three) ≡ plan.Target (ringBp 2500) 1
 unfolding planOf reading sheetOf
 answer = refl

@@ -11,6 +11,7 @@ use Rattle.sheet_record.specs.Kinds.{profibus}
 use Rattle.sheet_read.specs.Sheets.{Sheet, busIn}
 use Rattle.sheet_read.specs.Whole.{Outcome}
 use Rattle.sheet_read.specs.Whole.Outcome.{Read, Not}
+use Rattle.units.specs.Units.{ringBp}
 use Rattle.profibus_rules.specs.Ring.{Ring, ringOf}
 use Rattle.profibus_rules.specs.Target.{FirstFails, Limited, target, firstFailing}
 use Rattle.profibus_plan.specs.declared.answer.Plan.{Plan}
@@ -28,7 +29,7 @@ planChecks S = check 3 (not (eqb (busIn S) profibus)) 0 ∷ failsAtLatency (ring
 -- the largest TTR and the first stream that fails at TTR + 1, or the refusal
 unfoldable pub planBy : Verdict → Ring → Plan
 unfolding target firstFailing
-planBy Passed R = plan.Target (record { 0 = target R }) (firstFailing R (target R + 1))
+planBy Passed R = plan.Target (ringBp (target R)) (firstFailing R (target R + 1))
 planBy (Refused n p) R = plan.Refused n p
 
 unfoldable pub planOf : Outcome → Plan
@@ -42,4 +43,4 @@ planOf (Not n p) = plan.Refused n p
 pub data Answers (S : Sheet) : Plan → Type 0 where
   another-bus : (busIn S ≡ profibus → ⊥) → Answers S (plan.Refused 3 0)
   fails : (i : ℕ) → busIn S ≡ profibus → FirstFails (ringOf S) (ringOf S .latency) i → Answers S (plan.Refused 9 i)
-  limited : (ttr i : ℕ) → busIn S ≡ profibus → Limited (ringOf S) ttr i → Answers S (plan.Target (record { 0 = ttr }) i)
+  limited : (ttr i : ℕ) → busIn S ≡ profibus → Limited (ringOf S) ttr i → Answers S (plan.Target (ringBp ttr) i)

@@ -1,5 +1,4 @@
-// Bit periods of a PROFIBUS ring. They are never converted: a ring's bit rate is not on its sheet.
-pub struct RingPeriods(pub u32);
+use units::RingPeriods;
 
 // What the planner answers.
 pub enum Plan {

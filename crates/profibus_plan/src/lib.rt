@@ -2,8 +2,8 @@
 pub mod answer;
 
 pub use answer::Plan;
-pub use answer::RingPeriods;
 use sheet_read::Reading;
+use units::RingPeriods;
 ghost use mathlib.Core.Path.{_≡_};
 ghost use Rattle.common.specs.Runs.{tab};
 ghost use Rattle.sheet_record.specs.Kinds.{profibus};

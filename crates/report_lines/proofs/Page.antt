@@ -2,17 +2,17 @@
 use mathlib.Core.Path.{_≡_, refl}
 use mathlib.Core.List.{[], _∷_}
 use Rattle.common.specs.Sums.{firstOf, up}
-use Rattle.units.specs.Units.{us, nanosUp}
+use Rattle.units.specs.Units.{bp, us, ringBp, nanosUp}
 use Rattle.text.specs.Text.{word, places, holds, widthOf, decimal, item, texts}
 use Rattle.report_phrases.specs.Phrases.{inBp, inUs, inNs, inBoth, twoCounts, nameOf}
 use Rattle.report_lines.specs.Lines.{masterLine, masterText, ringText, nameText, nameAt, rowLine, tableHead}
 
 -- the third case's first master, its rounds by the count of page 02, Ask 2, and ns by Ask 5; a silent master has no line
-masters : (masterText 1 1000 760 1 ≡ word "M01 bound 1000 bp 13020834 ns refined 760 bp 9895834 ns 1 rounds\n") × (masterText 3 0 0 0 ≡ [])
+masters : (masterText 1 (bp 1000) (bp 760) 1 ≡ word "M01 bound 1000 bp 13020834 ns refined 760 bp 9895834 ns 1 rounds\n") × (masterText 3 (bp 0) (bp 0) 0 ≡ [])
 unfolding masterText masterLine nameOf twoCounts inBoth inBp inNs nanosUp up decimal places widthOf holds firstOf
 masters = (refl, refl)
 
-ring : ringText (record { 0 = 2500 }) 1 ≡ word "PROFIBUS ring\nTTR 2500 bp limited by stream 1\n"
+ring : ringText (ringBp 2500) 1 ≡ word "PROFIBUS ring\nTTR 2500 bp limited by stream 1\n"
 unfolding ringText decimal places widthOf holds firstOf
 ring = refl
 

@@ -3,10 +3,9 @@ use Prim.Native.Nat.{ℕ, _/_, _%_, _^_}
 use mathlib.Core.List.{List, []}
 use mathlib.Core.Bool.{cond}
 use lib.Dec.{eqb}
-use Rattle.profibus_plan.specs.declared.answer.RingPeriods.{RingPeriods}
-use Rattle.units.specs.Units.{bp}
 use Rattle.units.specs.declared.BitPeriods.{BitPeriods}
 use Rattle.units.specs.declared.Micros.{Micros}
+use Rattle.units.specs.declared.RingPeriods.{RingPeriods}
 use Rattle.text.specs.Text.{word, decimal, _·_, texts}
 use Rattle.report_phrases.specs.Phrases.{inUs, twoCounts, nameOf}
 
@@ -18,8 +17,8 @@ masterLine k bound refined rounds =
     nameOf k · twoCounts (word " bound ") bound (word " refined ") refined · word " " · decimal rounds · word " rounds\n"
 
 -- a master without streams, whose bound is 0, has no line
-unfoldable pub masterText : ℕ → ℕ → ℕ → ℕ → List ℕ
-masterText k bound refined rounds = cond (eqb bound 0) [] (masterLine k (bp bound) (bp refined) rounds)
+unfoldable pub masterText : ℕ → BitPeriods → BitPeriods → ℕ → List ℕ
+masterText k bound refined rounds = cond (eqb (bound .0) 0) [] (masterLine k bound refined rounds)
 
 -- ---- PROFIBUS
 

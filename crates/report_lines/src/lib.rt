@@ -1,6 +1,5 @@
 // The report's lines, page 01 'Sheets worked by hand', built from fixed byte strings and numbers. Each function writes into a lent
 // run from a place on and answers the place just after; what does not fit is left out.
-use profibus_plan::RingPeriods;
 use report_phrases::put_name;
 use report_phrases::put_two;
 use report_phrases::put_us;
@@ -8,6 +7,7 @@ use text::put_counted;
 use text::put_word;
 use units::BitPeriods;
 use units::Micros;
+use units::RingPeriods;
 ghost use Rattle.text.specs.Text.{Wrote, item, texts};
 ghost use Rattle.report_lines.specs.Lines.{masterLine, masterText, ringText, nameText, nameAt, rowLine, tableHead};
 
@@ -27,13 +27,20 @@ fn put_line(
 }
 
 // The line of master k, if it has streams.
-pub fn put_master(out: &mut [u8], at: usize, k: u64, bound: u32, refined: u32, rounds: u32) -> usize
+pub fn put_master(
+    out: &mut [u8],
+    at: usize,
+    k: u64,
+    bound: BitPeriods,
+    refined: BitPeriods,
+    rounds: u32,
+) -> usize
     ensures { λ r. ⌜ Wrote (now (out .entry)) at (masterText k bound refined rounds) (now (out .exit)) r ⌝ }
 {
-    if bound == 0 {
+    if bound.0 == 0 {
         return at;
     }
-    put_line(out, at, k, BitPeriods(bound), BitPeriods(refined), rounds)
+    put_line(out, at, k, bound, refined, rounds)
 }
 
 // The rotation time and the stream that limits it.

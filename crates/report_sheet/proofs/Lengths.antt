@@ -5,7 +5,7 @@ use Prim.Native.Nat.{ℕ, _+_, _*_, _/_, _%_, _^_, _≤_, _<_}
 use native.Mathlib.Omega.{arith}
 use lib.Dec.{eqb}
 use lib.ListN.{length, length-append}
-use Rattle.profibus_plan.specs.declared.answer.RingPeriods.{RingPeriods}
+use Rattle.units.specs.declared.RingPeriods.{RingPeriods}
 use Rattle.pnet_rules.specs.Segment.{Segment, count, bound}
 use Rattle.pnet_rules.specs.Refined.{refined, rounds}
 use Rattle.units.specs.Units.{bp}

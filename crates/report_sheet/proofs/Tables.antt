@@ -13,6 +13,7 @@ use Rattle.common.proofs.Checks.{Clear, passed-then}
 use Rattle.common.proofs.Checks.Clear.{and}
 use Rattle.common.proofs.Runs.{getD-tab, filled-at}
 use Rattle.units.specs.Units.{us}
+use Rattle.units.specs.declared.Micros.{Micros}
 use Rattle.sheet_read.specs.Sheets.{Sheet, busIn}
 use Rattle.sheet_read.specs.Whole.{Outcome}
 use Rattle.sheet_read.specs.Whole.Outcome.{Read, Not}
@@ -52,16 +53,16 @@ table-lines S R N old k er en =
     (λ r l. ap (λ (x : List ℕ). item x r) en ∙ (getD-tab (identifierOf (Read S)) 64 r l ∙ simp (eq-eqb (busIn S) 5 k)))))
 
 -- the report of an accepted sheet, from the run and the identifiers
-pub table-of-run : (o : Outcome) (c s n : ℕ) (R N old : List ℕ) → length old ≡ 4096 → answer.Accepted c s n ≡ planOf o 4096 → R ≡ runOf o old
-    → N ≡ tab (identifierOf o) 64 → (n ≤ 4096) × (tableText (us c) s n (item R) (item N) ≡ tableReport o)
+pub table-of-run : (o : Outcome) (c : Micros) (s n : ℕ) (R N old : List ℕ) → length old ≡ 4096 → answer.Accepted c s n ≡ planOf o 4096 → R ≡ runOf o old
+    → N ≡ tab (identifierOf o) 64 → (n ≤ 4096) × (tableText c s n (item R) (item N) ≡ tableReport o)
 unfolding planOf runOf tableReport
 table-of-run (Not x p) c s n R N old l a er en = let z : _≡_ {A = ℕ} 0 1 = cc in absurd (omega arith)
 table-of-run (Read S) c s n R N old l a er en = by (verdict (planChecks S 4096)) refl a (rw l at er)
   where
     by : (v : Verdict) → verdict (planChecks S 4096) ≡ v → answer.Accepted c s n ≡ planBy v (trafficOf S) → R ≡ runBy v (trafficOf S) old
-        → (n ≤ 4096) × (tableText (us c) s n (item R) (item N) ≡ tableBy v (trafficOf S))
+        → (n ≤ 4096) × (tableText c s n (item R) (item N) ≡ tableBy v (trafficOf S))
     by Passed q b r =
-        let ec : c ≡ microcycle (trafficOf S) = cc in
+        let ec : c ≡ us (microcycle (trafficOf S)) = cc in
         let es : s ≡ slots (trafficOf S) = cc in
         let em : n ≡ rows (trafficOf S) = cc in
         let p = table-passed S q in

@@ -5,6 +5,7 @@ use report_lines::put_ring;
 use report_lines::put_row;
 use report_phrases::put_refusal;
 use text::put_word;
+use units::BitPeriods;
 use units::Micros;
 ghost use mathlib.Core.Path.{_≡_};
 ghost use mathlib.Core.Bool.{false};
@@ -13,7 +14,6 @@ ghost use lib.ListN.{length};
 ghost use Rattle.sheet_read.specs.Lengths.{enough};
 ghost use Rattle.sheet_read.specs.Whole.{reading};
 ghost use Rattle.profibus_plan.specs.Planned.{planOf as ringPlan};
-ghost use Rattle.units.specs.Units.{us};
 ghost use Rattle.pnet_plan.specs.Planned.{planned, planOf as segmentPlan};
 ghost use Rattle.worldfip_plan.specs.Answer.{planOf as tablePlan};
 ghost use Rattle.text.specs.Text.{Zeros, Wrote, item, texts};
@@ -65,7 +65,14 @@ fn put_masters(
     let mut next = at;
     let mut i = 0;
     while i < n {
-        next = put_master(out, next, i as u64 + 1, bound[i], refined[i], rounds[i]);
+        next = put_master(
+            out,
+            next,
+            i as u64 + 1,
+            BitPeriods(bound[i]),
+            BitPeriods(refined[i]),
+            rounds[i],
+        );
         i += 1;
     }
     next
@@ -132,22 +139,16 @@ fn put_rows(out: &mut [u8], at: usize, rows: &[u64], count: usize, names: &[u16;
 
 fn put_table(
     out: &mut [u8],
-    microcycle: u32,
+    microcycle: Micros,
     slots: u32,
     count: u32,
     rows: &[u64],
     names: &[u16; 64],
 ) -> usize
     requires { ⌜ count ≤ length (now rows) ⌝ }
-    ensures { λ r. ⌜ Wrote (now (out .entry)) 0 (tableText (us microcycle) slots count (item (now (rows .entry))) (item (now (names .entry)))) (now (out .exit)) r ⌝ }
+    ensures { λ r. ⌜ Wrote (now (out .entry)) 0 (tableText microcycle slots count (item (now (rows .entry))) (item (now (names .entry)))) (now (out .exit)) r ⌝ }
 {
-    let next = put_head(
-        out,
-        0,
-        Micros(microcycle as u64),
-        slots as u64,
-        count as u64,
-    );
+    let next = put_head(out, 0, microcycle, slots as u64, count as u64);
     put_rows(out, next, rows, count as usize, names)
 }
 

@@ -104,7 +104,7 @@ fn say_worldfip(p: worldfip_plan::Plan) {
             slots,
             rows,
         } => {
-            say_with(b"microcycle in us ", microcycle as u64);
+            say_with(b"microcycle in us ", microcycle.0);
             say_with(b", slots ", slots as u64);
             say_with(b", rows ", rows as u64);
         }

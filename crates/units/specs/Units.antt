@@ -1,13 +1,14 @@
 -- Page 01, 'Units': one bit period is 625/48 us; a bound in bp becomes us rounded up, a deadline in us becomes bp rounded down.
 -- Page 02, 'Ask 5': one bit period is 78,125/6 ns; a bound in bp becomes ns rounded up.
--- The three kinds of count are three types here too. Assumes nothing.
+-- The kinds of count are types of their own here too; one of a ring is in no rule. Assumes nothing.
 use Prim.Native.Nat.{ℕ, _-_, _*_, _/_, _^_, _≤_, min}
 use Rattle.common.specs.Sums.{up}
 use Rattle.units.specs.declared.BitPeriods.{BitPeriods}
 use Rattle.units.specs.declared.Micros.{Micros}
 use Rattle.units.specs.declared.Nanos.{Nanos}
+use Rattle.units.specs.declared.RingPeriods.{RingPeriods}
 
--- a count of bp, one of us and one of ns
+-- a count of bp, one of us, one of ns, and one of bp of a ring
 abbrev pub bp : ℕ → BitPeriods
 bp n = record { 0 = n }
 
@@ -16,6 +17,13 @@ us n = record { 0 = n }
 
 abbrev pub ns : ℕ → Nanos
 ns n = record { 0 = n }
+
+abbrev pub ringBp : ℕ → RingPeriods
+ringBp n = record { 0 = n }
+
+-- n bp, and the greatest count that 32 bits hold where n is above it
+unfoldable pub capped : ℕ → BitPeriods
+capped n = bp (min n (2 ^ 32 - 1))
 
 -- b bp are over within u us: 48 bp last 625 us
 abbrev pub Within : BitPeriods → Micros → Type 0
@@ -36,4 +44,5 @@ nanosUp b = ns (up (78125 * b .0) 6)
 
 -- u rounded down: the greatest count of bp that fits into u, of those that 32 bits hold
 unfoldable pub periodsDown : Micros → BitPeriods
-periodsDown u = bp (min (48 * u .0 / 625) (2 ^ 32 - 1))
+unfolding capped
+periodsDown u = capped (48 * u .0 / 625)

@@ -1,5 +1,6 @@
 // Bit periods and microseconds, page 01 'Units', and nanoseconds, page 02 'Ask 5'. P-NET runs at 76,800 bit/s, so 48 bit periods last
 // 625 us, and 6 of them 78,125 ns. Each kind of count is a type of its own, and the functions below are the only way from one to another.
+// To bit periods of a PROFIBUS ring, and from them, there is none.
 ghost use mathlib.Core.Path.{_≡_};
 ghost use Rattle.units.specs.Units.{microsUp, nanosUp, periodsDown};
 
@@ -11,6 +12,9 @@ pub struct Micros(pub u64);
 
 // A count of nanoseconds (ns).
 pub struct Nanos(pub u64);
+
+// A count of bit periods of a PROFIBUS ring. They are never converted: a ring's bit rate is not on its sheet.
+pub struct RingPeriods(pub u32);
 
 // The least count of us that every count of bp fits: 2^32 - 1 bp, rounded up.
 const ALL: u64 = 55_924_053_321;

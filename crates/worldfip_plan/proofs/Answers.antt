@@ -10,6 +10,7 @@ use Rattle.common.specs.Checks.Verdict.{Passed, Refused}
 use Rattle.common.proofs.Checks.{refused-if, passed-if}
 use Rattle.common.proofs.Checks.Applies.{here, later}
 use Rattle.common.proofs.Checks.Clear.{none, and}
+use Rattle.units.specs.Units.{us}
 use Rattle.worldfip_rules.specs.Traffic.{Traffic, slots, rows, missOf, missingOf}
 use Rattle.worldfip_plan.specs.declared.answer.Plan.{Plan}
 use Rattle.worldfip_plan.specs.declared.answer.Plan.the-variants as plan
@@ -60,5 +61,5 @@ tells T old e = (sym (ap (λ (x : Verdict). planBy x T) e), sym (ap (λ (x : Ver
 
 -- the same figures are the same answer
 pub tells-same : (T : Traffic) (old run run' : List ℕ) (c c' s s' n n' : ℕ) → c ≡ c' → s ≡ s' → n ≡ n' → run ≡ run'
-    → Tells T old (plan.Accepted c' s' n') run' → Tells T old (plan.Accepted c s n) run
+    → Tells T old (plan.Accepted (us c') s' n') run' → Tells T old (plan.Accepted (us c) s n) run
 tells-same T old run run' c c' s s' n n' ec es en er t = rw (ec, es, en, er) t

@@ -6,6 +6,7 @@ use Rattle.common.specs.Runs.{tab}
 use Rattle.sheet_read.specs.Sheets.{sheetOf}
 use Rattle.sheet_read.specs.Whole.{reading}
 use Rattle.worldfip_rules.specs.Build.{row, missRow, byRank}
+use Rattle.units.specs.Units.{us}
 use Rattle.worldfip_rules.specs.Traffic.{askedOf}
 use Rattle.worldfip_plan.specs.declared.answer.Plan.the-variants as plan
 use Rattle.worldfip_plan.specs.Answer.{planOf, runOf, identifierOf}
@@ -24,7 +25,7 @@ even =
     ∷ 6 ∷ 0 ∷ 20 ∷ 0 ∷ 0 ∷ 15 ∷ 160
     ∷ []
 
-even-plan : planOf (reading even) 6 ≡ plan.Accepted 1000 2 4
+even-plan : planOf (reading even) 6 ≡ plan.Accepted (us 1000) 2 4
 unfolding planOf reading sheetOf row missRow byRank askedOf
 even-plan = refl
 

@@ -15,6 +15,7 @@ use Rattle.sheet_read.specs.Sheets.{Sheet, busIn}
 use Rattle.sheet_read.specs.Whole.{Outcome}
 use Rattle.sheet_read.specs.Whole.Outcome.{Read, Not}
 use Rattle.sheet_read.proofs.Known.{Known}
+use Rattle.units.specs.declared.Micros.{Micros}
 use Rattle.worldfip_rules.specs.Table.{Table}
 use Rattle.worldfip_rules.specs.Traffic.{Traffic, rows, askedOf, rowOf}
 use Rattle.worldfip_rules.proofs.Rows.{table-same}
@@ -41,7 +42,7 @@ refused-keeps (Not k q) old n p e = refl
 
 -- ---- A table
 
-accepted-by : (v : Verdict) (T : Traffic) (old : List ℕ) (c k n : ℕ) → planBy v T ≡ plan.Accepted c k n → runBy v T old ≡ filled (rowOf T) (rows T) old
+accepted-by : (v : Verdict) (T : Traffic) (old : List ℕ) (c : Micros) (k n : ℕ) → planBy v T ≡ plan.Accepted c k n → runBy v T old ≡ filled (rowOf T) (rows T) old
 accepted-by Passed T old c k n e = refl
 accepted-by (Refused x q) T old c k n e = let z : _≡_ {A = ℕ} 0 1 = cc in absurd (omega arith)
 
@@ -51,7 +52,7 @@ pub record Accepts (S : Sheet) (room : ℕ) : Type 0 where
   pub room-for : Room (trafficOf S) room
   pub is-table : Table (askedOf (trafficOf S)) (rowOf (trafficOf S))
 
-accepts : (S : Sheet) (room : ℕ) (p : Plan) → Answers S room p → (c k n : ℕ) → p ≡ plan.Accepted c k n → Accepts S room
+accepts : (S : Sheet) (room : ℕ) (p : Plan) → Answers S room p → (c : Micros) (k n : ℕ) → p ≡ plan.Accepted c k n → Accepts S room
 accepts S room p (table b f none t) c k n e = record { bus = b; room-for = f; is-table = t }
 accepts S room p (another-bus b) c k n e = let z : _≡_ {A = ℕ} 0 1 = cc in absurd (omega arith)
 accepts S room p (none-fits b l) c k n e = let z : _≡_ {A = ℕ} 0 1 = cc in absurd (omega arith)
@@ -66,7 +67,7 @@ filled-later f n j d l =
     let q : n + (j - n) ≡ j = omega arith in
     ap (λ (i : ℕ). getD (filled f n d) i 0) (sym e) ∙ (getD-append-add (tab f n) (drop n d) (j - n) 0 ∙ (getD-drop n d (j - n) 0 ∙ ap (λ (i : ℕ). getD d i 0) q))
 
-module _ (s : List ℕ) (S : Sheet) (known : Known s S) (old : List ℕ) (c k n : ℕ) (e : planOf (Read S) (length old) ≡ plan.Accepted c k n) where
+module _ (s : List ℕ) (S : Sheet) (known : Known s S) (old : List ℕ) (c : Micros) (k n : ℕ) (e : planOf (Read S) (length old) ≡ plan.Accepted c k n) where
   run-is : runOf (Read S) old ≡ filled (rowOf (trafficOf S)) (rows (trafficOf S)) old
   unfolding planOf runOf
   run-is = accepted-by (verdict (planChecks S (length old))) (trafficOf S) old c k n e

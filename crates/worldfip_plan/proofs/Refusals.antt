@@ -12,6 +12,7 @@ use Rattle.sheet_record.specs.Kinds.{worldfip}
 use Rattle.sheet_read.specs.Sheets.{Sheet, busIn}
 use Rattle.sheet_read.specs.Whole.Outcome.{Read}
 use Rattle.sheet_read.proofs.Known.{Known}
+use Rattle.units.specs.Units.{us}
 use Rattle.worldfip_rules.specs.Traffic.{Traffic, Declared, microcycle, slots, rows, missOf, missingOf}
 use Rattle.worldfip_rules.specs.Misses.{Named}
 use Rattle.worldfip_rules.proofs.Promises.{table-built}
@@ -64,7 +65,7 @@ module _ (s : List ℕ) (S : Sheet) (known : Known s S) (room : ℕ) where
     only-12 f l = answered (gives-12 (trafficOf S) room (a-slot (trafficOf S) D (f .few .fits)) (f .few .most) (f .lent) l)
 
     only-table : Room (trafficOf S) room → rows (trafficOf S) < missOf (trafficOf S)
-        → planOf (Read S) room ≡ plan.Accepted (microcycle (trafficOf S)) (slots (trafficOf S)) (rows (trafficOf S))
+        → planOf (Read S) room ≡ plan.Accepted (us (microcycle (trafficOf S))) (slots (trafficOf S)) (rows (trafficOf S))
     only-table f l = answered (gives-none (trafficOf S) room (a-slot (trafficOf S) D (f .few .fits)) (f .few .most) (f .lent) l)
 
     -- ---- The planner's is

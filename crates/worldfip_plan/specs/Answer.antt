@@ -14,6 +14,7 @@ use Rattle.sheet_record.specs.Kinds.{nothing, worldfip}
 use Rattle.sheet_read.specs.Sheets.{Sheet, busIn}
 use Rattle.sheet_read.specs.Whole.{Outcome}
 use Rattle.sheet_read.specs.Whole.Outcome.{Read, Not}
+use Rattle.units.specs.Units.{us}
 use Rattle.worldfip_rules.specs.Traffic.{Variable, Traffic, microcycle, slots, rows, rowOf, missOf, missingOf, identifierAt}
 use Rattle.worldfip_plan.specs.declared.answer.Plan.{Plan}
 use Rattle.worldfip_plan.specs.declared.answer.Plan.the-variants as plan
@@ -50,7 +51,7 @@ planChecks S room = check 3 (not (eqb (busIn S) worldfip)) 0 ∷ tableChecks (tr
 -- ---- The answer
 
 abbrev pub planBy : Verdict → Traffic → Plan
-planBy Passed T = plan.Accepted (microcycle T) (slots T) (rows T)
+planBy Passed T = plan.Accepted (us (microcycle T)) (slots T) (rows T)
 planBy (Refused n p) T = plan.Refused n p
 
 unfoldable pub planOf : Outcome → ℕ → Plan

@@ -5,6 +5,7 @@ use Prim.Native.Nat.{ℕ, _≤_, _<_}
 use Rattle.sheet_record.specs.Kinds.{worldfip}
 use Rattle.sheet_read.specs.Sheets.{Sheet, busIn}
 use Rattle.worldfip_rules.specs.Table.{Table}
+use Rattle.units.specs.Units.{us}
 use Rattle.worldfip_rules.specs.Traffic.{Traffic, microcycle, slots, rows, askedOf, rowOf}
 use Rattle.worldfip_rules.specs.Misses.{Named}
 use Rattle.worldfip_plan.specs.declared.answer.Plan.{Plan}
@@ -38,4 +39,4 @@ pub data Answers (S : Sheet) (room : ℕ) : Plan → Type 0 where
   misses : (i : ℕ) → busIn S ≡ worldfip → Room (trafficOf S) room → Named (trafficOf S) i → Answers S room (plan.Refused 12 i)
   -- else the rows are a table
   table : busIn S ≡ worldfip → Room (trafficOf S) room → ((i : ℕ) → Named (trafficOf S) i → ⊥) → Table (askedOf (trafficOf S)) (rowOf (trafficOf S))
-      → Answers S room (plan.Accepted (microcycle (trafficOf S)) (slots (trafficOf S)) (rows (trafficOf S)))
+      → Answers S room (plan.Accepted (us (microcycle (trafficOf S))) (slots (trafficOf S)) (rows (trafficOf S)))

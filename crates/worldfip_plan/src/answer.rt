@@ -1,8 +1,10 @@
+use units::Micros;
+
 // What planning a sheet answers.
 pub enum Plan {
     // The table stands in the lent run.
     Accepted {
-        microcycle: u32,
+        microcycle: Micros,
         slots: u32,
         rows: u32,
     },

@@ -7,6 +7,7 @@ use denote.Ref.{now}
 use lib.Dec.{ltb}
 use lib.ListN.{getD, set}
 use Rattle.common.specs.Sums.{when}
+use Rattle.units.specs.declared.BitPeriods.{BitPeriods}
 use Rattle.capture_tally.specs.Steps.{spot, leftWith, sinceWith, answersWith, shownBy, largestWith, aboveWith}
 use Rattle.capture_tally.proofs.keep.Statement.{statement}
 use Rattle.capture_tally.proofs.keep.Tie as tie
@@ -120,7 +121,7 @@ returns-2 c =
     let start = c .before .before .before .before .before .before .before .before .before .before .before .before .before .before .before .before .before .before .before in
     let a = start .args in
     let k = ne-eqb (a .e .kind) 16 (c .before .before .before .before .before .before .before .before .before .before .if1 .left) in
-    let shown = c .before .before .before .before .before .before .before .before .response .ensures in (
+    let shown = ap (λ (b : BitPeriods). b .0) (c .before .before .before .before .before .before .before .before .response .ensures) in (
       rw k refl,
       (
         rw k refl,

@@ -1,7 +1,8 @@
 -- `capture_watch::step` meets its contract. Assumes nothing.
 use borrow.Author.Needs.{needs}
-use mathlib.Core.Path.{refl}
+use mathlib.Core.Path.{refl, ap}
 use borrow.Author.Tests.{eq-eqb, ne-eqb}
+use Rattle.units.specs.declared.BitPeriods.{BitPeriods}
 use Rattle.capture_watch.specs.Follow.{stepOf}
 use Rattle.capture_watch.proofs.step.Statement.{statement}
 use Rattle.capture_watch.proofs.step.Tie as tie
@@ -15,7 +16,7 @@ response-requires c κs = search needs
 
 returns-2 : tie.Need-returns-2
 unfolding stepOf
-returns-2 c = rw (ne-eqb _ 0 (c .before .if1 .left)) (c .response .ensures)
+returns-2 c = rw (ne-eqb _ 0 (c .before .if1 .left)) (ap (λ (b : BitPeriods). b .0) (c .response .ensures))
 
 pub step-spec : {M : Type 1} → statement M
 step-spec = tie.close (tie.spec returns response-requires returns-2)

@@ -1,8 +1,7 @@
 -- `pnet_bounds::bound_by` meets its contract: V is the segment's, so the first late stream, and R of the master that sends, are its own. Assumes nothing.
-use mathlib.Core.Path.{_∙_}
 use native.Mathlib.Omega.{arith}
 use borrow.Author.Needs.{needs}
-use Rattle.pnet_plan.proofs.Cases.{counts-at, turn-is, turn-small}
+use Rattle.pnet_plan.proofs.Cases.{counts-at, turn-is}
 use Rattle.pnet_bounds.proofs.Sends.{own-small, sender-bound, sender-late}
 use Rattle.pnet_bounds.proofs.bound_by.Statement.{statement}
 use Rattle.pnet_bounds.proofs.bound_by.Tie as tie
@@ -10,13 +9,10 @@ use Rattle.pnet_bounds.proofs.bound_by.Tie as tie
 turn-of-requires : tie.Need-turn-of-requires
 turn-of-requires c κs = search needs
 
-cast-turn : tie.Need-cast-turn
-cast-turn c = omega (arith, c .turn-of .ensures, turn-small (c .before .before .pre))
-
 first-late-requires : tie.Need-first-late-requires
 first-late-requires c κs =
     let h = c .before .before .pre in
-    (h .ready, (c .turn-of .ensures ∙ turn-is h, counts-at h))
+    (h .ready, (turn-is h (c .turn-of .result) (c .turn-of .ensures), counts-at h))
 
 streams-of-requires : tie.Need-streams-of-requires
 streams-of-requires c κs = search needs
@@ -28,14 +24,14 @@ mul-bound : tie.Need-mul-bound
 mul-bound c =
     let start = c .before .before .before .before .before in
     let v = c .before .before .before .turn-of in
-    omega (arith, own-small (start .pre) (start .args .master) (c .streams-of .result) (v .result) (c .streams-of .ensures) (v .ensures))
+    omega (arith, own-small (start .pre) (start .args .master) (c .streams-of .result) (v .result .0) (c .streams-of .ensures) (turn-is (start .pre) (v .result) (v .ensures)))
 
 returns : tie.Need-returns
 returns c =
     let start = c .before .before .before .before .before in
     let v = c .before .before .before .turn-of in
     let l = c .before .before .first-late in
-    sender-bound (start .pre) (start .args .master) (c .streams-of .result) (v .result) (c .streams-of .ensures) (v .ensures) (l .result) (l .ensures) (c .before .if1 .taken)
+    sender-bound (start .pre) (start .args .master) (c .streams-of .result) (v .result .0) (c .streams-of .ensures) (turn-is (start .pre) (v .result) (v .ensures)) (l .result) (l .ensures) (c .before .if1 .taken)
 
 returns-2 : tie.Need-returns-2
 returns-2 c =
@@ -48,7 +44,6 @@ bound-by-spec =
     tie.close
     (tie.spec
     turn-of-requires
-    cast-turn
     first-late-requires
     streams-of-requires
     cast-own

@@ -1,11 +1,10 @@
 -- `pnet_bounds::bounds_of` meets its contract: V is the segment's, so the first late stream, and each stream's bound, are its own. Assumes nothing.
-use mathlib.Core.Path.{_∙_}
 use Prim.Native.Nat.{_<_}
 use native.Mathlib.Omega.{arith}
 use borrow.Author.Needs.{needs}
 use denote.Ref.{now}
 use Rattle.pnet_plan.proofs.Bytes.{streams-few}
-use Rattle.pnet_plan.proofs.Cases.{counts-at, turn-is, turn-small}
+use Rattle.pnet_plan.proofs.Cases.{counts-at, turn-is}
 use Rattle.pnet_bounds.proofs.Bounded.{returned-late, returned-accepted}
 use Rattle.pnet_bounds.proofs.bounds_of.Statement.{statement}
 use Rattle.pnet_bounds.proofs.bounds_of.Tie as tie
@@ -13,13 +12,10 @@ use Rattle.pnet_bounds.proofs.bounds_of.Tie as tie
 turn-of-requires : tie.Need-turn-of-requires
 turn-of-requires c κs = search needs
 
-cast-turn : tie.Need-cast-turn
-cast-turn c = omega (arith, c .turn-of .ensures, turn-small (c .before .before .pre .0))
-
 first-late-requires : tie.Need-first-late-requires
 first-late-requires c κs =
     let h = c .before .before .pre .0 in
-    (h .ready, (c .turn-of .ensures ∙ turn-is h, counts-at h))
+    (h .ready, (turn-is h (c .turn-of .result) (c .turn-of .ensures), counts-at h))
 
 returns : tie.Need-returns
 returns c =
@@ -31,11 +27,12 @@ returns c =
 by-stream-requires : tie.Need-by-stream-requires
 by-stream-requires c κs =
     let h = c .before .before .before .before .before .before .before .pre .0 in
+    let v = c .before .before .before .before .before .turn-of in
     let few = streams-few (h .ready) in
     let long = c .before .before .by-stream-arg .given .0 .1 in
     let long-2 = c .before .by-stream-arg2 .given .0 .1 in
     let long-3 = c .by-stream-arg3 .given .0 .1 in
-    ((h .ready, omega (arith, few, long), omega (arith, few, long-2), omega (arith, few, long-3)), (c .before .before .before .before .before .turn-of .ensures ∙ turn-is h, counts-at h))
+    ((h .ready, omega (arith, few, long), omega (arith, few, long-2), omega (arith, few, long-3)), (turn-is h (v .result) (v .ensures), counts-at h))
 
 returns-2 : tie.Need-returns-2
 returns-2 c =
@@ -51,7 +48,6 @@ bounds-of-spec =
     tie.close
     (tie.spec
     turn-of-requires
-    cast-turn
     first-late-requires
     returns
     by-stream-requires

@@ -4,15 +4,12 @@ use mathlib.Core.Path.{refl, _∙_}
 use Prim.Native.Nat.{_<_}
 use native.Mathlib.Omega.{arith}
 use borrow.Author.Needs.{needs}
-use Rattle.pnet_plan.proofs.Cases.{masters-few, counts-at, counts-small, longests-small, turn-is, turn-small, grouped-first, kept-all, shortest-all, returned-filled, returned-late}
+use Rattle.pnet_plan.proofs.Cases.{masters-few, counts-at, counts-small, longests-small, turn-is, grouped-first, kept-all, shortest-all, returned-filled, returned-late}
 use Rattle.pnet_plan.proofs.plan_segment.Statement.{statement}
 use Rattle.pnet_plan.proofs.plan_segment.Tie as tie
 
 turn-of-requires : tie.Need-turn-of-requires
 turn-of-requires c κs = search needs
-
-cast-turn : tie.Need-cast-turn
-cast-turn c = omega (arith, c .turn-of .ensures, turn-small (c .before .before .before .before .before .before .pre .0 .0))
 
 set-out-requires : tie.Need-set-out-requires
 set-out-requires c κs =
@@ -24,7 +21,7 @@ place-requires c κs =
     let start = c .before .before .before .before .before .before .before .before .before .before .before .before in
     let h = start .pre .0 .0 in
     let v = c .before .before .before .before .before .before .turn-of in
-    ((h .ready, start .pre .0 .1), ((v .ensures ∙ turn-is h, counts-at h), grouped-first h (c .before .before .before .set-out .ensures) (start .args .spacings .now) (start .pre .0 .1)))
+    ((h .ready, start .pre .0 .1), ((turn-is h (v .result) (v .ensures), counts-at h), grouped-first h (c .before .before .before .set-out .ensures) (start .args .spacings .now) (start .pre .0 .1)))
 
 same-length : tie.Need-same-length
 same-length c = search needs
@@ -46,7 +43,7 @@ fill-requires c κs =
     let l = c .before .before .before .before .before .before .before .before .before .before .place in
     let over : start .args .streams < l .result = omega (arith, c .before .before .before .before .before .before .before .if1 .left) in
     let placed = l .ensures .1 over in
-    ((kept-all h o (v .result) (v .ensures) placed, shortest-all h o (v .result) (v .ensures) placed (l .result) (l .ensures .0) over), start .pre .1)
+    ((kept-all h o (v .result .0) (turn-is h (v .result) (v .ensures)) placed, shortest-all h o (v .result .0) (turn-is h (v .result) (v .ensures)) placed (l .result) (l .ensures .0) over), start .pre .1)
 
 same-length-2 : tie.Need-same-length-2
 same-length-2 c = search needs
@@ -70,7 +67,7 @@ returns-2 c =
     let l = c .before .before .before .before .before .before .before .before .before .before .before .before .before .before .before .before .before .place in
     let over : a .streams < l .result = omega (arith, c .before .before .before .before .before .before .before .before .before .before .before .before .before .before .if1 .left) in
     let f = c .before .before .before .before .before .before .fill .ensures in
-    returned-filled (p .0 .0) o (v .result) (v .ensures) (l .ensures .1 over) (l .result) (l .ensures .0) over (a .bound .now) (a .refined .now) (a .rounds .now) (p .1 .0) (p .1 .1) (p .1 .2) _ _ _
+    returned-filled (p .0 .0) o (v .result .0) (turn-is (p .0 .0) (v .result) (v .ensures)) (l .ensures .1 over) (l .result) (l .ensures .0) over (a .bound .now) (a .refined .now) (a .rounds .now) (p .1 .0) (p .1 .1) (p .1 .2) _ _ _
     (f .0) (f .1 .0) (f .1 .1)
 
 pub plan-segment-spec : {M : Type 1} → statement M
@@ -78,7 +75,6 @@ plan-segment-spec =
     tie.close
     (tie.spec
     turn-of-requires
-    cast-turn
     set-out-requires
     place-requires
     same-length

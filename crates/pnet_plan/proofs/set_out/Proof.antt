@@ -5,7 +5,7 @@ use native.Mathlib.Omega.{arith}
 use Rattle.common.specs.Sums.{upto}
 use Rattle.common.proofs.Sums.{upto-none, upto-more}
 use Rattle.pnet_turn.specs.Turn.{at}
-use Rattle.pnet_turn.proofs.Charges.{charge-small}
+use Rattle.pnet_turn.proofs.Charges.{hold-is}
 use Rattle.pnet_plan.specs.Arrays.{SetOut}
 use Rattle.pnet_plan.proofs.Masters.{set-out-none, set-out-more}
 use borrow.Author.Needs.{needs}
@@ -30,24 +30,14 @@ add-y c = search needs
 element-copy-out-count : tie.Need-element-copy-out-count Inv-loop μ-loop
 element-copy-out-count c = omega (arith, c .before .before .pre .0 .0)
 
-mul-hold-of : tie.Need-mul-hold-of Inv-loop μ-loop
-mul-hold-of c = omega (arith, c .before .before .before .pre .0 .0)
+mul-end : tie.Need-mul-end Inv-loop μ-loop
+mul-end c = omega (arith, c .before .before .before .pre .0 .0)
 
-element-copy-out-hold-of : tie.Need-element-copy-out-hold-of Inv-loop μ-loop
-element-copy-out-hold-of c = omega (arith, c .before .before .before .pre .0 .0)
+element-copy-out-end : tie.Need-element-copy-out-end Inv-loop μ-loop
+element-copy-out-end c = omega (arith, c .before .before .before .pre .0 .0)
 
 hold-of-requires : tie.Need-hold-of-requires Inv-loop μ-loop
 hold-of-requires c κs = search needs
-
--- H is small
-held : (c : tie.After-hold-of Inv-loop μ-loop) → c .hold-of .result ≤ 1595
-held c =
-    let p = c .before .before .before .before .before .pre .0 in
-    let y = c .before .before .before .before .loop .y + 1 in
-    omega (arith, c .hold-of .ensures .0, charge-small (at (c .before .before .before .before .before .args .counts .now) y) _ (p .2 y (omega (arith, p .0))))
-
-cast-holds : tie.Need-cast-holds Inv-loop μ-loop
-cast-holds c = omega (arith, held c)
 
 mul-holds : tie.Need-mul-holds Inv-loop μ-loop
 mul-holds c = omega (arith, c .before .before .before .before .before .pre .0 .0)
@@ -79,11 +69,13 @@ loop-less c = search needs
 loop-again : tie.Need-loop-again Inv-loop μ-loop
 loop-again c =
     let l = c .before .before .before .before .loop in
-    let a = c .before .before .before .before .before .args in (
+    let a = c .before .before .before .before .before .args in
+    let p = c .before .before .before .before .before .pre .0 in (
       search needs,
       omega (arith, few c),
       omega (arith, upto-more (at (a .counts .now)) (l .y)),
-      set-out-more (l .inv .3) (c .hold-of .result) (l .end) (omega (arith, c .before .before .before .before .before .pre .0 .0)) (c .hold-of .ensures .0) (l .inv .2),
+      set-out-more (l .inv .3) (c .hold-of .result .0) (l .end) (omega (arith, p .0))
+          (hold-is (at (a .counts .now) (l .y + 1)) (at (a .longests .now) (l .y + 1)) (p .2 (l .y + 1) (omega (arith, p .0))) (c .hold-of .result) (c .hold-of .ensures)) (l .inv .2),
     )
 
 returns : tie.Need-returns Inv-loop μ-loop
@@ -100,10 +92,9 @@ set-out-spec =
     loop-holds
     add-y
     element-copy-out-count
-    mul-hold-of
-    element-copy-out-hold-of
+    mul-end
+    element-copy-out-end
     hold-of-requires
-    cast-holds
     mul-holds
     element-write-holds
     mul-ends

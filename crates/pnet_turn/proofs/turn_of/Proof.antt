@@ -5,6 +5,7 @@ use native.Mathlib.Omega.{arith}
 use borrow.Author.Needs.{needs}
 use Rattle.common.specs.Sums.{upto}
 use Rattle.common.proofs.Sums.{upto-none, upto-more}
+use Rattle.units.specs.Units.{capped}
 use Rattle.pnet_turn.specs.Turn.{chargeIn, turnOf}
 use Rattle.pnet_turn.proofs.turn_of.Statement.{statement}
 use Rattle.pnet_turn.proofs.turn_of.Tie as tie
@@ -24,20 +25,20 @@ loop-holds c = (search needs, upto-none (chargeIn (c .before .args .counts .now)
 add-y : tie.Need-add-y Inv-loop μ-loop
 add-y c = search needs
 
-element-copy-out-hold-of : tie.Need-element-copy-out-hold-of Inv-loop μ-loop
-element-copy-out-hold-of c = search needs
+element-copy-out-charge-of : tie.Need-element-copy-out-charge-of Inv-loop μ-loop
+element-copy-out-charge-of c = search needs
 
-mul-hold-of : tie.Need-mul-hold-of Inv-loop μ-loop
-mul-hold-of c = search needs
+mul-charge-of : tie.Need-mul-charge-of Inv-loop μ-loop
+mul-charge-of c = search needs
 
-element-copy-out-hold-of-2 : tie.Need-element-copy-out-hold-of-2 Inv-loop μ-loop
-element-copy-out-hold-of-2 c = search needs
+element-copy-out-charge-of-2 : tie.Need-element-copy-out-charge-of-2 Inv-loop μ-loop
+element-copy-out-charge-of-2 c = search needs
 
-hold-of-requires : tie.Need-hold-of-requires Inv-loop μ-loop
-hold-of-requires c κs = search needs
+charge-of-requires : tie.Need-charge-of-requires Inv-loop μ-loop
+charge-of-requires c κs = search needs
 
 add-turn : tie.Need-add-turn Inv-loop μ-loop
-add-turn c = omega (arith, c .hold-of .ensures .1)
+add-turn c = omega (arith, c .charge-of .ensures .1)
 
 loop-less : tie.Need-loop-less Inv-loop μ-loop
 loop-less c = search needs
@@ -47,16 +48,19 @@ unfolding chargeIn
 loop-again c =
     let a = c .before .before .before .before .before .before .args in (
       search needs,
-      omega (arith, upto-more (chargeIn (a .counts .now) (a .longests .now)) (c .before .before .before .before .loop .y), c .hold-of .ensures .0),
-      omega (arith, c .hold-of .ensures .1),
+      omega (arith, upto-more (chargeIn (a .counts .now) (a .longests .now)) (c .before .before .before .before .loop .y), c .charge-of .ensures .0),
+      omega (arith, c .charge-of .ensures .1),
     )
+
+narrow-requires : tie.Need-narrow-requires Inv-loop μ-loop
+narrow-requires c κs = search needs
 
 returns : tie.Need-returns Inv-loop μ-loop
 unfolding turnOf
 returns c =
-    let a = c .before .before .before .args in
-    let e : c .before .loop .y ≡ min (a .n) 32 = omega (arith, c .before .before .masters-of .ensures) in
-    c .before .loop .inv .1 ∙ ap (upto (chargeIn (a .counts .now) (a .longests .now))) e
+    let a = c .before .before .before .before .args in
+    let e : c .before .before .loop .y ≡ min (a .n) 32 = omega (arith, c .before .before .before .masters-of .ensures) in
+    c .narrow .ensures ∙ ap capped (c .before .before .loop .inv .1 ∙ ap (upto (chargeIn (a .counts .now) (a .longests .now))) e)
 
 pub turn-of-spec : {M : Type 1} → statement M
 turn-of-spec =
@@ -67,11 +71,12 @@ turn-of-spec =
     masters-of-requires
     loop-holds
     add-y
-    element-copy-out-hold-of
-    mul-hold-of
-    element-copy-out-hold-of-2
-    hold-of-requires
+    element-copy-out-charge-of
+    mul-charge-of
+    element-copy-out-charge-of-2
+    charge-of-requires
     add-turn
     loop-less
     loop-again
+    narrow-requires
     returns)

@@ -4,7 +4,7 @@ use mathlib.Core.Path.{_≡_}
 use Prim.Native.Nat.{ℕ}
 use borrow.Author.Needs.{needs}
 use Rattle.report_lines.specs.Lines.{ringText}
-use Rattle.profibus_plan.specs.declared.answer.RingPeriods.{RingPeriods}
+use Rattle.units.specs.declared.RingPeriods.{RingPeriods}
 use Rattle.text.specs.Text.{word, counted}
 use Rattle.text.proofs.Writing.{wrote-then, counted-then}
 use Rattle.report_lines.proofs.put_ring.Statement.{statement}

@@ -22,29 +22,29 @@ loop-holds c = (search needs, wrote-none)
 add-put-master : tie.Need-add-put-master Inv-loop μ-loop
 add-put-master c = search needs
 
-mul-put-master : tie.Need-mul-put-master Inv-loop μ-loop
-mul-put-master c =
+mul-t14 : tie.Need-mul-t14 Inv-loop μ-loop
+mul-t14 c =
     let start = c .before .before .before .before .before .before .before in
     omega (arith, start .good .1 .1 .0, start .pre)
 
-shared-slice-read-put-master : tie.Need-shared-slice-read-put-master Inv-loop μ-loop
-shared-slice-read-put-master c = search needs
+shared-slice-read-t16 : tie.Need-shared-slice-read-t16 Inv-loop μ-loop
+shared-slice-read-t16 c = search needs
 
-mul-put-master-2 : tie.Need-mul-put-master-2 Inv-loop μ-loop
-mul-put-master-2 c =
+mul-t18 : tie.Need-mul-t18 Inv-loop μ-loop
+mul-t18 c =
     let start = c .before .before .before .before .before .before .before .before in
     omega (arith, start .good .1 .1 .1 .0, start .pre)
 
-shared-slice-read-put-master-2 : tie.Need-shared-slice-read-put-master-2 Inv-loop μ-loop
-shared-slice-read-put-master-2 c = search needs
+shared-slice-read-t20 : tie.Need-shared-slice-read-t20 Inv-loop μ-loop
+shared-slice-read-t20 c = search needs
 
-mul-put-master-3 : tie.Need-mul-put-master-3 Inv-loop μ-loop
-mul-put-master-3 c =
+mul-put-master : tie.Need-mul-put-master Inv-loop μ-loop
+mul-put-master c =
     let start = c .before .before .before .before .before .before .before .before .before in
     omega (arith, start .good .1 .1 .1 .1 .0, start .pre)
 
-shared-slice-read-put-master-3 : tie.Need-shared-slice-read-put-master-3 Inv-loop μ-loop
-shared-slice-read-put-master-3 c = search needs
+shared-slice-read-put-master : tie.Need-shared-slice-read-put-master Inv-loop μ-loop
+shared-slice-read-put-master c = search needs
 
 put-master-requires : tie.Need-put-master-requires Inv-loop μ-loop
 put-master-requires c κs = search needs
@@ -71,4 +71,4 @@ returns c =
 
 pub put-masters-spec : {M : Type 1} → statement M
 put-masters-spec =
-    tie.close (tie.spec Inv-loop μ-loop loop-holds add-put-master mul-put-master shared-slice-read-put-master mul-put-master-2 shared-slice-read-put-master-2 mul-put-master-3 shared-slice-read-put-master-3 put-master-requires add-i loop-less loop-again same-length returns)
+    tie.close (tie.spec Inv-loop μ-loop loop-holds add-put-master mul-t14 shared-slice-read-t16 mul-t18 shared-slice-read-t20 mul-put-master shared-slice-read-put-master put-master-requires add-i loop-less loop-again same-length returns)
