@@ -1,2 +1,4 @@
 pub mod Examples
+pub mod Kept
 pub mod Lengths
+pub mod Whole
