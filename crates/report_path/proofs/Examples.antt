@@ -10,7 +10,7 @@ use Rattle.text.specs.Text.{word, _·_, places, holds, widthOf, decimal, texts}
 use Rattle.report_phrases.specs.Phrases.{inBp, inNs, inBoth, nameOf, placeText, refusedText}
 use Rattle.pnet_path.specs.Path.{senderAt}
 use Rattle.pnet_path.proofs.Examples.{sheet, path}
-use Rattle.report_path.specs.Report.{pathReport, pathAccepts}
+use Rattle.report_path.specs.Report.{pathLines, pathReport, pathAccepts}
 use Rattle.report_path.specs.Told.{mostPath, segmentLine, gatewayLine, hopLines, totalLine, pathText, sheetRefusal, pathPlace, pathRefusal}
 
 -- from the bytes of the sheets: two segments and the gateway between them with the total at the deadline, and above it; twelve segments, and an
@@ -24,7 +24,7 @@ from-bytes : (pathReport (path 2 30 (sheet 2) 2 1060)
     × (pathReport (path 2 30 (sheet 2) 2 1059) ≡ word "refused 19\n")
     × (pathReport (path 12 30 (sheet 2) 2 10000) ≡ word "refused 17 at 11 gateways\n")
     × (pathReport (path 12 30 [] 2 10000) ≡ word "refused 1 at byte 0 of segment 2\n")
-unfolding pathReport sheet senderAt pathText hopLines segmentLine gatewayLine totalLine inBoth inBp inNs nanosUp up nameOf texts sheetRefusal refusedText placeText pathRefusal pathPlace decimal places widthOf holds firstOf
+unfolding pathReport sheet senderAt pathLines pathText hopLines segmentLine gatewayLine totalLine inBoth inBp inNs nanosUp up nameOf texts sheetRefusal refusedText placeText pathRefusal pathPlace decimal places widthOf holds firstOf
 from-bytes = (refl, refl, refl, refl)
 
 -- of these the first is accepted

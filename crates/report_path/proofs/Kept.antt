@@ -9,7 +9,7 @@ use lib.Dec.{ltb}
 use lib.ListN.{length}
 use Rattle.common.proofs.Outside.{inside}
 use Rattle.units.specs.declared.BitPeriods.{BitPeriods}
-use Rattle.pnet_path.specs.Ways.{kept, noBound, answerOf}
+use Rattle.pnet_path.specs.Ways.{answerOf}
 use Rattle.pnet_path.specs.declared.Way.{Way}
 use Rattle.pnet_path.specs.declared.Crossing.{Crossing}
 use Rattle.pnet_path.specs.declared.Crossing.the-variants as crossing

@@ -28,6 +28,7 @@ counts-small (x ∷ xs) [] i p = absurd p
 counts-small (x ∷ xs) (u ∷ us) zero p = p .0 .1 .1 .0 .1
 counts-small (x ∷ xs) (u ∷ us) (suc i) p = counts-small xs us i (p .1)
 
+-- so the lines of a way have room
 short : (w : Way) → ((i : ℕ) → countAt (w .bounds) i .0 < 2 ^ 32) → ((i : ℕ) → countAt (w .times) i .0 < 2 ^ 32) → (total deadline : BitPeriods) → w .segments - 1 ≤ 10
     → total .0 < 2 ^ 32 → deadline .0 < 2 ^ 32 → length (linesOf w total deadline) ≤ mostPath
 unfolding linesOf
