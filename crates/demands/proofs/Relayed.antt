@@ -24,12 +24,12 @@ use Rattle.units.specs.Units.{bp}
 use Rattle.pnet_bounds.specs.Sender.{sound}
 use Rattle.pnet_bounds.proofs.Bounded.{bounded-passes}
 use Rattle.pnet_path.specs.declared.Crossing.the-variants as crossing
-use Rattle.pnet_path.specs.Path.{Path, gateways, sheetAt, boundFrom, boundAt, forwardingAt, segmentStep, gatewayStep, costOver, crossed}
+use Rattle.pnet_path.specs.Path.{Path, gateways, sheetAt, boundFrom, boundAt, senderAt, forwardingAt, segmentStep, gatewayStep, costOver, crossed}
 use Rattle.pnet_path.specs.Refusals.{Present, Sender, Accepted as AcceptedPath}
 use Rattle.pnet_path.proofs.Refusals.{accepted-exactly}
 use Rattle.pnet_path.specs.Ways.{answerOf, wayOver}
 use Rattle.pnet_path.proofs.Whole.{path-handed-over}
-use Rattle.demands.specs.Relayed.{Sent, Forwarded, sent, arrived, through, Asked, Awaited, asked, no-further, sent-on, segmentFrom, segmentAt, senderAt, Exchange, OnItsWay}
+use Rattle.demands.specs.Relayed.{Sent, Forwarded, sent, arrived, through, Asked, Awaited, asked, no-further, sent-on, segmentFrom, segmentAt, Exchange, OnItsWay}
 use Rattle.demands.proofs.Demand3.{accepted-on-bus}
 
 -- ---- Any segments S with their senders k, gateways with their forwarding times F, and a figure R for each segment

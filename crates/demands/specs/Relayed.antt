@@ -15,7 +15,7 @@ use Rattle.sheet_read.specs.Whole.Outcome.{Read, Not}
 use Rattle.pnet_rules.specs.Segment.{Segment, streamOf, segmentOf}
 use Rattle.pnet_run.specs.Run.{Belongs, Request, Answer, answer, Queues, Token, Run}
 use Rattle.pnet_run.specs.Promise.{Spaced, Lasts}
-use Rattle.pnet_path.specs.Path.{Path, gateways, sheetAt, boundAt, forwardingAt}
+use Rattle.pnet_path.specs.Path.{Path, gateways, sheetAt, boundAt, senderAt, forwardingAt}
 
 -- segments S, their senders k, and the forwarding times F of the gateways behind them; a hop is a segment or a gateway
 mutual
@@ -45,7 +45,7 @@ mutual
     no-further : {i a : ℕ} → Awaited S k F R zero i a
     sent-on : {left i a c : ℕ} → c ≤ a + F i → Asked S k F R left (i + 1) c → Awaited S k F R (suc left) i a
 
--- ---- The segments of a path, and who sends there
+-- ---- The segments of a path
 
 -- what a sheet declares; one that is refused declares nothing
 abbrev pub segmentFrom : Outcome → Segment
@@ -55,9 +55,6 @@ segmentFrom (Not n p) = record { masters = 0; number = 0; stream = λ i. streamO
 unfoldable pub segmentAt : Path → ℕ → Segment
 unfolding sheetAt segmentOf
 segmentAt P i = segmentFrom (sheetAt P i)
-
-unfoldable pub senderAt : Path → ℕ → ℕ
-senderAt P i = P .hop i .sender
 
 -- over the whole of P: the request entered the queue of segment 1's sender at the instant a, and the reply was with that sender at b
 abbrev pub Exchange : Path → ℕ → ℕ → Type 0

@@ -11,8 +11,8 @@ use crate::words::from_standard_input;
 use crate::words::is_word;
 use crate::words::serves;
 use crate::words::show_word;
-use pnet_path::Crossing;
 use pnet_path::Way;
+use report_path::Reported;
 use text_entry::Entered;
 use units::BitPeriods;
 ghost use Prim.Native.Nat.{_≤_};
@@ -150,31 +150,12 @@ fn read_sheet(i: usize, sheet: &mut [u8]) -> Input
     input
 }
 
-// The last segment's sheet is refused.
-fn write_sheet_refusal(way: Way) -> u8 {
-    let mut text = io::buffer();
-    let segment = way.segments as u64;
-    let n = report_path::put_sheet_refusal(&mut text, segment, way.no, way.place as u64);
-    output::report(&text, n, REFUSED)
-}
-
-fn write_path_refusal(no: u8, place: usize) -> u8 {
-    let mut text = io::buffer();
-    let n = report_path::put_path_refusal(&mut text, no, place as u64);
-    output::report(&text, n, REFUSED)
-}
-
-fn write_path(way: Way, total: BitPeriods, deadline: BitPeriods) -> u8 {
+fn write_report(way: Way, deadline: BitPeriods) -> u8 {
     let mut text = report_path::text_buffer();
-    let n = report_path::put_path(&mut text, way, total, deadline);
-    output::report(&text, n, ACCEPTED)
-}
-
-fn write_answer(way: Way, deadline: BitPeriods) -> u8 {
-    let crossing = pnet_path::answer(way, deadline);
-    match crossing {
-        Crossing::Within(total) => write_path(way, total, deadline),
-        Crossing::Refused { no, place } => write_path_refusal(no, place),
+    match report_path::report(&mut text, way, deadline) {
+        Reported::Accepted(n) => output::report(&text, n, ACCEPTED),
+        Reported::Refused(n) => output::report(&text, n, REFUSED),
+        Reported::NoRoom => FAILED,
     }
 }
 
@@ -195,11 +176,11 @@ fn cross(segments: usize, deadline: BitPeriods) -> u8
         let time = BitPeriods(number_of(number_at(i)));
         way = pnet_path::over(way, time, &sheet[..n], sender(i + 3));
         if way.refused {
-            return write_sheet_refusal(way);
+            return write_report(way, deadline);
         }
         j += 1;
     }
-    write_answer(way, deadline)
+    write_report(way, deadline)
 }
 
 // Plans the path that so many words say, the program's name and `--path` among them. `DEADLINE bp` alone is a path of no segment.

@@ -165,7 +165,7 @@ sender-tells P i t =
 
 module _ (P : Path) where
   -- n sheets are accepted, and m are still to come
-  behind : (n m : ℕ) → n + m ≡ P .segments → Each (Taken P) n → crossed P ≡ crossedFrom P m (suc n)
+  pub behind : (n m : ℕ) → n + m ≡ P .segments → Each (Taken P) n → crossed P ≡ crossedFrom P m (suc n)
   unfolding crossed crossedFrom
   behind zero m e t = ap (λ (x : ℕ). crossedFrom P x 1) (sym (sym (zero-add m) ∙ e))
   behind (suc n) m e t =
@@ -173,7 +173,7 @@ module _ (P : Path) where
       ∙ ap (λ (o : Outcome). refusedOr o (crossedFrom P m (suc (suc n)))) (t (suc n) (omega arith) (omega arith) .reads)
 
   -- the first that is refused, for itself
-  refused-own : {i n p : ℕ} → FirstBad (Taken P) (Untaken n p P) (P .segments) i → crossed P ≡ answer.Refused n p
+  pub refused-own : {i n p : ℕ} → FirstBad (Taken P) (Untaken n p P) (P .segments) i → crossed P ≡ answer.Refused n p
   unfolding crossedFrom
   refused-own {i = zero} b = absurd (omega (arith, b .from))
   refused-own {i = suc i} b =
@@ -182,11 +182,11 @@ module _ (P : Path) where
       ∙ ap (λ (o : Outcome). refusedOr o (crossedFrom P rest (suc (suc i)))) (b .itself)
 
   -- of the first n either all are accepted or one is the first that is not
-  data Looked (n : ℕ) : Type 0 where
+  pub data Looked (n : ℕ) : Type 0 where
     all : Each (Taken P) n → Looked n
     up-to : {i x p : ℕ} → FirstBad (Taken P) (Untaken x p P) n i → Looked n
 
-  looked : (n : ℕ) → Looked n
+  pub looked : (n : ℕ) → Looked n
   looked zero = all (λ j lo hi. absurd (omega arith))
   looked (suc n) = more (looked n) (sheetAt P (suc n)) refl
     where

@@ -3,13 +3,13 @@ use mathlib.Core.Path.{_≡_, refl, sym, ap, _∙_, subst}
 use mathlib.Core.List.{List}
 use mathlib.Core.Bool.{true, false, not, _||_, or-true}
 use Prim.Native.Nat.{ℕ, zero, suc, _+_, _-_, _^_, _≤_, _<_}
-use native.Mathlib.Nat.{zero-add}
+use native.Mathlib.Nat.{add-zero}
 use native.Mathlib.Numerals.{add-one}
 use native.Mathlib.Decide.{ℕ-discrete, decLe}
 use native.Mathlib.Omega.{arith}
 use borrow.Author.Tests.{eq-eqb}
 use lib.Dec.{eqb}
-use lib.ListN.{length, set, length-set}
+use lib.ListN.{length, set, getD, length-set}
 use lib.Seq.{getD-set-same, getD-set-other}
 use Rattle.sheet_record.specs.Kinds.{within}
 use Rattle.sheet_record.proofs.Ranges.{range-within}
@@ -21,11 +21,17 @@ use Rattle.pnet_rules.specs.Limits.{Declared}
 use Rattle.pnet_rules.proofs.Holds.{silent-by-bound, count-above-masters, count-of-zero}
 use Rattle.pnet_bounds.specs.Sender.{senderOf}
 use Rattle.pnet_bounds.proofs.Bounded.{bounded-declared}
-use Rattle.pnet_path.specs.Path.{Path, gateways, sheetAt, boundAt, boundFrom, forwardingAt, absentIn, absentFrom, absentAt, crossingBy, refusedOr, crossedFrom, crossed}
-use Rattle.pnet_path.specs.Ways.{oneMore, further, stopped, overBy, kept, noBound, answerOf, wayOver}
+use Rattle.units.specs.Units.{bp}
+use Rattle.units.specs.declared.BitPeriods.{BitPeriods}
+use Rattle.pnet_path.specs.Path.{Path, gateways, sheetAt, boundAt, boundFrom, senderAt, forwardingAt, absentIn, absentFrom, absentAt, crossingBy, crossedFrom, crossed}
+use Rattle.pnet_path.specs.Refusals.{Each, FirstBad, Taken, Untaken}
+use Rattle.pnet_path.specs.Ways.{oneMore, further, stopped, overBy, kept, noBound, answerOf, wayOver, HandedOver}
+use Rattle.pnet_path.specs.Ways.HandedOver.{whole, up-to-refused}
 use Rattle.pnet_path.specs.declared.Way.{Way}
 use Rattle.pnet_path.specs.declared.Crossing.the-variants as answer
-use Rattle.pnet_path.proofs.Laws.{over-stays, over-goes, answer-of-others}
+use Rattle.pnet_path.proofs.Laws.{over-stays, over-goes, answer-of-refused, answer-of-others}
+use Rattle.pnet_path.proofs.Refusals.{behind, refused-own, Looked, looked}
+use Rattle.pnet_path.proofs.Refusals.Looked.{all, up-to}
 use Rattle.pnet_path.proofs.Same.{crossing-same}
 
 -- ---- Absent is who has no bound
@@ -56,38 +62,34 @@ silent-is P i = by (sheetAt P i) refl
 -- ---- What is kept behind n segments whose sheets are all accepted
 
 -- a run with places 0..m has the figure f at its places from 1 up to the next one to be stored
-record Holds (f : ℕ → ℕ) (run : List ℕ) (m next : ℕ) : Type 0 where
-  long : length run ≡ m + 1
-  places : (i : ℕ) → 1 ≤ i → i < next → i ≤ m → kept run i ≡ f i
+pub record Holds {A : Type 0} (none : A) (f : ℕ → A) (run : List A) (m next : ℕ) : Type 0 where
+  pub long : length run ≡ m + 1
+  pub places : (i : ℕ) → 1 ≤ i → i < next → i ≤ m → getD run i none ≡ f i
 
-stored : {f : ℕ → ℕ} {run : List ℕ} {m next : ℕ} → Holds f run m next → (x : ℕ) → x ≡ f next → Holds f (set run next x) m (suc next)
-stored {f} {run} {m} {next} h x e =
+stored : {A : Type 0} {none : A} {f : ℕ → A} {run : List A} {m next : ℕ} → Holds none f run m next → (x : A) → x ≡ f next → Holds none f (set run next x) m (suc next)
+stored {A} {none} {f} {run} {m} {next} h x e =
     record { long = length-set run next x ∙ h .long; places = λ i lo hi small. at i lo hi small (ℕ-discrete i next) }
   where
-    at : (i : ℕ) → 1 ≤ i → i < suc next → i ≤ m → Dec (i ≡ next) → kept (set run next x) i ≡ f i
-    at i lo hi small (yes q) = rw q (getD-set-same run next x 0 (omega (arith, q, h .long)) ∙ e)
-    at i lo hi small (no q) = getD-set-other run next i x 0 q ∙ h .places i lo (omega (arith, q)) small
+    at : (i : ℕ) → 1 ≤ i → i < suc next → i ≤ m → Dec (i ≡ next) → getD (set run next x) i none ≡ f i
+    at i lo hi small (yes q) = rw q (getD-set-same run next x none (omega (arith, q, h .long)) ∙ e)
+    at i lo hi small (no q) = getD-set-other run next i x none q ∙ h .places i lo (omega (arith, q)) small
 
-record Kept (P : Path) (n : ℕ) (w : Way) : Type 0 where
-  segments : w .segments ≡ n
-  none-refused : w .refused ≡ false
-  bounds : Holds (boundAt P) (w .bounds) 11 (suc n)
-  times : Holds (forwardingAt P) (w .times) 10 n
+pub record Kept (P : Path) (n : ℕ) (w : Way) : Type 0 where
+  pub segments : w .segments ≡ n
+  pub none-refused : w .refused ≡ false
+  pub masters : Holds 0 (senderAt P) (w .masters) 11 (suc n)
+  pub bounds : Holds (bp 0) (λ i. bp (boundAt P i)) (w .bounds) 11 (suc n)
+  pub times : Holds (bp 0) (λ i. bp (forwardingAt P i)) (w .times) 10 n
+
+-- ---- What is kept up to segment i, whose sheet is refused
+
+pub record Ended (i n p : ℕ) (w : Way) : Type 0 where
+  pub segments : w .segments ≡ i
+  pub refused : w .refused ≡ true
+  pub no : w .no ≡ n
+  pub place : w .place ≡ p
 
 module _ (P : Path) where
-  -- one segment more
-  further-kept : {n : ℕ} {w : Way} → Kept P n w → suc n < 2 ^ 64 → (F k R : ℕ) → F ≡ P .hop (suc n) .forwarding → R ≡ boundAt P (suc n) → Kept P (suc n) (further w F k R)
-  unfolding further oneMore forwardingAt
-  further-kept {n} {w} h few F k R F-is R-is =
-      let next : suc n ≡ w .segments + 1 = omega (arith, h .segments) in
-      let time : F ≡ P .hop (n + 1) .forwarding = F-is ∙ ap (λ (i : ℕ). P .hop i .forwarding) (sym (add-one n)) in
-      record {
-        segments = omega (arith, h .segments);
-        none-refused = h .none-refused;
-        bounds = subst (λ (i : ℕ). Holds (boundAt P) (set (w .bounds) i R) 11 (suc (suc n))) next (stored (h .bounds) R R-is);
-        times = subst (λ (i : ℕ). Holds (forwardingAt P) (set (w .times) i F) 10 (suc n)) (sym (h .segments)) (stored (h .times) F time);
-      }
-
   -- what is kept behind n segments
   abbrev way : ℕ → Way
   way n = wayOver P n
@@ -98,8 +100,25 @@ module _ (P : Path) where
       record {
         segments = refl;
         none-refused = refl;
+        masters = record { long = refl; places = λ i lo hi small. absurd (omega arith) };
         bounds = record { long = refl; places = λ i lo hi small. absurd (omega arith) };
         times = record { long = refl; places = λ i lo hi small. absurd (omega arith) };
+      }
+
+  -- one segment more
+  further-kept : {n : ℕ} {w : Way} → Kept P n w → suc n < 2 ^ 64 → (R : ℕ) → R ≡ boundAt P (suc n)
+      → Kept P (suc n) (further w (P .hop (suc n) .forwarding) (P .hop (suc n) .sender) R)
+  unfolding further oneMore forwardingAt senderAt
+  further-kept {n} {w} h few R R-is =
+      let hop = P .hop (suc n) in
+      let next : suc n ≡ w .segments + 1 = omega (arith, h .segments) in
+      let time : bp (hop .forwarding) ≡ bp (P .hop (n + 1) .forwarding) = ap (λ (i : ℕ). bp (P .hop i .forwarding)) (sym (add-one n)) in
+      record {
+        segments = omega (arith, h .segments);
+        none-refused = h .none-refused;
+        masters = subst (λ (i : ℕ). Holds 0 (senderAt P) (set (w .masters) i (hop .sender)) 11 (suc (suc n))) next (stored (h .masters) (hop .sender) refl);
+        bounds = subst (λ (i : ℕ). Holds (bp 0) (λ j. bp (boundAt P j)) (set (w .bounds) i (bp R)) 11 (suc (suc n))) next (stored (h .bounds) (bp R) (ap bp R-is));
+        times = subst (λ (i : ℕ). Holds (bp 0) (λ j. bp (forwardingAt P j)) (set (w .times) i (bp (hop .forwarding))) 10 (suc n)) (sym (h .segments)) (stored (h .times) (bp (hop .forwarding)) time);
       }
 
   -- the next segment, from what its sheet is
@@ -112,9 +131,16 @@ module _ (P : Path) where
   unfolding boundAt
   kept-more n H is few k =
       let h = P .hop (suc n) in
-      let e : way (suc n) ≡ further (way n) (h .forwarding) (h .sender) (bound (segmentOf H) (h .sender)) = rw is at (way-more n (k .none-refused)) in
-      let b : bound (segmentOf H) (h .sender) ≡ boundAt P (suc n) = rw is in
-      rw e (further-kept k few (h .forwarding) (h .sender) (bound (segmentOf H) (h .sender)) refl b)
+      let R = bound (segmentOf H) (h .sender) in
+      let e : way (suc n) ≡ further (way n) (h .forwarding) (h .sender) R = rw is at (way-more n (k .none-refused)) in
+      let b : R ≡ boundAt P (suc n) = rw is in
+      rw e (further-kept k few R b)
+
+  pub kept-all : (n : ℕ) → n < 2 ^ 64 → Each (Taken P) n → Kept P n (way n)
+  kept-all zero few t = kept-none
+  kept-all (suc n) few t =
+      let last = t (suc n) (omega arith) (omega arith) in
+      kept-more n (last .sheet) (last .reads) few (kept-all n (omega arith) (λ j lo hi. t j lo (omega arith)))
 
   -- behind a refused sheet nothing changes
   way-still : (n : ℕ) → way n .refused ≡ true → way (suc n) ≡ way n
@@ -131,48 +157,48 @@ module _ (P : Path) where
           let same = ih (omega (arith, q)) e in
           way-still k (ap (λ (w : Way). w .refused) same ∙ e) ∙ same
 
-  -- ---- The answers
-
-  abbrev D : ℕ
-  D = P .deadline
-
-  -- no sheet is refused
-  answer-kept : (w : Way) → Kept P (P .segments) w → answerOf w D ≡ crossingBy (boundAt P) (forwardingAt P) (absentAt P) (gateways P) D
-  unfolding noBound
-  answer-kept w k =
-      let g : gateways P ≡ w .segments - 1 = omega (arith, k .segments) in
-      let own = crossingBy (kept (w .bounds)) (kept (w .times)) (noBound (w .bounds)) (gateways P) D in
-      sym (answer-of-others w D (k .none-refused) (gateways P) g own refl)
-      ∙ crossing-same _ _ _ _ _ _ (gateways P) D
-      (λ from to. record {
-        bounds = λ i lo hi. k .bounds .places i lo (omega arith) (omega arith);
-        times = λ i lo hi. k .times .places i lo (omega arith) (omega arith);
-        senders = λ i lo hi. ap (λ (x : ℕ). eqb x 0) (k .bounds .places i lo (omega arith) (omega arith)) ∙ silent-is P i;
-      })
-
-  -- the first refused sheet
-  refused-at : (n x p : ℕ) → n < P .segments → way n .refused ≡ false → sheetAt P (suc n) ≡ Not x p → answerOf (way (P .segments)) D ≡ answer.Refused x p
-  unfolding stopped answerOf
-  refused-at n x p l e is =
-      let stop : way (suc n) ≡ stopped (way n) x p = rw is at (way-more n e) in
-      let last = way-stays (P .segments) (suc n) l (ap (λ (w : Way). w .refused) stop) in
-      ap (λ (w : Way). answerOf w D) (last ∙ stop)
+  -- so it is all the same whether the segments behind it are handed over
+  pub handed-over-alike : {n : ℕ} → HandedOver P n → way n ≡ way (P .segments)
+  handed-over-alike whole = refl
+  handed-over-alike {n} (up-to-refused l e) = sym (way-stays (P .segments) n l e)
 
   module _ (few : P .segments < 2 ^ 64) where
-    -- n segments are handed over, and m are still to come
-    handed-over : (m n : ℕ) → n + m ≡ P .segments → Kept P n (way n) → answerOf (way (P .segments)) D ≡ crossedFrom P m (suc n)
-    unfolding crossedFrom
-    handed-over zero n e k =
-        let q : n ≡ P .segments = omega arith in
-        answer-kept (way (P .segments)) (subst (λ (x : ℕ). Kept P x (way x)) q k)
-    handed-over (suc m) n e k = by (sheetAt P (suc n)) refl (handed-over m (suc n))
-      where
-        by : (o : Outcome) → sheetAt P (suc n) ≡ o
-            → (suc n + m ≡ P .segments → Kept P (suc n) (way (suc n)) → answerOf (way (P .segments)) D ≡ crossedFrom P m (suc (suc n)))
-            → answerOf (way (P .segments)) D ≡ refusedOr o (crossedFrom P m (suc (suc n)))
-        by (Read H) is ih = ih (omega arith) (kept-more n H is (omega arith) k)
-        by (Not x p) is ih = refused-at n x p (omega arith) (k .none-refused) is
+    pub ended : {i n p : ℕ} → FirstBad (Taken P) (Untaken n p P) (P .segments) i → Ended i n p (way (P .segments))
+    unfolding stopped oneMore
+    ended {i = zero} b = absurd (omega (arith, b .from))
+    ended {i = suc i} {n = n} {p = p} b =
+        let k = kept-all i (omega (arith, b .to)) (λ j lo hi. b .before j lo (omega arith)) in
+        let stop : way (suc i) ≡ stopped (way i) n p = rw (b .itself) at (way-more i (k .none-refused)) in
+        let last = way-stays (P .segments) (suc i) (b .to) (ap (λ (w : Way). w .refused) stop) ∙ stop in
+        rw last (record { segments = omega (arith, k .segments, b .to); refused = refl; no = refl; place = refl })
+
+-- ---- The answers
+
+-- no sheet is refused
+answer-kept : (P : Path) (w : Way) → Kept P (P .segments) w
+    → answerOf w (P .deadline) ≡ crossingBy (boundAt P) (forwardingAt P) (absentAt P) (gateways P) (P .deadline)
+unfolding noBound
+answer-kept P w k =
+    let D = P .deadline in
+    let g : gateways P ≡ w .segments - 1 = omega (arith, k .segments) in
+    let own = crossingBy (kept (w .bounds)) (kept (w .times)) (noBound (w .bounds)) (gateways P) D in
+    let count : BitPeriods → ℕ = λ b. b .0 in
+    sym (answer-of-others w D (k .none-refused) (gateways P) g own refl)
+    ∙ crossing-same _ _ _ _ _ _ (gateways P) D
+    (λ from to. record {
+      bounds = λ i lo hi. ap count (k .bounds .places i lo (omega arith) (omega arith));
+      times = λ i lo hi. ap count (k .times .places i lo (omega arith) (omega arith));
+      senders = λ i lo hi. ap (λ (b : BitPeriods). eqb (b .0) 0) (k .bounds .places i lo (omega arith) (omega arith)) ∙ silent-is P i;
+    })
+
+-- the sheet of segment i is refused
+answer-ended : {i n p : ℕ} (w : Way) (D : ℕ) → Ended i n p w → answerOf w D ≡ answer.Refused n p
+answer-ended w D e = sym (answer-of-refused w D (e .refused)) ∙ rw (e .no, e .place) refl
 
 pub path-handed-over : (P : Path) → P .segments < 2 ^ 64 → answerOf (wayOver P (P .segments)) (P .deadline) ≡ crossed P
-unfolding crossed
-path-handed-over P few = handed-over P few (P .segments) 0 (zero-add (P .segments)) (kept-none P)
+unfolding crossedFrom
+path-handed-over P few = split (looked P (P .segments))
+  where
+    split : Looked P (P .segments) → answerOf (wayOver P (P .segments)) (P .deadline) ≡ crossed P
+    split (all t) = answer-kept P _ (kept-all P (P .segments) few t) ∙ sym (behind P (P .segments) 0 (add-zero (P .segments)) t)
+    split (up-to b) = answer-ended _ (P .deadline) (ended P few b) ∙ sym (refused-own P b)

@@ -53,6 +53,10 @@ unfoldable pub boundAt : Path → ℕ → ℕ
 unfolding sheetAt bound segmentOf
 boundAt P i = boundFrom (sheetAt P i) (P .hop i .sender)
 
+-- the master that sends on segment i
+unfoldable pub senderAt : Path → ℕ → ℕ
+senderAt P i = P .hop i .sender
+
 -- F: the forwarding time of gateway i
 unfoldable pub forwardingAt : Path → ℕ → ℕ
 forwardingAt P i = P .hop (i + 1) .forwarding

@@ -1,5 +1,6 @@
 -- Page 02, 'Ask 4': what is kept of a path that is handed over segment by segment, and what it answers. Assumes nothing.
-use Prim.Native.Nat.{ℕ, zero, suc, _+_, _-_, _^_, min}
+use mathlib.Core.Path.{_≡_}
+use Prim.Native.Nat.{ℕ, zero, suc, _+_, _-_, _^_, _≤_, min}
 use mathlib.Core.List.{List}
 use mathlib.Core.Bool.{Bool, true, false, cond}
 use lib.ListN.{replicate, set, getD}
@@ -8,6 +9,8 @@ use Rattle.pnet_bounds.specs.Bounded.{bounded}
 use Rattle.pnet_bounds.specs.Sender.{sound, senderOf}
 use Rattle.pnet_bounds.specs.declared.Sender.{Sender}
 use Rattle.pnet_bounds.specs.declared.Sender.the-variants as sender
+use Rattle.units.specs.Units.{bp}
+use Rattle.units.specs.declared.BitPeriods.{BitPeriods}
 use Rattle.pnet_path.specs.Path.{Path, crossingBy}
 use Rattle.pnet_path.specs.declared.Way.{Way}
 use Rattle.pnet_path.specs.declared.Crossing.{Crossing}
@@ -23,8 +26,8 @@ started = record {
   no = 0;
   place = 0;
   masters = replicate 12 0;
-  bounds = replicate 12 0;
-  times = replicate 11 0;
+  bounds = replicate 12 (bp 0);
+  times = replicate 11 (bp 0);
 }
 
 -- one segment more, as far as 64 bits count
@@ -40,8 +43,8 @@ further w F k R = record {
   no = w .no;
   place = w .place;
   masters = set (w .masters) (w .segments + 1) k;
-  bounds = set (w .bounds) (w .segments + 1) R;
-  times = set (w .times) (w .segments) F;
+  bounds = set (w .bounds) (w .segments + 1) (bp R);
+  times = set (w .times) (w .segments) (bp F);
 }
 
 -- a segment whose sheet is refused: it is the last
@@ -69,11 +72,12 @@ overTo w F s k = cond (w .refused) w (overBy w F k (senderOf (sound s) k))
 
 -- ---- The answer
 
-abbrev pub kept : List ℕ → ℕ → ℕ
-kept l i = getD l i 0
+-- what stands at place i of a run of counts
+abbrev pub kept : List BitPeriods → ℕ → ℕ
+kept l i = getD l i (bp 0) .0
 
 -- no R of a master with streams is 0
-unfoldable pub noBound : List ℕ → ℕ → Bool
+unfoldable pub noBound : List BitPeriods → ℕ → Bool
 noBound l i = eqb (kept l i) 0
 
 unfoldable pub answerOf : Way → ℕ → Crossing
@@ -87,3 +91,8 @@ unfoldable pub wayOver : Path → ℕ → Way
 unfolding overTo
 wayOver P zero = started
 wayOver P (suc n) = overTo (wayOver P n) (P .hop (suc n) .forwarding) (P .hop (suc n) .sheet) (P .hop (suc n) .sender)
+
+-- P is handed over with its first n segments: they are all, or the sheet of one is refused, and nothing behind it is looked at
+pub data HandedOver (P : Path) : ℕ → Type 0 where
+  whole : HandedOver P (P .segments)
+  up-to-refused : {n : ℕ} → n ≤ P .segments → wayOver P n .refused ≡ true → HandedOver P n

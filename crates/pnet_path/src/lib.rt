@@ -1,5 +1,6 @@
 // A path over several P-NET segments, page 02 'Ask 4'. It is handed over segment by segment, each with the gateway that leads to it, so
-// a list of forwarding times of another length cannot be said, and no run is lent. What is kept has a place for each of eleven segments.
+// a list of forwarding times of another length cannot be said, and no run is lent. What is kept has a place for each of eleven segments. Its
+// runs of bit periods go by value: a reference to an array of structs would be proved by hand.
 use pnet_bounds::Sender;
 use units::BitPeriods;
 ghost use mathlib.Core.Path.{_≡_};
@@ -17,8 +18,8 @@ pub struct Way {
     pub no: u8,
     pub place: usize,
     pub masters: [u8; 12],
-    pub bounds: [u32; 12],
-    pub times: [u32; 11],
+    pub bounds: [BitPeriods; 12],
+    pub times: [BitPeriods; 11],
 }
 
 // What a path costs, or the refusal's number and place.
@@ -37,8 +38,8 @@ pub fn start() -> Way
         no: 0,
         place: 0,
         masters: [0; 12],
-        bounds: [0; 12],
-        times: [0; 11],
+        bounds: [BitPeriods(0); 12],
+        times: [BitPeriods(0); 11],
     }
 }
 
@@ -52,8 +53,8 @@ fn one_more(n: usize) -> usize
 }
 
 // One segment more: its sender and R, and the forwarding time of the gateway before it.
-fn further(way: Way, time: u32, master: u8, bound: u32) -> Way
-    ensures { λ r. ⌜ r ≡ Ways.further way time master bound ⌝ }
+fn further(way: Way, time: BitPeriods, master: u8, bound: BitPeriods) -> Way
+    ensures { λ r. ⌜ r ≡ Ways.further way (time .0) master (bound .0) ⌝ }
 {
     let n = way.segments;
     let mut next = way;
@@ -89,21 +90,21 @@ pub fn over(way: Way, forwarding: BitPeriods, s: &[u8], master: u8) -> Way
     }
     let sender = pnet_bounds::bound_of(s, master);
     match sender {
-        Sender::Bound(bound) => further(way, forwarding.0, master, bound.0),
+        Sender::Bound(bound) => further(way, forwarding, master, bound),
         Sender::Refused { no, place } => stopped(way, no, place),
     }
 }
 
-fn wide(x: u32) -> u64
-    ensures { λ r. ⌜ (r ≡ x) × (r < 4294967296) ⌝ }
+fn wide(b: BitPeriods) -> u64
+    ensures { λ r. ⌜ (r ≡ b .0) × (r < 4294967296) ⌝ }
 {
-    x as u64
+    b.0 as u64
 }
 
 // The segment step: what segment i and all behind it cost, with so many hops left, this one among them.
-fn segment_step(bounds: &[u32; 12], times: &[u32; 11], i: usize, left: usize) -> u64
+fn segment_step(bounds: [BitPeriods; 12], times: [BitPeriods; 11], i: usize, left: usize) -> u64
     requires { ⌜ i + i + left ≤ 23 ⌝ }
-    ensures { λ r. ⌜ (r ≡ segmentStep (kept (now (bounds .entry))) (kept (now (times .entry))) left i) × (r ≤ left * 8589934592) ⌝ }
+    ensures { λ r. ⌜ (r ≡ segmentStep (kept bounds) (kept times) left i) × (r ≤ left * 8589934592) ⌝ }
 {
     if left == 0 {
         return 0;
@@ -113,9 +114,9 @@ fn segment_step(bounds: &[u32; 12], times: &[u32; 11], i: usize, left: usize) ->
 }
 
 // The gateway step: the gateway behind segment i forwards the request, the rest of the path follows, and it forwards the reply.
-fn gateway_step(bounds: &[u32; 12], times: &[u32; 11], i: usize, left: usize) -> u64
+fn gateway_step(bounds: [BitPeriods; 12], times: [BitPeriods; 11], i: usize, left: usize) -> u64
     requires { ⌜ i + i + left ≤ 22 ⌝ }
-    ensures { λ r. ⌜ (r ≡ gatewayStep (kept (now (bounds .entry))) (kept (now (times .entry))) left i) × (r ≤ left * 8589934592) ⌝ }
+    ensures { λ r. ⌜ (r ≡ gatewayStep (kept bounds) (kept times) left i) × (r ≤ left * 8589934592) ⌝ }
 {
     if left == 0 {
         return 0;
@@ -127,13 +128,14 @@ fn gateway_step(bounds: &[u32; 12], times: &[u32; 11], i: usize, left: usize) ->
 }
 
 // The first of n gateways with a forwarding time out of range, and n + 1 where there is none.
-fn first_too_long(times: &[u32; 11], n: usize) -> usize
+fn first_too_long(times: [BitPeriods; 11], n: usize) -> usize
     requires { ⌜ n ≤ 10 ⌝ }
-    ensures { λ r. ⌜ r ≡ firstOf (tooLong (kept (now (times .entry)))) n 1 ⌝ }
+    ensures { λ r. ⌜ r ≡ firstOf (tooLong (kept times)) n 1 ⌝ }
 {
     let mut i: usize = 1;
     while i <= n {
-        if times[i] > 1_000_000 {
+        let time = times[i];
+        if time.0 > 1_000_000 {
             return i;
         }
         i += 1;
@@ -142,13 +144,14 @@ fn first_too_long(times: &[u32; 11], n: usize) -> usize
 }
 
 // The first of n segments whose sender has no streams, and n + 1 where there is none.
-fn first_without(bounds: &[u32; 12], n: usize) -> usize
+fn first_without(bounds: [BitPeriods; 12], n: usize) -> usize
     requires { ⌜ n ≤ 11 ⌝ }
-    ensures { λ r. ⌜ r ≡ firstOf (noBound (now (bounds .entry))) n 1 ⌝ }
+    ensures { λ r. ⌜ r ≡ firstOf (noBound bounds) n 1 ⌝ }
 {
     let mut i: usize = 1;
     while i <= n {
-        if bounds[i] == 0 {
+        let bound = bounds[i];
+        if bound.0 == 0 {
             return i;
         }
         i += 1;
@@ -157,15 +160,20 @@ fn first_without(bounds: &[u32; 12], n: usize) -> usize
 }
 
 // What 1 to 10 gateways answer.
-fn cross(bounds: &[u32; 12], times: &[u32; 11], gateways: usize, deadline: u32) -> Crossing
+fn cross(
+    bounds: [BitPeriods; 12],
+    times: [BitPeriods; 11],
+    gateways: usize,
+    deadline: BitPeriods,
+) -> Crossing
     requires { ⌜ (1 ≤ gateways) × (gateways ≤ 10) ⌝ }
-    ensures { λ r. ⌜ r ≡ crossingBy (kept (now (bounds .entry))) (kept (now (times .entry))) (noBound (now (bounds .entry))) gateways deadline ⌝ }
+    ensures { λ r. ⌜ r ≡ crossingBy (kept bounds) (kept times) (noBound bounds) gateways (deadline .0) ⌝ }
 {
     let long = first_too_long(times, gateways);
     if long <= gateways {
         return Crossing::Refused { no: 4, place: long };
     }
-    if (deadline < 1) | (deadline > 1_000_000_000) {
+    if (deadline.0 < 1) | (deadline.0 > 1_000_000_000) {
         return Crossing::Refused { no: 4, place: 0 };
     }
     let without = first_without(bounds, gateways + 1);
@@ -176,7 +184,7 @@ fn cross(bounds: &[u32; 12], times: &[u32; 11], gateways: usize, deadline: u32) 
         };
     }
     let cost = segment_step(bounds, times, 1, 2 * gateways + 1);
-    if cost > deadline as u64 {
+    if cost > deadline.0 as u64 {
         return Crossing::Refused { no: 19, place: 0 };
     }
     Crossing::Within(BitPeriods(cost as u32))
@@ -210,5 +218,5 @@ pub fn answer(way: Way, deadline: BitPeriods) -> Crossing
     }
     let bounds = way.bounds;
     let times = way.times;
-    cross(&bounds, &times, gateways, deadline.0)
+    cross(bounds, times, gateways, deadline)
 }

@@ -1,12 +1,10 @@
--- No report of a path is longer than `mostPath`, so a run of so many bytes holds every one; no refusal is longer than 100 bytes, which the
--- 4,096 of the kit's `io::buffer` hold. Assumes nothing.
+-- No report of a path is longer than `mostPath`, so a run of so many bytes holds every one. Assumes nothing.
 use mathlib.Core.List.{_++_}
 use mathlib.Core.Bool.{Bool, true, false, cond}
 use Prim.Native.Nat.{ℕ, _+_, _^_, _≤_, _<_}
 use native.Mathlib.Omega.{arith}
 use lib.Dec.{eqb}
 use lib.ListN.{length, length-append}
-use Rattle.units.specs.Units.{bp}
 use Rattle.units.specs.declared.BitPeriods.{BitPeriods}
 use Rattle.text.specs.Text.{word, decimal, texts}
 use Rattle.text.proofs.Numbers.{length-places}
@@ -34,12 +32,12 @@ total-most total deadline t d = simp length-append (omega (arith, both-most tota
 
 -- ---- The report
 
-module _ (masters bounds times : ℕ → ℕ) (b : (i : ℕ) → bounds i < 2 ^ 32) (t : (i : ℕ) → times i < 2 ^ 32) where
+module _ (masters : ℕ → ℕ) (bounds times : ℕ → BitPeriods) (b : (i : ℕ) → bounds i .0 < 2 ^ 32) (t : (i : ℕ) → times i .0 < 2 ^ 32) where
   hop-most : (i : ℕ) → i < 10 → length (hopLines masters bounds times i) ≤ 88
   unfolding hopLines
   hop-most i few =
-      let time = bp (times (i + 1)) in
-      let bound = bp (bounds (i + 2)) in
+      let time = times (i + 1) in
+      let bound = bounds (i + 2) in
       omega (
         arith,
         length-append (gatewayLine (i + 1) time) (segmentLine (i + 2) (masters (i + 2)) bound),
@@ -51,22 +49,22 @@ module _ (masters bounds times : ℕ → ℕ) (b : (i : ℕ) → bounds i < 2 ^ 
       → length (pathText masters bounds times g total deadline) ≤ mostPath
   unfolding pathText
   no-path-longer g total deadline few s d =
-      let first = segmentLine 1 (masters 1) (bp (bounds 1)) in
+      let first = segmentLine 1 (masters 1) (bounds 1) in
       let hops = texts (hopLines masters bounds times) g in
       omega (
         arith,
         length-append first (hops ++ totalLine total deadline),
         length-append hops (totalLine total deadline),
-        segment-most 1 (masters 1) (bp (bounds 1)) (omega arith) (b 1),
+        segment-most 1 (masters 1) (bounds 1) (omega arith) (b 1),
         texts-most (hopLines masters bounds times) 88 g (λ i h. hop-most i (omega arith)),
         total-most total deadline s d,
       )
 
 -- ---- Refusals
 
-pub sheet-refusal-most : (segment n p : ℕ) → length (sheetRefusal segment n p) ≤ 100
+pub no-sheet-refusal-longer : (segment n p : ℕ) → length (sheetRefusal segment n p) ≤ mostPath
 unfolding sheetRefusal
-sheet-refusal-most segment n p = simp length-append (omega (arith, refused-most n p, decimal-any segment))
+no-sheet-refusal-longer segment n p = simp length-append (omega (arith, refused-most n p, decimal-any segment))
 
 place-most : (n p : ℕ) → length (pathPlace n p) ≤ 35
 unfolding pathPlace
@@ -81,6 +79,6 @@ place-most n p = split (eqb n 17) (eqb n 18) (eqb n 4) (eqb p 0)
     split false false true false = simp length-append (omega (arith, decimal-any p))
     split false false false d = omega arith
 
-pub path-refusal-most : (n p : ℕ) → length (pathRefusal n p) ≤ 100
+pub no-path-refusal-longer : (n p : ℕ) → length (pathRefusal n p) ≤ mostPath
 unfolding pathRefusal
-path-refusal-most n p = omega (arith, length-append (decimal n) (pathPlace n p), decimal-any n, place-most n p)
+no-path-refusal-longer n p = omega (arith, length-append (decimal n) (pathPlace n p), decimal-any n, place-most n p)

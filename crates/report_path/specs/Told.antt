@@ -4,7 +4,6 @@ use Prim.Native.Nat.{ℕ, _+_}
 use mathlib.Core.List.{List}
 use mathlib.Core.Bool.{cond}
 use lib.Dec.{eqb}
-use Rattle.units.specs.Units.{bp}
 use Rattle.units.specs.declared.BitPeriods.{BitPeriods}
 use Rattle.text.specs.Text.{word, decimal, _·_, texts}
 use Rattle.report_phrases.specs.Phrases.{nameOf, inBp, inBoth, refusedText}
@@ -23,9 +22,9 @@ segmentLine number master bound = word "segment " · decimal number · word " " 
 unfoldable pub gatewayLine : ℕ → BitPeriods → List ℕ
 gatewayLine number time = word "gateway " · decimal number · word " request " · inBp time · word " reply " · inBp time · word "\n"
 
--- gateway i + 1, and the segment behind it: place i of a run is for segment i, or for gateway i
-unfoldable pub hopLines : (ℕ → ℕ) → (ℕ → ℕ) → (ℕ → ℕ) → ℕ → List ℕ
-hopLines masters bounds times i = gatewayLine (i + 1) (bp (times (i + 1))) · segmentLine (i + 2) (masters (i + 2)) (bp (bounds (i + 2)))
+-- gateway i + 1, and the segment behind it: masters and bounds are told by the segment, times by the gateway
+unfoldable pub hopLines : (ℕ → ℕ) → (ℕ → BitPeriods) → (ℕ → BitPeriods) → ℕ → List ℕ
+hopLines masters bounds times i = gatewayLine (i + 1) (times (i + 1)) · segmentLine (i + 2) (masters (i + 2)) (bounds (i + 2))
 
 -- ---- The report
 
@@ -34,9 +33,9 @@ unfoldable pub totalLine : BitPeriods → BitPeriods → List ℕ
 totalLine total deadline = word "total " · inBoth total · word " deadline " · inBp deadline · word "\n"
 
 -- of a path with g gateways
-unfoldable pub pathText : (ℕ → ℕ) → (ℕ → ℕ) → (ℕ → ℕ) → ℕ → BitPeriods → BitPeriods → List ℕ
+unfoldable pub pathText : (ℕ → ℕ) → (ℕ → BitPeriods) → (ℕ → BitPeriods) → ℕ → BitPeriods → BitPeriods → List ℕ
 pathText masters bounds times g total deadline =
-    word "P-NET path\n" · segmentLine 1 (masters 1) (bp (bounds 1)) · texts (hopLines masters bounds times) g · totalLine total deadline
+    word "P-NET path\n" · segmentLine 1 (masters 1) (bounds 1) · texts (hopLines masters bounds times) g · totalLine total deadline
 
 -- ---- Refusals
 

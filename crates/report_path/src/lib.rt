@@ -1,5 +1,6 @@
-// The report of a path over several P-NET segments, page 02 'Ask 4'. What does not fit into the lent run is left out; each function
+// The report of a path over several P-NET segments, page 02 'Ask 4'. What does not fit into the lent run is left out; each inner function
 // answers the place just after what it wrote.
+use pnet_path::Crossing;
 use pnet_path::Way;
 use report_phrases::put_both;
 use report_phrases::put_bp;
@@ -9,13 +10,23 @@ use text::put_word;
 use units::BitPeriods;
 ghost use mathlib.Core.Path.{_≡_};
 ghost use mathlib.Core.List.{_++_};
-ghost use Prim.Native.Nat.{_-_, _≤_, min};
+ghost use Prim.Native.Nat.{_≤_};
+ghost use lib.ListN.{length};
 ghost use Rattle.text.specs.Text.{Zeros, Wrote, word, item, texts};
 ghost use Rattle.report_phrases.specs.Phrases.{inBp};
-ghost use Rattle.report_path.specs.Told.{mostPath, segmentLine, gatewayLine, hopLines, totalLine, pathText, sheetRefusal, pathPlace, pathRefusal};
+ghost use Rattle.report_path.specs.Told.{mostPath, segmentLine, gatewayLine, hopLines, totalLine, sheetRefusal, pathPlace, pathRefusal};
+ghost use Rattle.report_path.specs.Kept.{countAt, linesOf, reportOf, acceptsOf, toldIn, runWith};
 
 // No report of a path is longer.
 pub const MOST_TEXT: usize = 987;
+
+// What writing a report answers: how many bytes it takes, for a path that is accepted and for one that is refused; or that the lent run
+// is shorter than some report may be.
+pub enum Reported {
+    Accepted(usize),
+    Refused(usize),
+    NoRoom,
+}
 
 // Room for every report of a path.
 pub fn text_buffer() -> [u8; MOST_TEXT]
@@ -53,24 +64,18 @@ fn put_hops(
     out: &mut [u8],
     at: usize,
     n: usize,
-    masters: &[u8; 12],
-    bounds: &[u32; 12],
-    times: &[u32; 11],
+    masters: [u8; 12],
+    bounds: [BitPeriods; 12],
+    times: [BitPeriods; 11],
 ) -> usize
     requires { ⌜ n ≤ 10 ⌝ }
-    ensures { λ r. ⌜ Wrote (now (out .entry)) at (texts (hopLines (item (now (masters .entry))) (item (now (bounds .entry))) (item (now (times .entry)))) n) (now (out .exit)) r ⌝ }
+    ensures { λ r. ⌜ Wrote (now (out .entry)) at (texts (hopLines (item masters) (countAt bounds) (countAt times)) n) (now (out .exit)) r ⌝ }
 {
     let mut next = at;
     let mut i: usize = 0;
     while i < n {
-        let segment = put_gateway(out, next, i as u64 + 1, BitPeriods(times[i + 1]));
-        next = put_segment(
-            out,
-            segment,
-            i as u64 + 2,
-            masters[i + 2],
-            BitPeriods(bounds[i + 2]),
-        );
+        let segment = put_gateway(out, next, i as u64 + 1, times[i + 1]);
+        next = put_segment(out, segment, i as u64 + 2, masters[i + 2], bounds[i + 2]);
         i += 1;
     }
     next
@@ -83,36 +88,23 @@ fn put_total(out: &mut [u8], at: usize, total: BitPeriods, deadline: BitPeriods)
     put_end(out, next, b" deadline ", deadline)
 }
 
-// The gateways of so many segments, of which eleven are shown.
-fn shown(segments: usize) -> usize
-    ensures { λ r. ⌜ r ≡ min (segments - 1) 10 ⌝ }
+// The lines of a path that is accepted: it has eleven segments at most, and all are kept.
+fn put_path(out: &mut [u8], way: Way, total: BitPeriods, deadline: BitPeriods) -> usize
+    requires { ⌜ (1 ≤ way .segments) × (way .segments ≤ 11) ⌝ }
+    ensures { λ r. ⌜ Wrote (now (out .entry)) 0 (linesOf way total deadline) (now (out .exit)) r ⌝ }
 {
-    if segments == 0 {
-        return 0;
-    }
-    if segments < 11 {
-        return segments - 1;
-    }
-    10
-}
-
-// Writes the report at the start of the lent run. More than eleven segments count as eleven.
-pub fn put_path(out: &mut [u8], way: Way, total: BitPeriods, deadline: BitPeriods) -> usize
-    ensures { λ r. ⌜ Wrote (now (out .entry)) 0 (pathText (item (way .masters)) (item (way .bounds)) (item (way .times)) (min (way .segments - 1) 10) total deadline) (now (out .exit)) r ⌝ }
-{
-    let n = shown(way.segments);
+    let n = way.segments - 1;
     let masters = way.masters;
     let bounds = way.bounds;
     let times = way.times;
     let first = put_word(out, 0, b"P-NET path\n");
-    let bound = bounds[1];
-    let hops = put_segment(out, first, 1, masters[1], BitPeriods(bound));
-    let last = put_hops(out, hops, n, &masters, &bounds, &times);
+    let hops = put_segment(out, first, 1, masters[1], bounds[1]);
+    let last = put_hops(out, hops, n, masters, bounds, times);
     put_total(out, last, total, deadline)
 }
 
-// Writes the report of a path with a sheet that is refused, that of this segment.
-pub fn put_sheet_refusal(out: &mut [u8], segment: u64, no: u8, place: u64) -> usize
+// The sheet of this segment is refused for itself.
+fn put_sheet_refusal(out: &mut [u8], segment: u64, no: u8, place: u64) -> usize
     ensures { λ r. ⌜ Wrote (now (out .entry)) 0 (sheetRefusal segment no place) (now (out .exit)) r ⌝ }
 {
     let next = report_phrases::put_refused(out, 0, no, place, b" of segment ");
@@ -138,10 +130,31 @@ fn put_path_place(out: &mut [u8], at: usize, no: u8, place: u64) -> usize
     put_counted(out, at, b" at gateway ", place, b"\n")
 }
 
-// Writes the report of a path that is refused for itself.
-pub fn put_path_refusal(out: &mut [u8], no: u8, place: u64) -> usize
+// The path is refused for itself.
+fn put_path_refusal(out: &mut [u8], no: u8, place: u64) -> usize
     ensures { λ r. ⌜ Wrote (now (out .entry)) 0 (pathRefusal no place) (now (out .exit)) r ⌝ }
 {
     let next = put_counted(out, 0, b"refused ", no as u64, b"");
     put_path_place(out, next, no, place)
+}
+
+// Writes the report of the path that was handed over, with its deadline, at the start of the lent run; later bytes keep what they had.
+pub fn report(out: &mut [u8], way: Way, deadline: BitPeriods) -> Reported
+    ensures { λ r. ⌜ r ≡ toldIn (length (now (out .entry))) (acceptsOf way deadline) (reportOf way deadline) ⌝ }
+    ensures { λ r. ⌜ now (out .exit) ≡ runWith (now (out .entry)) (reportOf way deadline) ⌝ }
+{
+    if out.len() < MOST_TEXT {
+        return Reported::NoRoom;
+    }
+    if way.refused {
+        let segment = way.segments as u64;
+        return Reported::Refused(put_sheet_refusal(out, segment, way.no, way.place as u64));
+    }
+    let crossing = pnet_path::answer(way, deadline);
+    match crossing {
+        Crossing::Within(total) => Reported::Accepted(put_path(out, way, total, deadline)),
+        Crossing::Refused { no, place } => {
+            Reported::Refused(put_path_refusal(out, no, place as u64))
+        }
+    }
 }

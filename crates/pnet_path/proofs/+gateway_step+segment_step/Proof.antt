@@ -4,7 +4,6 @@ use native.Mathlib.Omega.{arith}
 use borrow.Author.Needs.{needs}
 use borrow.Fn.Kinds.{In}
 use borrow.Fn.PlainCycle.{Measures, is, falls, and}
-use denote.Ref.{now}
 use Rattle.pnet_path.specs.Ways.{kept}
 use Rattle.pnet_path.proofs.Laws.{segment-none, segment-more, gateway-none, gateway-more}
 use Rattle.pnet_path.proofs.gateway_step.Reads as gateway-step
@@ -18,25 +17,25 @@ use Rattle.pnet_path.proofs.+gateway_step+segment_step.{statement}
 use Rattle.pnet_path.proofs.+gateway_step+segment_step.Tie.{close}
 
 -- the hops left
-abbrev μ-gateway-step : Measures 2 gateway-step-kinds.ps ℕ
+abbrev μ-gateway-step : Measures 0 gateway-step-kinds.ps ℕ
 μ-gateway-step κs a = a .1 .1 .1 .0
 
-abbrev μ-segment-step : Measures 2 segment-step-kinds.ps ℕ
+abbrev μ-segment-step : Measures 0 segment-step-kinds.ps ℕ
 μ-segment-step κs a = a .1 .1 .1 .0
 
--- with t hops left, each step may call the other with fewer
+-- with t hops left, each step may call the other with fewer; an array that a step reads from goes by its number as an argument, t1 or t2
 module _ (t : ℕ) where
-  abbrev gateway-at : In 2 gateway-step-kinds.ps
-  gateway-at = and 2 gateway-step-kinds.ps (is 2 gateway-step-kinds.ps μ-gateway-step t) gateway-step.Pre
+  abbrev gateway-at : In 0 gateway-step-kinds.ps
+  gateway-at = and 0 gateway-step-kinds.ps (is 0 gateway-step-kinds.ps μ-gateway-step t) gateway-step.Pre
 
-  abbrev gateway-below : In 2 gateway-step-kinds.ps
-  gateway-below = and 2 gateway-step-kinds.ps (falls 2 gateway-step-kinds.ps _<_ μ-gateway-step t) gateway-step.Pre
+  abbrev gateway-below : In 0 gateway-step-kinds.ps
+  gateway-below = and 0 gateway-step-kinds.ps (falls 0 gateway-step-kinds.ps _<_ μ-gateway-step t) gateway-step.Pre
 
-  abbrev segment-at : In 2 segment-step-kinds.ps
-  segment-at = and 2 segment-step-kinds.ps (is 2 segment-step-kinds.ps μ-segment-step t) segment-step.Pre
+  abbrev segment-at : In 0 segment-step-kinds.ps
+  segment-at = and 0 segment-step-kinds.ps (is 0 segment-step-kinds.ps μ-segment-step t) segment-step.Pre
 
-  abbrev segment-below : In 2 segment-step-kinds.ps
-  segment-below = and 2 segment-step-kinds.ps (falls 2 segment-step-kinds.ps _<_ μ-segment-step t) segment-step.Pre
+  abbrev segment-below : In 0 segment-step-kinds.ps
+  segment-below = and 0 segment-step-kinds.ps (falls 0 segment-step-kinds.ps _<_ μ-segment-step t) segment-step.Pre
 
   abbrev gateway-calls : gateway-step-lts.Claims
   gateway-calls = (wide-reads.Asked, wide-reads.Learnt, segment-below, segment-step.Post)
@@ -52,8 +51,8 @@ module _ (t : ℕ) where
   gateway-mul-wide : gateway-step-lts.Need-mul-wide gateway-calls gateway-at gateway-step.Post
   gateway-mul-wide c = search needs
 
-  gateway-element-copy-out-wide : gateway-step-lts.Need-element-copy-out-wide gateway-calls gateway-at gateway-step.Post
-  gateway-element-copy-out-wide c = search needs
+  gateway-array-copy-out-wide : gateway-step-lts.Need-array-copy-out-wide gateway-calls gateway-at gateway-step.Post
+  gateway-array-copy-out-wide c = search needs
 
   gateway-wide-requires : gateway-step-lts.Need-wide-requires gateway-calls gateway-at gateway-step.Post
   gateway-wide-requires c κs = search needs
@@ -70,8 +69,8 @@ module _ (t : ℕ) where
   gateway-mul-wide-2 : gateway-step-lts.Need-mul-wide-2 gateway-calls gateway-at gateway-step.Post
   gateway-mul-wide-2 c = search needs
 
-  gateway-element-copy-out-wide-2 : gateway-step-lts.Need-element-copy-out-wide-2 gateway-calls gateway-at gateway-step.Post
-  gateway-element-copy-out-wide-2 c = search needs
+  gateway-array-copy-out-wide-2 : gateway-step-lts.Need-array-copy-out-wide-2 gateway-calls gateway-at gateway-step.Post
+  gateway-array-copy-out-wide-2 c = search needs
 
   gateway-wide-requires-2 : gateway-step-lts.Need-wide-requires-2 gateway-calls gateway-at gateway-step.Post
   gateway-wide-requires-2 c κs = search needs
@@ -86,7 +85,7 @@ module _ (t : ℕ) where
   gateway-returns-2 c =
       let start = c .before .before .before .before .before in
       let a = start .before .args in
-      let e = gateway-more (kept (now (a .bounds))) (kept (now (a .times))) (a .left) (a .i) (start .if1 .left) in
+      let e = gateway-more (kept (a .bounds)) (kept (a .t2)) (a .left) (a .i) (start .if1 .left) in
       (omega (arith, e), omega arith)
 
   segment-returns : segment-step-lts.Need-returns segment-calls segment-at segment-step.Post
@@ -97,8 +96,8 @@ module _ (t : ℕ) where
   segment-mul-wide : segment-step-lts.Need-mul-wide segment-calls segment-at segment-step.Post
   segment-mul-wide c = search needs
 
-  segment-element-copy-out-wide : segment-step-lts.Need-element-copy-out-wide segment-calls segment-at segment-step.Post
-  segment-element-copy-out-wide c = search needs
+  segment-array-copy-out-wide : segment-step-lts.Need-array-copy-out-wide segment-calls segment-at segment-step.Post
+  segment-array-copy-out-wide c = search needs
 
   segment-wide-requires : segment-step-lts.Need-wide-requires segment-calls segment-at segment-step.Post
   segment-wide-requires c κs = search needs
@@ -116,7 +115,7 @@ module _ (t : ℕ) where
   segment-returns-2 c =
       let start = c .before .before .before in
       let a = start .before .args in
-      let e = segment-more (kept (now (a .bounds))) (kept (now (a .times))) (a .left) (a .i) (start .if1 .left) in
+      let e = segment-more (kept (a .t1)) (kept (a .times)) (a .left) (a .i) (start .if1 .left) in
       (omega (arith, e), omega arith)
 
 pub +gateway-step+segment-step-spec : {M : Type 1} → statement M
@@ -130,13 +129,13 @@ pub +gateway-step+segment-step-spec : {M : Type 1} → statement M
     gateway-step.Post
     (gateway-returns t)
     (gateway-mul-wide t)
-    (gateway-element-copy-out-wide t)
+    (gateway-array-copy-out-wide t)
     (gateway-wide-requires t)
     (gateway-add-segment-step t)
     (gateway-sub-segment-step t)
     (gateway-segment-step-requires t)
     (gateway-mul-wide-2 t)
-    (gateway-element-copy-out-wide-2 t)
+    (gateway-array-copy-out-wide-2 t)
     (gateway-wide-requires-2 t)
     (gateway-add-result t)
     (gateway-add-result-2 t)
@@ -147,7 +146,7 @@ pub +gateway-step+segment-step-spec : {M : Type 1} → statement M
     segment-step.Post
     (segment-returns t)
     (segment-mul-wide t)
-    (segment-element-copy-out-wide t)
+    (segment-array-copy-out-wide t)
     (segment-wide-requires t)
     (segment-sub-gateway-step t)
     (segment-gateway-step-requires t)

@@ -18,11 +18,11 @@ returns-2 c =
     answer-of-others (s .before .args .way) _ (s .if1 .left) _ (c .before .gateways-of .ensures) _ (too-many _ _ _ _ _ (c .if2 .taken))
 
 cross-requires : tie.Need-cross-requires
-cross-requires c κs = inside 1 _ 10 (c .before .before .before .before .if2 .left)
+cross-requires c κs = inside 1 _ 10 (c .before .before .if2 .left)
 
 returns-3 : tie.Need-returns-3
 returns-3 c =
-    let g = c .before .before .before .before .before .before in
+    let g = c .before .before .before .before in
     answer-of-others (g .before .before .args .way) _ (g .before .if1 .left) _ (g .gateways-of .ensures) (c .cross .result) (c .cross .ensures)
 
 pub answer-spec : {M : Type 1} → statement M

@@ -10,23 +10,23 @@ use Rattle.pnet_path.proofs.first_too_long.Statement.{statement}
 use Rattle.pnet_path.proofs.first_too_long.Tie as tie
 
 abbrev Inv-loop : tie.InvT-loop
-Inv-loop times n i₀ i = Searched (tooLong (kept times)) n i
+Inv-loop n times i₀ i = Searched (tooLong (kept times)) n i
 
 abbrev μ-loop : tie.MeasureT-loop
-μ-loop times n i₀ i = n + 1 - i
+μ-loop n times i₀ i = n + 1 - i
 
 loop-holds : tie.Need-loop-holds Inv-loop μ-loop
 loop-holds c = searched-none _ _
 
-mul-if1 : tie.Need-mul-if1 Inv-loop μ-loop
-mul-if1 c = search needs
+mul-time : tie.Need-mul-time Inv-loop μ-loop
+mul-time c = search needs
 
-element-copy-out-if1 : tie.Need-element-copy-out-if1 Inv-loop μ-loop
-element-copy-out-if1 c = search needs
+array-copy-out-time : tie.Need-array-copy-out-time Inv-loop μ-loop
+array-copy-out-time c = search needs
 
 returns : tie.Need-returns Inv-loop μ-loop
 unfolding tooLong
-returns c = searched-here _ _ _ (c .before .before .before .loop .inv) (omega arith) (lt-ltb _ _ (c .if1 .taken))
+returns c = searched-here _ _ _ (c .before .before .before .before .loop .inv) (omega arith) (lt-ltb _ _ (c .if1 .taken))
 
 add-i : tie.Need-add-i Inv-loop μ-loop
 add-i c = search needs
@@ -36,10 +36,10 @@ loop-less c = search needs
 
 loop-again : tie.Need-loop-again Inv-loop μ-loop
 unfolding tooLong
-loop-again c = searched-more _ _ _ (c .before .before .before .loop .inv) (omega arith) (le-ltb _ _ (c .if1 .left))
+loop-again c = searched-more _ _ _ (c .before .before .before .before .loop .inv) (omega arith) (le-ltb _ _ (c .if1 .left))
 
 returns-2 : tie.Need-returns-2 Inv-loop μ-loop
 returns-2 c = searched-end _ _ _ (c .before .loop .inv) (omega arith)
 
 pub first-too-long-spec : {M : Type 1} → statement M
-first-too-long-spec = tie.close (tie.spec Inv-loop μ-loop loop-holds mul-if1 element-copy-out-if1 returns add-i loop-less loop-again returns-2)
+first-too-long-spec = tie.close (tie.spec Inv-loop μ-loop loop-holds mul-time array-copy-out-time returns add-i loop-less loop-again returns-2)

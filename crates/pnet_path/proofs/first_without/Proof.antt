@@ -9,23 +9,23 @@ use Rattle.pnet_path.proofs.first_without.Statement.{statement}
 use Rattle.pnet_path.proofs.first_without.Tie as tie
 
 abbrev Inv-loop : tie.InvT-loop
-Inv-loop bounds n i₀ i = Searched (noBound bounds) n i
+Inv-loop n bounds i₀ i = Searched (noBound bounds) n i
 
 abbrev μ-loop : tie.MeasureT-loop
-μ-loop bounds n i₀ i = n + 1 - i
+μ-loop n bounds i₀ i = n + 1 - i
 
 loop-holds : tie.Need-loop-holds Inv-loop μ-loop
 loop-holds c = searched-none _ _
 
-mul-if1 : tie.Need-mul-if1 Inv-loop μ-loop
-mul-if1 c = search needs
+mul-bound : tie.Need-mul-bound Inv-loop μ-loop
+mul-bound c = search needs
 
-element-copy-out-if1 : tie.Need-element-copy-out-if1 Inv-loop μ-loop
-element-copy-out-if1 c = search needs
+array-copy-out-bound : tie.Need-array-copy-out-bound Inv-loop μ-loop
+array-copy-out-bound c = search needs
 
 returns : tie.Need-returns Inv-loop μ-loop
 unfolding noBound
-returns c = searched-here _ _ _ (c .before .before .before .loop .inv) (omega arith) (eq-eqb _ _ (c .if1 .taken))
+returns c = searched-here _ _ _ (c .before .before .before .before .loop .inv) (omega arith) (eq-eqb _ _ (c .if1 .taken))
 
 add-i : tie.Need-add-i Inv-loop μ-loop
 add-i c = search needs
@@ -35,10 +35,10 @@ loop-less c = search needs
 
 loop-again : tie.Need-loop-again Inv-loop μ-loop
 unfolding noBound
-loop-again c = searched-more _ _ _ (c .before .before .before .loop .inv) (omega arith) (ne-eqb _ _ (c .if1 .left))
+loop-again c = searched-more _ _ _ (c .before .before .before .before .loop .inv) (omega arith) (ne-eqb _ _ (c .if1 .left))
 
 returns-2 : tie.Need-returns-2 Inv-loop μ-loop
 returns-2 c = searched-end _ _ _ (c .before .loop .inv) (omega arith)
 
 pub first-without-spec : {M : Type 1} → statement M
-first-without-spec = tie.close (tie.spec Inv-loop μ-loop loop-holds mul-if1 element-copy-out-if1 returns add-i loop-less loop-again returns-2)
+first-without-spec = tie.close (tie.spec Inv-loop μ-loop loop-holds mul-bound array-copy-out-bound returns add-i loop-less loop-again returns-2)

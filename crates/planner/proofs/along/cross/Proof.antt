@@ -63,8 +63,8 @@ sender-requires c κs = search needs
 over-requires : tie.Need-over-requires Inv-loop μ-loop
 over-requires c κs = search needs
 
-write-sheet-refusal-requires : tie.Need-write-sheet-refusal-requires Inv-loop μ-loop
-write-sheet-refusal-requires c κs = search needs
+write-report-requires : tie.Need-write-report-requires Inv-loop μ-loop
+write-report-requires c κs = search needs
 
 returns-2 : tie.Need-returns-2 Inv-loop μ-loop
 returns-2 c = search needs
@@ -78,8 +78,8 @@ loop-less c = search needs
 loop-again : tie.Need-loop-again Inv-loop μ-loop
 loop-again c = search needs
 
-write-answer-requires : tie.Need-write-answer-requires Inv-loop μ-loop
-write-answer-requires c κs = search needs
+write-report-requires-2 : tie.Need-write-report-requires-2 Inv-loop μ-loop
+write-report-requires-2 c κs = search needs
 
 returns-3 : tie.Need-returns-3 Inv-loop μ-loop
 returns-3 c = search needs
@@ -106,10 +106,10 @@ cross-spec =
     add-sender
     sender-requires
     over-requires
-    write-sheet-refusal-requires
+    write-report-requires
     returns-2
     add-j
     loop-less
     loop-again
-    write-answer-requires
+    write-report-requires-2
     returns-3)
