@@ -1,22 +1,20 @@
 -- No report of a capture is longer than `mostCapture`, so a run of so many bytes holds every one. Assumes nothing.
+use mathlib.Core.Path.{_≡_}
 use mathlib.Core.List.{List, [], _++_}
 use mathlib.Core.Bool.{Bool, true, false, cond}
-use Prim.Native.Nat.{ℕ, _+_, _^_, _≤_, _<_}
+use Prim.Native.Nat.{ℕ, _+_, _*_, _^_, _≤_, _<_}
 use native.Mathlib.Omega.{arith}
 use lib.Dec.{eqb}
 use lib.ListN.{length, length-append}
-use Rattle.units.specs.Units.{bp}
+use Rattle.units.specs.declared.BitPeriods.{BitPeriods}
 use Rattle.text.specs.Text.{word, decimal, texts}
 use Rattle.text.proofs.Numbers.{length-places}
-use Rattle.text.proofs.Lengths.{decimal-most, texts-most}
+use Rattle.text.proofs.Lengths.{decimal-most}
+use Rattle.text.proofs.Writing.{texts-more}
 use Rattle.report_phrases.specs.Phrases.{nameOf, twoCounts}
 use Rattle.report_phrases.proofs.Lengths.{both-most, two-most}
-use Rattle.report_capture.specs.Shown.{mostCapture, whoseText, countsText, streamLine, streamAt, exceeding, first, streamsLine, soonLine, agesLines, silenceLine, faultLines, clean, lastLines, captureText}
+use Rattle.report_capture.specs.Shown.{mostCapture, mostLine, whoseText, countsText, streamLine, streamAt, exceeding, first, streamsLine, soonLine, agesLines, silenceLine, faultLines, clean, lastLines, captureText}
 use Rattle.report_capture.proofs.Counts.{exceeding-few, first-few}
-
--- every figure of a run has so many bits
-abbrev pub Bits : ℕ → (ℕ → ℕ) → Type 0
-Bits k run = (i : ℕ) → run i < 2 ^ k
 
 -- ---- One stream
 
@@ -100,30 +98,39 @@ module _ (n : ℕ) (few : n ≤ 800) where
 
 -- ---- The report
 
-module _ (masters bound largest answers above left : ℕ → ℕ) (b : Bits 32 bound) (l : Bits 32 largest) (r : Bits 64 answers) (a : Bits 64 above) (o : Bits 8 left) where
-  stream-most : (i : ℕ) → i < 800 → length (streamAt masters bound largest answers above left i) ≤ 158
-  unfolding streamAt streamLine
-  stream-most i few =
-      let whose = whoseText (i + 1) (masters i) in
-      let periods = twoCounts (word " bound ") (bp (bound i)) (word " largest ") (bp (largest i)) in
-      let counts = countsText (answers i) (above i) (left i) in
-      omega (
-        arith,
-        length-append whose (periods ++ counts),
-        length-append periods counts,
-        whose-most (i + 1) (masters i) (omega arith),
-        two-most 31 (word " bound ") (bp (bound i)) (word " largest ") (bp (largest i)) (both-most (bp (bound i)) (b i)) (both-most (bp (largest i)) (l i)),
-        counts-most (answers i) (above i) (left i) (r i) (a i) (o i),
-      )
+pub line-most : (number master : ℕ) (bound largest : BitPeriods) (answers above left : ℕ) → number ≤ 800 → bound .0 < 2 ^ 32 → largest .0 < 2 ^ 32
+    → answers < 2 ^ 64 → above < 2 ^ 64 → left < 2 ^ 8 → length (streamLine number master bound largest answers above left) ≤ mostLine
+unfolding streamLine
+line-most number master bound largest answers above left few b l r a o =
+    let whose = whoseText number master in
+    let periods = twoCounts (word " bound ") bound (word " largest ") largest in
+    let counts = countsText answers above left in
+    omega (
+      arith,
+      length-append whose (periods ++ counts),
+      length-append periods counts,
+      whose-most number master few,
+      two-most 31 (word " bound ") bound (word " largest ") largest (both-most bound b) (both-most largest l),
+      counts-most answers above left r a o,
+    )
 
-  pub no-capture-longer : (late : ℕ → ℕ) (soon whose : ℕ) (broken : Bool) (n : ℕ) → soon < 2 ^ 64 → whose < 2 ^ 32 → n ≤ 800
-      → length (captureText masters bound largest answers above left late soon whose broken n) ≤ mostCapture
-  unfolding captureText
-  no-capture-longer late soon whose broken n s w few =
-      let lines = texts (streamAt masters bound largest answers above left) n in
-      omega (
-        arith,
-        length-append lines (lastLines above late answers soon whose broken n),
-        texts-most (streamAt masters bound largest answers above left) 158 n (λ i h. stream-most i (omega arith)),
-        last-most n few above late answers soon whose s w broken,
-      )
+-- one line more
+pub lines-more : (t : ℕ → List ℕ) (i : ℕ) → length (texts t i) ≤ i * mostLine → length (t i) ≤ mostLine → length (texts t (i + 1)) ≤ (i + 1) * mostLine
+lines-more t i h l = rw texts-more (omega (arith, length-append (texts t i) (t i)))
+
+-- and all
+pub lines-all : (t : ℕ → List ℕ) (i n : ℕ) → length (texts t i) ≤ i * mostLine → i ≡ n → length (texts t n) ≤ n * mostLine
+lines-all t i n h e = rw (← e) h
+
+-- behind the lines of n streams
+pub no-capture-longer : (masters bound largest answers above left late : ℕ → ℕ) (soon whose : ℕ) (broken : Bool) (n : ℕ) → soon < 2 ^ 64 → whose < 2 ^ 32
+    → n ≤ 800 → length (texts (streamAt masters bound largest answers above left) n) ≤ n * mostLine
+    → length (captureText masters bound largest answers above left late soon whose broken n) ≤ mostCapture
+unfolding captureText
+no-capture-longer masters bound largest answers above left late soon whose broken n s w few h =
+    let lines = texts (streamAt masters bound largest answers above left) n in
+    omega (
+      arith,
+      length-append lines (lastLines above late answers soon whose broken n),
+      last-most n few above late answers soon whose s w broken,
+    )

@@ -14,6 +14,10 @@ use Rattle.report_phrases.specs.Phrases.{nameOf, twoCounts}
 abbrev pub mostCapture : ℕ
 mostCapture = 126662
 
+-- nor the line of one of them
+abbrev pub mostLine : ℕ
+mostLine = 158
+
 -- ---- One stream
 
 -- its number and its master

@@ -7,10 +7,11 @@ use text::put_counted;
 use text::put_word;
 use units::BitPeriods;
 ghost use mathlib.Core.Path.{_≡_};
-ghost use Prim.Native.Nat.{_≤_, min};
+ghost use Prim.Native.Nat.{_*_, _≤_, min};
+ghost use lib.ListN.{length};
 ghost use Rattle.text.specs.Text.{Zeros, Wrote, item, texts};
 ghost use Rattle.report_capture.specs.Shown;
-ghost use Rattle.report_capture.specs.Shown.{mostCapture, whoseText, countsText, streamLine, streamAt, streamsLine, soonLine, agesLines, silenceLine, faultLines, lastLines, captureText, captureRefusal};
+ghost use Rattle.report_capture.specs.Shown.{mostCapture, mostLine, whoseText, countsText, streamLine, streamAt, streamsLine, soonLine, agesLines, silenceLine, faultLines, lastLines, captureText, captureRefusal};
 
 // No report of a capture is longer.
 pub const MOST_TEXT: usize = 126_662;
@@ -49,7 +50,10 @@ fn put_stream(
     above: u64,
     left: u8,
 ) -> usize
-    ensures { λ r. ⌜ Wrote (now (out .entry)) at (streamLine number master bound largest answers above left) (now (out .exit)) r ⌝ }
+    requires { ⌜ number ≤ 800 ⌝ }
+    ensures { λ r.
+        let line = streamLine number master bound largest answers above left in
+        ⌜ Wrote (now (out .entry)) at line (now (out .exit)) r × (length line ≤ mostLine) ⌝ }
 {
     let periods = put_whose(out, at, number, master);
     let counts = put_two(out, periods, b" bound ", bound, b" largest ", largest);
@@ -69,7 +73,9 @@ fn put_streams(
     left: &[u8; MOST],
 ) -> usize
     requires { ⌜ n ≤ 800 ⌝ }
-    ensures { λ r. ⌜ Wrote (now (out .entry)) at (texts (streamAt (item (now (masters .entry))) (item (now (bound .entry))) (item (now (largest .entry))) (item (now (answers .entry))) (item (now (above .entry))) (item (now (left .entry)))) n) (now (out .exit)) r ⌝ }
+    ensures { λ r.
+        let lines = texts (streamAt (item (now (masters .entry))) (item (now (bound .entry))) (item (now (largest .entry))) (item (now (answers .entry))) (item (now (above .entry))) (item (now (left .entry)))) n in
+        ⌜ Wrote (now (out .entry)) at lines (now (out .exit)) r × (length lines ≤ n * mostLine) ⌝ }
 {
     let mut next = at;
     let mut i = 0;
@@ -266,7 +272,9 @@ pub fn put_capture(
     whose: u32,
     broken: bool,
 ) -> usize
-    ensures { λ r. ⌜ Wrote (now (out .entry)) 0 (captureText (item (now (masters .entry))) (item (now (bound .entry))) (item (now (largest .entry))) (item (now (answers .entry))) (item (now (above .entry))) (item (now (left .entry))) (item (now (late .entry))) soon whose broken (min streams 800)) (now (out .exit)) r ⌝ }
+    ensures { λ r.
+        let text = captureText (item (now (masters .entry))) (item (now (bound .entry))) (item (now (largest .entry))) (item (now (answers .entry))) (item (now (above .entry))) (item (now (left .entry))) (item (now (late .entry))) soon whose broken (min streams 800) in
+        ⌜ Wrote (now (out .entry)) 0 text (now (out .exit)) r × (length text ≤ mostCapture) ⌝ }
 {
     let n = shown(streams);
     let lines = put_word(out, 0, b"P-NET capture\n");

@@ -1,6 +1,8 @@
 -- `report_capture::put_capture` stores the heading, the lines of the streams and the last lines. Assumes nothing.
+use native.Mathlib.Omega.{arith}
 use Rattle.text.proofs.Writing.{wrote-then}
 use Rattle.report_capture.specs.Shown.{captureText}
+use Rattle.report_capture.proofs.Lengths.{no-capture-longer}
 use borrow.Author.Needs.{needs}
 use Rattle.report_capture.proofs.put_capture.Statement.{statement}
 use Rattle.report_capture.proofs.put_capture.Tie as tie
@@ -26,9 +28,13 @@ same-length c = search needs
 returns : tie.Need-returns
 unfolding captureText
 returns c =
-    rw (← c .before .before .before .before .before .before .before .before .before .before .before .before .before .shown .ensures)
-    (wrote-then (c .before .before .before .before .before .before .before .before .before .before .put-word .ensures)
-    (wrote-then (c .before .before .before .before .before .before .put-streams .ensures) (c .before .before .put-last .ensures)))
+    let start = c .before .before .before .before .before .before .before .before .before .before .before .before .before .before .before in
+    let lines = c .before .before .before .before .before .before .put-streams .ensures in
+    rw (← c .before .before .before .before .before .before .before .before .before .before .before .before .before .shown .ensures) (
+      wrote-then (c .before .before .before .before .before .before .before .before .before .before .put-word .ensures)
+          (wrote-then (lines .0) (c .before .before .put-last .ensures)),
+      no-capture-longer _ _ _ _ _ _ _ _ _ _ _ (omega (arith, start)) (omega (arith, start)) (omega arith) (lines .1),
+    )
 
 pub put-capture-spec : {M : Type 1} → statement M
 put-capture-spec =

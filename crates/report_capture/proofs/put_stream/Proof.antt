@@ -1,6 +1,8 @@
 -- `report_capture::put_stream` stores the line of a stream. Assumes nothing.
+use native.Mathlib.Omega.{arith}
 use Rattle.text.proofs.Writing.{wrote-then}
 use Rattle.report_capture.specs.Shown.{streamLine}
+use Rattle.report_capture.proofs.Lengths.{line-most}
 use borrow.Author.Needs.{needs}
 use Rattle.report_capture.proofs.put_stream.Statement.{statement}
 use Rattle.report_capture.proofs.put_stream.Tie as tie
@@ -26,8 +28,12 @@ same-length c = search needs
 returns : tie.Need-returns
 unfolding streamLine
 returns c =
-    wrote-then (c .before .before .before .before .before .before .before .before .before .before .before .before .put-whose .ensures)
-    (wrote-then (c .before .before .before .before .before .before .put-two .ensures) (c .before .before .put-counts .ensures))
+    let start = c .before .before .before .before .before .before .before .before .before .before .before .before .before .before .before in
+    let a = start .args in (
+      wrote-then (c .before .before .before .before .before .before .before .before .before .before .before .before .put-whose .ensures)
+          (wrote-then (c .before .before .before .before .before .before .put-two .ensures) (c .before .before .put-counts .ensures)),
+      line-most (a .number) (a .master) (a .bound) (a .largest) (a .answers) (a .above) (a .left) (start .pre) (omega (arith, start)) (omega (arith, start)) (omega (arith, start)) (omega (arith, start)) (omega (arith, start)),
+    )
 
 pub put-stream-spec : {M : Type 1} → statement M
 put-stream-spec = tie.close (tie.spec put-whose-requires slice-aggregate-put-two slice-aggregate-put-two-2 put-two-requires put-counts-requires same-length returns)

@@ -1,24 +1,27 @@
 -- `report_capture::put_streams` stores the lines of n streams. The loop's invariant: the first i are stored. Assumes nothing.
-use Prim.Native.Nat.{_-_, _≤_}
+use Prim.Native.Nat.{_-_, _*_, _≤_}
 use native.Mathlib.Omega.{arith}
+use lib.ListN.{length}
 use denote.Ref.{now}
 use Rattle.text.specs.Text.{item, texts, Wrote}
 use Rattle.text.proofs.Writing.{length-wrote, wrote-none, wrote-next, wrote-all}
-use Rattle.report_capture.specs.Shown.{streamAt}
+use Rattle.report_capture.specs.Shown.{mostLine, streamAt}
+use Rattle.report_capture.proofs.Lengths.{lines-more, lines-all}
 use borrow.Author.Needs.{needs}
 use Rattle.report_capture.proofs.put_streams.Statement.{statement}
 use Rattle.report_capture.proofs.put_streams.Tie as tie
 
 abbrev Inv-loop : tie.InvT-loop
 Inv-loop out₀ at n masters bound largest answers above left next₀ i₀ out next i =
-    (i ≤ n) × Wrote out₀ at (texts (streamAt (item masters) (item bound) (item largest) (item answers) (item above) (item left)) i) out next
+    let lines = texts (streamAt (item masters) (item bound) (item largest) (item answers) (item above) (item left)) i in
+    (i ≤ n) × (Wrote out₀ at lines out next × (length lines ≤ i * mostLine))
 
 abbrev μ-loop : tie.MeasureT-loop
 μ-loop out₀ at n masters bound largest answers above left next₀ i₀ out next i = n - i
 
 loop-holds : tie.Need-loop-holds Inv-loop μ-loop
 unfolding texts
-loop-holds c = (search needs, wrote-none)
+loop-holds c = (search needs, (wrote-none, omega arith))
 
 add-put-stream : tie.Need-add-put-stream Inv-loop μ-loop
 add-put-stream c = search needs
@@ -67,16 +70,19 @@ unfolding streamAt
 loop-again c =
     let a = c .before .before .before .before .before .before .before .before .before .before .before .before .before .args in
     let lines = streamAt (item (now (a .masters))) (item (now (a .bound))) (item (now (a .largest))) (item (now (a .answers))) (item (now (a .above))) (item (now (a .left))) in
-    (omega arith, wrote-next lines (c .before .before .before .before .before .before .before .before .before .before .before .loop .inv .1) (c .before .before .put-stream .ensures))
+    let inv = c .before .before .before .before .before .before .before .before .before .before .before .loop .inv .1 in
+    let one = c .before .before .put-stream .ensures in
+    (omega arith, (wrote-next lines (inv .0) (one .0), lines-more lines _ (inv .1) (one .1)))
 
 same-length : tie.Need-same-length Inv-loop μ-loop
-same-length c = length-wrote (c .before .loop .inv .1)
+same-length c = length-wrote (c .before .loop .inv .1 .0)
 
 returns : tie.Need-returns Inv-loop μ-loop
 returns c =
     let a = c .before .before .before .args in
     let lines = streamAt (item (now (a .masters))) (item (now (a .bound))) (item (now (a .largest))) (item (now (a .answers))) (item (now (a .above))) (item (now (a .left))) in
-    wrote-all lines (c .before .loop .inv .1) (omega arith)
+    let inv = c .before .loop .inv .1 in
+    (wrote-all lines (inv .0) (omega arith), lines-all lines _ _ (inv .1) (omega arith))
 
 pub put-streams-spec : {M : Type 1} → statement M
 put-streams-spec =

@@ -1,0 +1,214 @@
+-- The runs hold what sheet and capture leave: from the beginning, over each piece, to the report. `Begins`, `Hears` and `Reports` say it of
+-- what the three steps answer. Assumes nothing.
+use Prim.Native.Nat.{ℕ, _+_, _≤_, _<_}
+use mathlib.Core.Path.{_≡_, refl, sym, ap, subst, _∙_}
+use mathlib.Core.List.{List, [], _++_, append-nil}
+use mathlib.Core.Bool.{Bool, true, false}
+use native.Mathlib.Omega.{arith}
+use borrow.Author.Tests.{ltb-false}
+use lib.Dec.{ltb}
+use lib.ListN.{length, length-append}
+use Rattle.common.specs.Checks.{Verdict}
+use Rattle.common.specs.Checks.Verdict.{Passed, Refused}
+use Rattle.sheet_read.specs.Sheets.{Sheet}
+use Rattle.sheet_read.specs.Whole.{Outcome}
+use Rattle.sheet_read.specs.Whole.Outcome.{Read, Not}
+use Rattle.pnet_rules.specs.Segment.{segmentOf}
+use Rattle.pnet_bounds.specs.Bounded.{boundOf, masterOf, spacingOf, streamRun}
+use Rattle.pnet_bounds.proofs.Bounded.{bounded-declared}
+use Rattle.capture_log.specs.Log.{fresh}
+use Rattle.capture_log.specs.Records.{heard}
+use Rattle.capture_log.proofs.Refusals.{passed-exactly}
+use Rattle.capture_tally.specs.declared.Taken.{Taken}
+use Rattle.capture_tally.specs.declared.Taken.the-variants as taken
+use Rattle.capture_tally.specs.Pieces.{most, answerTo}
+use Rattle.capture_watch.specs.declared.Watch.{Watch}
+use Rattle.capture_watch.specs.Follow.{began, Seen}
+use Rattle.report_phrases.specs.Phrases.{refusalText}
+use Rattle.report_capture.specs.Shown.{captureRefusal}
+use Rattle.report_beside.specs.declared.Hearing.{Hearing}
+use Rattle.report_beside.specs.declared.Begun.{Begun}
+use Rattle.report_beside.specs.declared.Heard.{Heard}
+use Rattle.report_beside.specs.declared.Reported.{Reported}
+use Rattle.report_beside.specs.Whole.{Tally, tally, none, unheard, seenAfter, after, textOf, cleanOf, laid, figures, tallyOf, watchOf, heardReport, heardClean, laidReport, laidClean, besideReport, besideClean}
+use Rattle.report_beside.specs.Steps.{last, over, begunAs, begunText, heardAs, heardText, heardTally, reportedAs}
+use Rattle.report_beside.specs.Kept.{Kept, Refuses, Ends, Begins, Hears, Reports}
+use Rattle.report_beside.specs.Kept.Ends.{whole, at-last}
+use Rattle.report_beside.proofs.Pieces.{seen-none, after-none, joined-passes, joined-refused, refused-behind, seen-joined, after-joined}
+
+-- ---- The report, case by case
+
+module _ (s : List ℕ) where
+  -- the sheet is refused, whatever the capture is
+  pub sheet-refused : (n p : ℕ) → laid s ≡ Not n p → (c : List ℕ) → (besideReport s c ≡ refusalText n p) × (besideClean s c ≡ false)
+  unfolding besideReport besideClean
+  sheet-refused n p e c = (ap (λ (o : Outcome). laidReport o c) e, ap (λ (o : Outcome). laidClean o c) e)
+
+  module _ (H : Sheet) (e : laid s ≡ Read H) (c : List ℕ) where
+    pub capture-refused : (n p : ℕ) → heard c (length (H .streams)) fresh ≡ Refused n p → (besideReport s c ≡ captureRefusal n p) × (besideClean s c ≡ false)
+    unfolding besideReport besideClean
+    capture-refused n p f = (
+      ap (λ (o : Outcome). laidReport o c) e ∙ ap (λ (v : Verdict). heardReport v H c) f,
+      ap (λ (o : Outcome). laidClean o c) e ∙ ap (λ (v : Verdict). heardClean v H c) f,
+    )
+
+    pub capture-passed : heard c (length (H .streams)) fresh ≡ Passed
+        → (besideReport s c ≡ textOf (length (H .streams)) (figures H masterOf) (figures H boundOf) (watchOf H c) (tallyOf H c))
+        × (besideClean s c ≡ cleanOf (length (H .streams)) (figures H boundOf) (watchOf H c) (tallyOf H c))
+    unfolding besideReport besideClean
+    capture-passed f = (
+      ap (λ (o : Outcome). laidReport o c) e ∙ ap (λ (v : Verdict). heardReport v H c) f,
+      ap (λ (o : Outcome). laidClean o c) e ∙ ap (λ (v : Verdict). heardClean v H c) f,
+    )
+
+  -- a sheet has 800 streams at most
+  pub streams-few : (H : Sheet) → laid s ≡ Read H → length (H .streams) ≤ most
+  unfolding segmentOf
+  streams-few H e = bounded-declared s most H e .number-to
+
+-- the text of a refusal is stored, and it is the report
+refuses : {s c t old new : List ℕ} {n : ℕ} → (besideReport s c ≡ t) × (besideClean s c ≡ false) → n ≡ length t → new ≡ over t old → Refuses s c old new n
+refuses {s} {c} {t} {old} {new} {n} e l w = record {
+  is-refused = e .1;
+  length-is = l ∙ ap length (sym (e .0));
+  text-is = w ∙ ap (λ (x : List ℕ). over x old) (sym (e .0));
+}
+
+-- ---- Beginning
+
+-- the lent runs behind it, and the text
+module _ (s : List ℕ) (r : Begun) (old new masters R T : List ℕ) (k : Tally) where
+  pub begins : r ≡ begunAs (laid s) → new ≡ begunText (laid s) old → masters ≡ streamRun (laid s) masterOf none → R ≡ streamRun (laid s) boundOf none
+      → T ≡ streamRun (laid s) spacingOf none → k ≡ unheard → Begins s r old new masters R T k
+  unfolding tallyOf watchOf
+  begins = by (laid s) refl
+    where
+      by : (o : Outcome) → laid s ≡ o → r ≡ begunAs o → new ≡ begunText o old → masters ≡ streamRun o masterOf none → R ≡ streamRun o boundOf none
+          → T ≡ streamRun o spacingOf none → k ≡ unheard → Begins s r old new masters R T k
+      by (Read H) e a t m b d u =
+          subst (λ (x : Begun). Begins s x old new masters R T k) (sym a)
+          (record {
+            sheet = H;
+            is-laid = e;
+            passes = passed-exactly [] (length (H .streams)) .1 (record { each = λ j l. absurd (omega arith) });
+            streams-are = refl;
+            bytes-are = refl;
+            watch-is = ap (λ (x : Seen). x .watch) (sym (seen-none (figures H spacingOf)));
+            masters-are = m;
+            bounds-are = b;
+            spacings-are = d;
+            tally-is = u ∙ sym (after-none (length (H .streams)) (figures H boundOf) (figures H spacingOf));
+          })
+      by (Not n p) e a t m b d u =
+          subst (λ (x : Begun). Begins s x old new masters R T k) (sym a) (λ c. refuses (sheet-refused s n p e c) refl t)
+
+-- ---- Hearing a piece
+
+module _ {s c masters R T : List ℕ} {h : Hearing} {k : Tally} (kept : Kept s c h masters R T k) (p : List ℕ) where
+  abbrev H : Sheet
+  H = kept .sheet
+
+  abbrev n : ℕ
+  n = length (H .streams)
+
+  abbrev answer : Taken
+  answer = answerTo p (h .streams) (k .left) (k .since)
+
+  few : n ≤ most
+  few = streams-few s H (kept .is-laid)
+
+  answer-is : answer ≡ answerTo p n (tallyOf H c .left) (tallyOf H c .since)
+  answer-is =
+      ap (λ (m : ℕ). answerTo p m (k .left) (k .since)) (kept .streams-are)
+      ∙ ap (λ (x : Tally). answerTo p n (x .left) (x .since)) (kept .tally-is)
+
+  seen-is : seenAfter p T (h .watch) (k .asked) ≡ seenAfter (c ++ p) (figures H spacingOf) began none
+  unfolding watchOf tallyOf
+  seen-is =
+      ap (λ (x : List ℕ). seenAfter p x (h .watch) (k .asked)) (kept .spacings-are)
+      ∙ (ap (λ (x : Watch). seenAfter p (figures H spacingOf) x (k .asked)) (kept .watch-is)
+      ∙ (ap (λ (x : Tally). seenAfter p (figures H spacingOf) (watchOf H c) (x .asked)) (kept .tally-is)
+      ∙ sym (seen-joined c p n few (kept .passes) (figures H boundOf) (figures H spacingOf))))
+
+  tally-then : after p (h .streams) R T (h .watch) k ≡ tallyOf H (c ++ p)
+  unfolding watchOf tallyOf
+  tally-then =
+      ap (λ (m : ℕ). after p m R T (h .watch) k) (kept .streams-are)
+      ∙ (ap (λ (x : List ℕ). after p n x T (h .watch) k) (kept .bounds-are)
+      ∙ (ap (λ (x : List ℕ). after p n (figures H boundOf) x (h .watch) k) (kept .spacings-are)
+      ∙ (ap (λ (x : Watch). after p n (figures H boundOf) (figures H spacingOf) x k) (kept .watch-is)
+      ∙ (ap (after p n (figures H boundOf) (figures H spacingOf) (watchOf H c)) (kept .tally-is)
+      ∙ sym (after-joined c p n few (kept .passes) (figures H boundOf) (figures H spacingOf))))))
+
+  -- it is taken
+  pub still-kept : answer ≡ taken.All → (k' : Tally) → k' ≡ after p (h .streams) R T (h .watch) k
+      → Kept s (c ++ p) (record { streams = h .streams; bytes = h .bytes + length p; watch = seenAfter p T (h .watch) (k .asked) .watch }) masters R T k'
+  unfolding watchOf tallyOf
+  still-kept e k' q = record {
+    sheet = H;
+    is-laid = kept .is-laid;
+    passes = joined-passes c p n few (kept .passes) (figures H boundOf) (figures H spacingOf) (sym answer-is ∙ e);
+    streams-are = kept .streams-are;
+    bytes-are = omega (arith, kept .bytes-are, length-append c p);
+    watch-is = ap (λ (x : Seen). x .watch) seen-is;
+    masters-are = kept .masters-are;
+    bounds-are = kept .bounds-are;
+    spacings-are = kept .spacings-are;
+    tally-is = q ∙ tally-then;
+  }
+
+  -- it is refused, at place q
+  module _ (r q : ℕ) (e : answer ≡ taken.Refused r q) where
+    verdict-then : (rest : List ℕ) → Ends p rest → heard ((c ++ p) ++ rest) n fresh ≡ Refused r (length c + q)
+    unfolding tallyOf
+    verdict-then rest (whole m long) = refused-behind c p n few (kept .passes) (figures H boundOf) (figures H spacingOf) r q m long (sym answer-is ∙ e) rest
+    verdict-then rest at-last =
+        rw (append-nil (c ++ p)) (joined-refused c p n few (kept .passes) (figures H boundOf) (figures H spacingOf) r q (sym answer-is ∙ e))
+
+    pub then-refused : (rest : List ℕ) → Ends p rest
+        → (besideReport s ((c ++ p) ++ rest) ≡ captureRefusal r (h .bytes + q)) × (besideClean s ((c ++ p) ++ rest) ≡ false)
+    then-refused rest ends =
+        let place : length c + q ≡ h .bytes + q = omega (arith, kept .bytes-are) in
+        capture-refused s H (kept .is-laid) ((c ++ p) ++ rest) r (h .bytes + q) (verdict-then rest ends ∙ ap (Refused r) place)
+
+  -- whatever is answered
+  module _ (x : Heard) (old new : List ℕ) (k' : Tally) where
+    pub hears : let short = ltb (h .bytes) last in
+        x ≡ heardAs short answer h (length p) (seenAfter p T (h .watch) (k .asked) .watch) → new ≡ heardText short answer (h .bytes) old
+        → k' ≡ heardTally short answer (after p (h .streams) R T (h .watch) k) k → Hears s c p x old new masters R T k'
+    hears = by (ltb (h .bytes) last) refl answer refl
+      where
+        by : (b : Bool) → ltb (h .bytes) last ≡ b → (a : Taken) → answer ≡ a → x ≡ heardAs b a h (length p) (seenAfter p T (h .watch) (k .asked) .watch)
+            → new ≡ heardText b a (h .bytes) old → k' ≡ heardTally b a (after p (h .streams) R T (h .watch) k) k → Hears s c p x old new masters R T k'
+        by false l a e y t q =
+            subst (λ (z : Heard). Hears s c p z old new masters R T k') (sym y) (omega (arith, ltb-false (h .bytes) last l, kept .bytes-are))
+        by true l taken.All e y t q = subst (λ (z : Heard). Hears s c p z old new masters R T k') (sym y) (still-kept e k' q)
+        by true l (taken.Refused r q) e y t u =
+            subst (λ (z : Heard). Hears s c p z old new masters R T k') (sym y) (λ rest ends. refuses (then-refused r q e rest ends) refl t)
+
+-- ---- Reporting
+
+module _ {s c masters R T : List ℕ} {h : Hearing} {k : Tally} (kept : Kept s c h masters R T k) where
+  text-is : textOf (h .streams) masters R (h .watch) k ≡ besideReport s c
+  text-is =
+      ap (λ (n : ℕ). textOf n masters R (h .watch) k) (kept .streams-are)
+      ∙ (ap (λ (x : List ℕ). textOf (length (kept .sheet .streams)) x R (h .watch) k) (kept .masters-are)
+      ∙ (ap (λ (x : List ℕ). textOf (length (kept .sheet .streams)) (figures (kept .sheet) masterOf) x (h .watch) k) (kept .bounds-are)
+      ∙ (ap (λ (w : Watch). textOf (length (kept .sheet .streams)) (figures (kept .sheet) masterOf) (figures (kept .sheet) boundOf) w k) (kept .watch-is)
+      ∙ (ap (textOf (length (kept .sheet .streams)) (figures (kept .sheet) masterOf) (figures (kept .sheet) boundOf) (watchOf (kept .sheet) c)) (kept .tally-is)
+      ∙ sym (capture-passed s (kept .sheet) (kept .is-laid) c (kept .passes) .0)))))
+
+  clean-is : cleanOf (h .streams) R (h .watch) k ≡ besideClean s c
+  clean-is =
+      ap (λ (n : ℕ). cleanOf n R (h .watch) k) (kept .streams-are)
+      ∙ (ap (λ (x : List ℕ). cleanOf (length (kept .sheet .streams)) x (h .watch) k) (kept .bounds-are)
+      ∙ (ap (λ (w : Watch). cleanOf (length (kept .sheet .streams)) (figures (kept .sheet) boundOf) w k) (kept .watch-is)
+      ∙ (ap (cleanOf (length (kept .sheet .streams)) (figures (kept .sheet) boundOf) (watchOf (kept .sheet) c)) (kept .tally-is)
+      ∙ sym (capture-passed s (kept .sheet) (kept .is-laid) c (kept .passes) .1))))
+
+  pub reports : (r : Reported) (old new : List ℕ) → let text = textOf (h .streams) masters R (h .watch) k in
+      r ≡ reportedAs (cleanOf (h .streams) R (h .watch) k) (length text) → new ≡ over text old → Reports s c r old new
+  reports r old new a w = record {
+    says = a ∙ (ap (λ (b : Bool). reportedAs b (length (textOf (h .streams) masters R (h .watch) k))) clean-is ∙ ap (λ (x : List ℕ). reportedAs (besideClean s c) (length x)) text-is);
+    text-is = w ∙ ap (λ (x : List ℕ). over x old) text-is;
+  }

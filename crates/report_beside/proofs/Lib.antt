@@ -1,0 +1,6 @@
+pub mod Beginning
+pub mod Kept
+pub mod Listening
+pub mod Pieces
+pub mod Reporting
+pub mod Stored

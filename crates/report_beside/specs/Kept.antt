@@ -1,0 +1,63 @@
+-- What the runs hold between two pieces, and what each step makes of it: the report is that of sheet and capture as a whole. s is the sheet, c
+-- the capture so far, p the next piece. Assumes nothing.
+use Prim.Native.Nat.{ℕ, _*_, _≤_}
+use mathlib.Core.Path.{_≡_}
+use mathlib.Core.List.{List, [], _++_}
+use mathlib.Core.Bool.{false}
+use lib.ListN.{length}
+use Rattle.common.specs.Checks.Verdict.{Passed}
+use Rattle.sheet_read.specs.Sheets.{Sheet}
+use Rattle.sheet_read.specs.Whole.Outcome.{Read}
+use Rattle.pnet_bounds.specs.Bounded.{boundOf, masterOf, spacingOf}
+use Rattle.capture_log.specs.Log.{fresh}
+use Rattle.capture_log.specs.Records.{size, heard}
+use Rattle.report_beside.specs.declared.Hearing.{Hearing}
+use Rattle.report_beside.specs.declared.Begun.{Begun}
+use Rattle.report_beside.specs.declared.Begun.the-variants as begun
+use Rattle.report_beside.specs.declared.Heard.{Heard}
+use Rattle.report_beside.specs.declared.Heard.the-variants as heard
+use Rattle.report_beside.specs.declared.Reported.{Reported}
+use Rattle.report_beside.specs.Whole.{Tally, laid, figures, tallyOf, watchOf, besideReport, besideClean}
+use Rattle.report_beside.specs.Steps.{last, over, reportedAs}
+
+-- neither sheet nor capture is refused so far, and the runs hold what they leave
+pub record Kept (s c : List ℕ) (h : Hearing) (masters R T : List ℕ) (k : Tally) : Type 0 where
+  pub sheet : Sheet
+  pub is-laid : laid s ≡ Read sheet
+  pub passes : heard c (length (sheet .streams)) fresh ≡ Passed
+  pub streams-are : h .streams ≡ length (sheet .streams)
+  pub bytes-are : h .bytes ≡ length c
+  pub watch-is : h .watch ≡ watchOf sheet c
+  pub masters-are : masters ≡ figures sheet masterOf
+  pub bounds-are : R ≡ figures sheet boundOf
+  pub spacings-are : T ≡ figures sheet spacingOf
+  pub tally-is : k ≡ tallyOf sheet c
+
+-- the run `new`, that was `old`, begins with the report of sheet and capture, which are refused; n is its length
+pub record Refuses (s c old new : List ℕ) (n : ℕ) : Type 0 where
+  pub is-refused : besideClean s c ≡ false
+  pub length-is : n ≡ length (besideReport s c)
+  pub text-is : new ≡ over (besideReport s c) old
+
+-- a piece ends with a record, or nothing comes behind it
+pub data Ends (p : List ℕ) : List ℕ → Type 0 where
+  whole : {rest : List ℕ} (m : ℕ) → length p ≡ size * m → Ends p rest
+  at-last : Ends p []
+
+-- ---- The steps, by their answers
+
+-- beginning: nothing is heard yet; or the sheet is refused, whatever the capture is
+abbrev pub Begins : List ℕ → Begun → List ℕ → List ℕ → List ℕ → List ℕ → List ℕ → Tally → Type 0
+Begins s (begun.On h) old new masters R T k = Kept s [] h masters R T k
+Begins s (begun.Refused n) old new masters R T k = (c : List ℕ) → Refuses s c old new n
+
+-- hearing: the piece is heard; or the capture is refused, whatever comes behind it; or it is too long to be counted
+abbrev pub Hears : List ℕ → List ℕ → List ℕ → Heard → List ℕ → List ℕ → List ℕ → List ℕ → List ℕ → Tally → Type 0
+Hears s c p (heard.On h) old new masters R T k = Kept s (c ++ p) h masters R T k
+Hears s c p (heard.Refused n) old new masters R T k = (rest : List ℕ) → Ends p rest → Refuses s ((c ++ p) ++ rest) old new n
+Hears s c p heard.TooLong old new masters R T k = last ≤ length c
+
+-- reporting: the run `new`, that was `old`, begins with the whole report, and the answer says how long it is and whether anything is wrong
+pub record Reports (s c : List ℕ) (r : Reported) (old new : List ℕ) : Type 0 where
+  pub says : r ≡ reportedAs (besideClean s c) (length (besideReport s c))
+  pub text-is : new ≡ over (besideReport s c) old

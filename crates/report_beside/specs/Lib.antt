@@ -1,0 +1,4 @@
+pub mod Kept
+pub mod Recorded
+pub mod Steps
+pub mod Whole

@@ -1,0 +1,120 @@
+-- Page 02, 'Ask 1', with docs/DECISIONS.md, 'What a capture's bounds rest on': the whole report of a capture beside a P-NET sheet, from the
+-- bytes s of the sheet and the bytes c of the capture alone. Runs have 800 places, place i for stream i + 1. Assumes nothing.
+use Prim.Native.Nat.{ℕ, _/_, min}
+use mathlib.Core.List.{List}
+use mathlib.Core.Bool.{Bool, false}
+use lib.ListN.{length, replicate}
+use Rattle.common.specs.Checks.{Verdict}
+use Rattle.common.specs.Checks.Verdict.{Passed, Refused}
+use Rattle.text.specs.Text.{item}
+use Rattle.sheet_read.specs.Sheets.{Sheet}
+use Rattle.sheet_read.specs.Whole.{Outcome}
+use Rattle.sheet_read.specs.Whole.Outcome.{Read, Not}
+use Rattle.pnet_rules.specs.Segment.{Segment}
+use Rattle.pnet_bounds.specs.Bounded.{bounded, boundOf, masterOf, spacingOf, streamRun}
+use Rattle.capture_log.specs.Log.{fresh}
+use Rattle.capture_log.specs.Records.{size, heard}
+use Rattle.capture_tally.specs.Pieces.{most, leftAfter, sinceAfter, answersAfter, largestAfter, aboveAfter}
+use Rattle.capture_watch.specs.declared.Watch.{Watch}
+use Rattle.capture_watch.specs.Follow.{began, Seen, seen, followed, metIn, overdueRun}
+use Rattle.report_phrases.specs.Phrases.{refusalText}
+use Rattle.report_capture.specs.Shown.{clean, captureText, captureRefusal}
+
+-- ---- What is kept of a capture
+
+-- for each stream 1 or 0 requests left open, the stamp of the last one, the answers, the largest response, the answers above the bound, and
+-- the clock at the last request; the clock itself and what it showed is a Watch beside it
+pub record Tally : Type 0 where
+  pub left : List ℕ
+  pub since : List ℕ
+  pub answers : List ℕ
+  pub largest : List ℕ
+  pub above : List ℕ
+  pub asked : List ℕ
+
+abbrev pub tally : List ℕ → List ℕ → List ℕ → List ℕ → List ℕ → List ℕ → Tally
+tally left since answers largest above asked =
+    record { left = left; since = since; answers = answers; largest = largest; above = above; asked = asked }
+
+-- a run with nothing in it
+unfoldable pub none : List ℕ
+none = replicate most 0
+
+-- before the first record
+abbrev pub unheard : Tally
+unheard = tally none none none none none none
+
+-- the clock behind the records of c, for streams with the spacings T
+abbrev pub seenAfter : List ℕ → List ℕ → Watch → List ℕ → Seen
+seenAfter c T w asked = followed T (seen w asked) (metIn c (length c / size))
+
+-- behind the same records, for n streams with the bounds R
+abbrev pub after : List ℕ → ℕ → List ℕ → List ℕ → Watch → Tally → Tally
+after c n R T w k = record {
+  left = leftAfter c n (k .left) (k .since);
+  since = sinceAfter c n (k .left) (k .since);
+  answers = answersAfter c n (k .left) (k .since) (k .answers);
+  largest = largestAfter c n (k .left) (k .since) (k .largest);
+  above = aboveAfter c n R (k .left) (k .since) (k .above);
+  asked = seenAfter c T w (k .asked) .asked;
+}
+
+-- ---- What is shown of it
+
+-- 1 for each stream with a request that is open for longer than its bound, else 0
+abbrev pub lateOf : List ℕ → Watch → Tally → List ℕ
+lateOf R w k = overdueRun (w .clock) R (k .left) (k .asked)
+
+-- of n streams
+unfoldable pub textOf : ℕ → List ℕ → List ℕ → Watch → Tally → List ℕ
+textOf n masters R w k =
+    captureText (item masters) (item R) (item (k .largest)) (item (k .answers)) (item (k .above)) (item (k .left)) (item (lateOf R w k)) (w .soon) (w .whose)
+    (w .broken) (min n most)
+
+-- nothing is wrong
+unfoldable pub cleanOf : ℕ → List ℕ → Watch → Tally → Bool
+cleanOf n R w k = clean (item (k .above)) (item (lateOf R w k)) (item (k .answers)) (w .soon) (w .broken) (min n most)
+
+-- ---- Sheet and capture
+
+-- with room for 800 streams, the most that a sheet has, 13 is never given
+abbrev pub laid : List ℕ → Outcome
+laid s = bounded s most
+
+-- a figure of each stream of a sheet
+abbrev pub figures : Sheet → (Segment → ℕ → ℕ) → List ℕ
+figures H figure = streamRun (Read H) figure none
+
+-- what the whole capture leaves
+unfoldable pub tallyOf : Sheet → List ℕ → Tally
+tallyOf H c = after c (length (H .streams)) (figures H boundOf) (figures H spacingOf) began unheard
+
+unfoldable pub watchOf : Sheet → List ℕ → Watch
+watchOf H c = seenAfter c (figures H spacingOf) began none .watch
+
+-- ---- The report
+
+-- the capture's first refusal, with its place in the capture; or what it shows
+abbrev pub heardReport : Verdict → Sheet → List ℕ → List ℕ
+heardReport (Refused n p) H c = captureRefusal n p
+heardReport Passed H c = textOf (length (H .streams)) (figures H masterOf) (figures H boundOf) (watchOf H c) (tallyOf H c)
+
+abbrev pub heardClean : Verdict → Sheet → List ℕ → Bool
+heardClean (Refused n p) H c = false
+heardClean Passed H c = cleanOf (length (H .streams)) (figures H boundOf) (watchOf H c) (tallyOf H c)
+
+-- the sheet's own refusal comes first
+abbrev pub laidReport : Outcome → List ℕ → List ℕ
+laidReport (Not n p) c = refusalText n p
+laidReport (Read H) c = heardReport (heard c (length (H .streams)) fresh) H c
+
+abbrev pub laidClean : Outcome → List ℕ → Bool
+laidClean (Not n p) c = false
+laidClean (Read H) c = heardClean (heard c (length (H .streams)) fresh) H c
+
+unfoldable pub besideReport : List ℕ → List ℕ → List ℕ
+besideReport s c = laidReport (laid s) c
+
+-- the call ends as one that is accepted: sheet and capture are not refused, and the capture shows nothing wrong
+unfoldable pub besideClean : List ℕ → List ℕ → Bool
+besideClean s c = laidClean (laid s) c
