@@ -45,7 +45,7 @@ acceptsOf w deadline = isWithin (answerOf w (deadline .0))
 abbrev pub told : Bool → ℕ → Reported
 told accepted n = cond accepted (answer.Accepted n) (answer.Refused n)
 
--- the answer for a report in a lent run of so many bytes: or no room for every report
+-- the answer for a lent run of so many bytes: whether the path is accepted, and how many the report takes; or no room for every report
 unfoldable pub toldIn : ℕ → Bool → List ℕ → Reported
 toldIn room accepted text = cond (ltb room mostPath) answer.NoRoom (told accepted (length text))
 
