@@ -11,7 +11,7 @@ use borrow.Author.Tests.{leb-false, eqb-true, not-false}
 use lib.Dec.{ltb}
 use lib.ListN.{length}
 use Rattle.common.proofs.Checks.{Clear, none, and}
-use Rattle.sheet_read.specs.Sheets.{Sheet}
+use Rattle.sheet_read.specs.Sheets.{Sheet, busIn}
 use Rattle.sheet_read.specs.Whole.{Outcome, reading}
 use Rattle.sheet_read.specs.Whole.Outcome.{Read}
 use Rattle.pnet_rules.specs.Segment.{Segment, segmentOf}
@@ -116,7 +116,7 @@ sound-is-accepted s H e = let p = bounded-passes s 800 H e in by (p .0) (p .1)
   where
     by : reading s ≡ Read H → Clear (segmentChecks H (ltb 800 (length (H .streams))) (length (H .streams))) → Accepted (segmentOf H)
     by reads (and kind (and room (and late none))) =
-        accepted-on-bus s H (record { reads = reads; on-bus = eqb-true (busIn H) 1 (not-false _ kind) })
+        accepted-on-bus s H (record { reads = reads; pnet = eqb-true (busIn H) 1 (not-false _ kind) })
         (all-pass (segmentOf H) (leb-false (firstLate (segmentOf H)) (length (H .streams)) late))
 
 -- a sheet that is accepted, and the master k that sends
