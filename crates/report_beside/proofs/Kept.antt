@@ -30,7 +30,7 @@ use Rattle.report_beside.specs.declared.Hearing.{Hearing}
 use Rattle.report_beside.specs.declared.Begun.{Begun}
 use Rattle.report_beside.specs.declared.Heard.{Heard}
 use Rattle.report_beside.specs.declared.Reported.{Reported}
-use Rattle.report_beside.specs.Whole.{Tally, tally, none, unheard, seenAfter, after, textOf, cleanOf, laid, figures, tallyOf, watchOf, heardReport, heardClean, laidReport, laidClean, besideReport, besideClean}
+use Rattle.report_beside.specs.Whole.{Tally, tally, none, unheard, seenAfter, waiting, after, textOf, cleanOf, laid, figures, tallyOf, watchOf, heardReport, heardClean, laidReport, laidClean, besideReport, besideClean}
 use Rattle.report_beside.specs.Steps.{last, over, begunAs, begunText, heardAs, heardText, heardTally, reportedAs}
 use Rattle.report_beside.specs.Kept.{Kept, Refuses, Ends, Begins, Hears, Reports}
 use Rattle.report_beside.specs.Kept.Ends.{whole, at-last}
@@ -97,7 +97,7 @@ module _ (s : List ℕ) (r : Begun) (old new masters R T : List ℕ) (k : Tally)
             masters-are = m;
             bounds-are = b;
             spacings-are = d;
-            tally-is = u ∙ sym (after-none (length (H .streams)) (figures H boundOf) (figures H spacingOf));
+            tally-is = u ∙ sym (after-none (figures H boundOf) (figures H spacingOf));
           })
       by (Not n p) e a t m b d u =
           subst (λ (x : Begun). Begins s x old new masters R T k) (sym a) (λ c. refuses (sheet-refused s n p e c) refl t)
@@ -112,15 +112,15 @@ module _ {s c masters R T : List ℕ} {h : Hearing} {k : Tally} (kept : Kept s c
   n = length (H .streams)
 
   abbrev answer : Taken
-  answer = answerTo p (h .streams) (k .left) (k .since)
+  answer = answerTo p (h .streams) (waiting k)
 
   few : n ≤ most
   few = streams-few s H (kept .is-laid)
 
-  answer-is : answer ≡ answerTo p n (tallyOf H c .left) (tallyOf H c .since)
+  answer-is : answer ≡ answerTo p n (waiting (tallyOf H c))
   answer-is =
-      ap (λ (m : ℕ). answerTo p m (k .left) (k .since)) (kept .streams-are)
-      ∙ ap (λ (x : Tally). answerTo p n (x .left) (x .since)) (kept .tally-is)
+      ap (λ (m : ℕ). answerTo p m (waiting k)) (kept .streams-are)
+      ∙ ap (λ (x : Tally). answerTo p n (waiting x)) (kept .tally-is)
 
   seen-is : seenAfter p T (h .watch) (k .asked) ≡ seenAfter (c ++ p) (figures H spacingOf) began none
   unfolding watchOf tallyOf
@@ -130,18 +130,17 @@ module _ {s c masters R T : List ℕ} {h : Hearing} {k : Tally} (kept : Kept s c
       ∙ (ap (λ (x : Tally). seenAfter p (figures H spacingOf) (watchOf H c) (x .asked)) (kept .tally-is)
       ∙ sym (seen-joined c p n few (kept .passes) (figures H boundOf) (figures H spacingOf))))
 
-  tally-then : after p (h .streams) R T (h .watch) k ≡ tallyOf H (c ++ p)
+  tally-then : after p R T (h .watch) k ≡ tallyOf H (c ++ p)
   unfolding watchOf tallyOf
   tally-then =
-      ap (λ (m : ℕ). after p m R T (h .watch) k) (kept .streams-are)
-      ∙ (ap (λ (x : List ℕ). after p n x T (h .watch) k) (kept .bounds-are)
-      ∙ (ap (λ (x : List ℕ). after p n (figures H boundOf) x (h .watch) k) (kept .spacings-are)
-      ∙ (ap (λ (x : Watch). after p n (figures H boundOf) (figures H spacingOf) x k) (kept .watch-is)
-      ∙ (ap (after p n (figures H boundOf) (figures H spacingOf) (watchOf H c)) (kept .tally-is)
-      ∙ sym (after-joined c p n few (kept .passes) (figures H boundOf) (figures H spacingOf))))))
+      ap (λ (x : List ℕ). after p x T (h .watch) k) (kept .bounds-are)
+      ∙ (ap (λ (x : List ℕ). after p (figures H boundOf) x (h .watch) k) (kept .spacings-are)
+      ∙ (ap (λ (x : Watch). after p (figures H boundOf) (figures H spacingOf) x k) (kept .watch-is)
+      ∙ (ap (after p (figures H boundOf) (figures H spacingOf) (watchOf H c)) (kept .tally-is)
+      ∙ sym (after-joined c p n few (kept .passes) (figures H boundOf) (figures H spacingOf)))))
 
   -- it is taken
-  pub still-kept : answer ≡ taken.All → (k' : Tally) → k' ≡ after p (h .streams) R T (h .watch) k
+  pub still-kept : answer ≡ taken.All → (k' : Tally) → k' ≡ after p R T (h .watch) k
       → Kept s (c ++ p) (record { streams = h .streams; bytes = h .bytes + length p; watch = seenAfter p T (h .watch) (k .asked) .watch }) masters R T k'
   unfolding watchOf tallyOf
   still-kept e k' q = record {
@@ -175,11 +174,11 @@ module _ {s c masters R T : List ℕ} {h : Hearing} {k : Tally} (kept : Kept s c
   module _ (x : Heard) (old new : List ℕ) (k' : Tally) where
     pub hears : let short = ltb (h .bytes) last in
         x ≡ heardAs short answer h (length p) (seenAfter p T (h .watch) (k .asked) .watch) → new ≡ heardText short answer (h .bytes) old
-        → k' ≡ heardTally short answer (after p (h .streams) R T (h .watch) k) k → Hears s c p x old new masters R T k'
+        → k' ≡ heardTally short answer (after p R T (h .watch) k) k → Hears s c p x old new masters R T k'
     hears = by (ltb (h .bytes) last) refl answer refl
       where
         by : (b : Bool) → ltb (h .bytes) last ≡ b → (a : Taken) → answer ≡ a → x ≡ heardAs b a h (length p) (seenAfter p T (h .watch) (k .asked) .watch)
-            → new ≡ heardText b a (h .bytes) old → k' ≡ heardTally b a (after p (h .streams) R T (h .watch) k) k → Hears s c p x old new masters R T k'
+            → new ≡ heardText b a (h .bytes) old → k' ≡ heardTally b a (after p R T (h .watch) k) k → Hears s c p x old new masters R T k'
         by false l a e y t q =
             subst (λ (z : Heard). Hears s c p z old new masters R T k') (sym y) (omega (arith, ltb-false (h .bytes) last l, kept .bytes-are))
         by true l taken.All e y t q = subst (λ (z : Heard). Hears s c p z old new masters R T k') (sym y) (still-kept e k' q)

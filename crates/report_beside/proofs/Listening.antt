@@ -14,7 +14,7 @@ use Rattle.report_capture.specs.Shown.{captureRefusal}
 use Rattle.report_beside.specs.declared.Hearing.{Hearing}
 use Rattle.report_beside.specs.declared.Heard.{Heard}
 use Rattle.report_beside.specs.declared.Heard.the-variants as heard
-use Rattle.report_beside.specs.Whole.{Tally, tally, seenAfter, after}
+use Rattle.report_beside.specs.Whole.{Tally, tally, seenAfter, waiting, after}
 use Rattle.report_beside.specs.Steps.{last, over, heardAs, heardText, heardTally}
 use Rattle.report_beside.specs.Kept.{Kept, Hears}
 use Rattle.report_beside.proofs.Kept.{hears}
@@ -25,13 +25,13 @@ module _ (p R T old : List ℕ) (h : Hearing) (k : Tally) where
   short = ltb (h .bytes) last
 
   abbrev answer : Taken
-  answer = answerTo p (h .streams) (k .left) (k .since)
+  answer = answerTo p (h .streams) (waiting k)
 
   abbrev new-watch : Watch
   new-watch = seenAfter p T (h .watch) (k .asked) .watch
 
   abbrev new-tally : Tally
-  new-tally = after p (h .streams) R T (h .watch) k
+  new-tally = after p R T (h .watch) k
 
   -- the answer, the lent text and the lent runs
   abbrev pub Answered : Heard → List ℕ → Tally → Type 0

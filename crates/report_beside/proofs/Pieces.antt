@@ -6,23 +6,20 @@ use native.Mathlib.Omega.{arith}
 use lib.ListN.{length, getD, length-append, length-replicate}
 use Rattle.common.specs.Checks.Verdict.{Passed, Refused}
 use Rattle.common.specs.Runs.{tab}
-use Rattle.common.specs.Sums.{firstOf, up}
+use Rattle.common.specs.Sums.{up}
 use Rattle.common.proofs.Runs.{tab-places, zero-at}
 use Rattle.capture_log.specs.Log as Log
 use Rattle.capture_log.specs.Log.{fresh}
-use Rattle.capture_log.specs.Records.{size, eventsIn, records, heard}
-use Rattle.capture_log.specs.Records as Records
-use Rattle.capture_log.proofs.Refusals.{passed-exactly}
-use Rattle.capture_tally.specs.declared.Taken.{Taken}
+use Rattle.capture_log.specs.Records.{size, eventsIn, records, events, heard}
 use Rattle.capture_tally.specs.declared.Taken.the-variants as taken
-use Rattle.capture_tally.specs.Pieces.{most, before, behind, takenIn, answerTo, leftAfter, sinceAfter, answersAfter, largestAfter, aboveAfter}
+use Rattle.capture_tally.specs.Pieces.{most, before, behind, answerTo, leftAfter, sinceAfter, answersAfter, largestAfter, aboveAfter}
 use Rattle.capture_tally.proofs.Split.{split-refused, split-answer, split-left, split-since, split-answers, split-largest, split-above}
-use Rattle.capture_compare.proofs.Told.{whole-refused, whole-passed}
+use Rattle.capture_compare.proofs.Told.{whole-refused, whole-passed, whole-taken}
 use Rattle.capture_watch.specs.declared.Watch.{Watch}
 use Rattle.capture_watch.specs.Follow.{began, Seen, seen, followed, metIn}
 use Rattle.capture_watch.proofs.Passed.{passed-whole}
 use Rattle.capture_watch.proofs.Pieces.{in-pieces}
-use Rattle.report_beside.specs.Whole.{Tally, tally, none, unheard, seenAfter, after}
+use Rattle.report_beside.specs.Whole.{Tally, tally, none, unheard, seenAfter, waiting, after}
 
 -- runs that are equal make up tallies that are
 pub tally-same : {l l' s s' a a' g g' b b' q q' : List ℕ} → l ≡ l' → s ≡ s' → a ≡ a' → g ≡ g' → b ≡ b' → q ≡ q' → tally l s a g b q ≡ tally l' s' a' g' b' q'
@@ -43,28 +40,28 @@ pub seen-none : (T : List ℕ) → seenAfter [] T began none ≡ seen began none
 unfolding followed metIn
 seen-none T = refl
 
-module _ (n : ℕ) (R T : List ℕ) where
-  left-none : leftAfter [] n none none ≡ none
-  unfolding leftAfter takenIn Records.taken records up firstOf eventsIn Log.left
+module _ (R T : List ℕ) where
+  left-none : leftAfter [] (before none none) ≡ none
+  unfolding leftAfter events records up eventsIn Log.left
   left-none = zero-run _ none-at
 
-  since-none : sinceAfter [] n none none ≡ none
-  unfolding sinceAfter takenIn Records.taken records up firstOf eventsIn Log.since
+  since-none : sinceAfter [] (before none none) ≡ none
+  unfolding sinceAfter events records up eventsIn Log.since
   since-none = zero-run _ none-at
 
-  answers-none : answersAfter [] n none none none ≡ none
-  unfolding answersAfter takenIn Records.taken records up firstOf eventsIn Log.answered
+  answers-none : answersAfter [] none ≡ none
+  unfolding answersAfter events records up eventsIn Log.answered
   answers-none = zero-run (λ i. (getD none i 0 + 0) % 2 ^ 64) (λ i. omega (arith, none-at i))
 
-  largest-none : largestAfter [] n none none none ≡ none
-  unfolding largestAfter takenIn Records.taken records up firstOf eventsIn Log.largest
+  largest-none : largestAfter [] (before none none) none ≡ none
+  unfolding largestAfter events records up eventsIn Log.largest
   largest-none = zero-run (λ i. max (getD none i 0) 0) (λ i. omega (arith, none-at i))
 
-  above-none : aboveAfter [] n R none none none ≡ none
-  unfolding aboveAfter takenIn Records.taken records up firstOf eventsIn Log.above
+  above-none : aboveAfter [] (before none none) R none ≡ none
+  unfolding aboveAfter events records up eventsIn Log.above
   above-none = zero-run (λ i. (getD none i 0 + 0) % 2 ^ 64) (λ i. omega (arith, none-at i))
 
-  pub after-none : after [] n R T began unheard ≡ unheard
+  pub after-none : after [] R T began unheard ≡ unheard
   after-none = tally-same left-none since-none answers-none largest-none above-none (ap (λ (x : Seen). x .asked) (seen-none T))
 
 -- ---- One piece more
@@ -72,7 +69,7 @@ module _ (n : ℕ) (R T : List ℕ) where
 -- c is taken for n streams, and p comes behind it
 module _ (c p : List ℕ) (n : ℕ) (few : n ≤ most) (passes : heard c n fresh ≡ Passed) (R T : List ℕ) where
   abbrev k : Tally
-  k = after c n R T began unheard
+  k = after c R T began unheard
 
   abbrev w : Watch
   w = seenAfter c T began none .watch
@@ -80,48 +77,41 @@ module _ (c p : List ℕ) (n : ℕ) (few : n ≤ most) (passes : heard c n fresh
   whole : length c ≡ size * (length c / size)
   whole = passed-whole c n passes
 
-  all : answerTo c n none none ≡ taken.All
+  all : answerTo c n (before none none) ≡ taken.All
   unfolding none
-  all = split (answerTo c n none none) refl
-    where
-      split : (a : Taken) → answerTo c n none none ≡ a → a ≡ taken.All
-      split taken.All e = refl
-      split (taken.Refused r q) e =
-          let g : Passed ≡ Refused r q = sym passes ∙ whole-refused c n few r q e in
-          let z : _≡_ {A = ℕ} 0 1 = cc in
-          absurd (omega arith)
+  all = whole-taken c n few passes
 
   -- the answer to the piece tells the verdict on both
-  both : answerTo (c ++ p) n none none ≡ behind (length c) (answerTo p n (k .left) (k .since))
-  both = split-answer c p (length c / size) whole n none none all
+  both : answerTo (c ++ p) n (before none none) ≡ behind (length c) (answerTo p n (waiting k))
+  both = split-answer c p (length c / size) whole (before none none) n all
 
-  pub joined-passes : answerTo p n (k .left) (k .since) ≡ taken.All → heard (c ++ p) n fresh ≡ Passed
+  pub joined-passes : answerTo p n (waiting k) ≡ taken.All → heard (c ++ p) n fresh ≡ Passed
   unfolding none
   joined-passes e = whole-passed (c ++ p) n few (both ∙ ap (behind (length c)) e)
 
-  pub joined-refused : (r q : ℕ) → answerTo p n (k .left) (k .since) ≡ taken.Refused r q → heard (c ++ p) n fresh ≡ Refused r (length c + q)
+  pub joined-refused : (r q : ℕ) → answerTo p n (waiting k) ≡ taken.Refused r q → heard (c ++ p) n fresh ≡ Refused r (length c + q)
   unfolding none
   joined-refused r q e = whole-refused (c ++ p) n few r (length c + q) (both ∙ ap (behind (length c)) e)
 
   -- whatever comes behind a piece that ends with a record
-  pub refused-behind : (r q m : ℕ) → length p ≡ size * m → answerTo p n (k .left) (k .since) ≡ taken.Refused r q → (rest : List ℕ)
+  pub refused-behind : (r q m : ℕ) → length p ≡ size * m → answerTo p n (waiting k) ≡ taken.Refused r q → (rest : List ℕ)
       → heard ((c ++ p) ++ rest) n fresh ≡ Refused r (length c + q)
   unfolding none
   refused-behind r q m ends e rest =
       let long : length (c ++ p) ≡ size * (length c / size + m) = omega (arith, length-append c p, whole) in
       whole-refused ((c ++ p) ++ rest) n few r (length c + q)
-      (split-refused (c ++ p) rest (length c / size + m) long n none none r (length c + q) (both ∙ ap (behind (length c)) e))
+      (split-refused (c ++ p) rest (length c / size + m) long (before none none) n r (length c + q) (both ∙ ap (behind (length c)) e))
 
   -- and the runs and the clock go on
   pub seen-joined : seenAfter (c ++ p) T began none ≡ seenAfter p T w (k .asked)
   seen-joined = in-pieces c p (length c / size) whole T (seen began none)
 
-  pub after-joined : after (c ++ p) n R T began unheard ≡ after p n R T w k
+  pub after-joined : after (c ++ p) R T began unheard ≡ after p R T w k
   after-joined =
       tally-same
-      (split-left c p (length c / size) whole n none none all)
-      (split-since c p (length c / size) whole n none none all)
-      (split-answers c p (length c / size) whole n none none all none)
-      (split-largest c p (length c / size) whole n none none all none)
-      (split-above c p (length c / size) whole n none none all R none)
+      (split-left c p (length c / size) whole (before none none))
+      (split-since c p (length c / size) whole (before none none))
+      (split-answers c p (length c / size) whole (before none none) none)
+      (split-largest c p (length c / size) whole (before none none) none)
+      (split-above c p (length c / size) whole (before none none) R none)
       (ap (λ (x : Seen). x .asked) seen-joined)

@@ -15,8 +15,7 @@ use Rattle.pnet_plan.specs.Planned.{atPlace}
 use Rattle.pnet_bounds.specs.Bounded.{bounded, boundOf, masterOf, spacingOf}
 use Rattle.capture_log.specs.declared.Event.{Event}
 use Rattle.capture_log.specs.Log.{fresh, left, answered, largest, above}
-use Rattle.capture_log.specs.Records.{heard}
-use Rattle.capture_compare.specs.Compared.{events}
+use Rattle.capture_log.specs.Records.{events, heard}
 use Rattle.capture_watch.specs.Ages.{broken, soon, whose, beyond}
 use Rattle.report_phrases.specs.Phrases.{refusalText}
 use Rattle.report_capture.specs.Shown.{clean, captureText, captureRefusal}

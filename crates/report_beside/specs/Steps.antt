@@ -52,12 +52,11 @@ heardText false answer d old = old
 heardText true taken.All d old = old
 heardText true (taken.Refused n q) d old = over (captureRefusal n (d + q)) old
 
--- a refused piece is not followed
+-- a refused piece changes nothing
 abbrev pub heardTally : Bool → Taken → Tally → Tally → Tally
 heardTally false answer new old = old
 heardTally true taken.All new old = new
-heardTally true (taken.Refused n q) new old =
-    record { left = new .left; since = new .since; answers = new .answers; largest = new .largest; above = new .above; asked = old .asked }
+heardTally true (taken.Refused n q) new old = old
 
 -- ---- Reporting
 

@@ -12,9 +12,9 @@ use Rattle.sheet_read.specs.Whole.{Outcome}
 use Rattle.sheet_read.specs.Whole.Outcome.{Read, Not}
 use Rattle.pnet_rules.specs.Segment.{Segment}
 use Rattle.pnet_bounds.specs.Bounded.{bounded, boundOf, masterOf, spacingOf, streamRun}
-use Rattle.capture_log.specs.Log.{fresh}
+use Rattle.capture_log.specs.Log.{Before, fresh}
 use Rattle.capture_log.specs.Records.{size, heard}
-use Rattle.capture_tally.specs.Pieces.{most, leftAfter, sinceAfter, answersAfter, largestAfter, aboveAfter}
+use Rattle.capture_tally.specs.Pieces.{most, before, leftAfter, sinceAfter, answersAfter, largestAfter, aboveAfter}
 use Rattle.capture_watch.specs.declared.Watch.{Watch}
 use Rattle.capture_watch.specs.Follow.{began, Seen, seen, followed, metIn, overdueRun}
 use Rattle.report_phrases.specs.Phrases.{refusalText}
@@ -48,14 +48,18 @@ unheard = tally none none none none none none
 abbrev pub seenAfter : List ℕ → List ℕ → Watch → List ℕ → Seen
 seenAfter c T w asked = followed T (seen w asked) (metIn c (length c / size))
 
--- behind the same records, for n streams with the bounds R
-abbrev pub after : List ℕ → ℕ → List ℕ → List ℕ → Watch → Tally → Tally
-after c n R T w k = record {
-  left = leftAfter c n (k .left) (k .since);
-  since = sinceAfter c n (k .left) (k .since);
-  answers = answersAfter c n (k .left) (k .since) (k .answers);
-  largest = largestAfter c n (k .left) (k .since) (k .largest);
-  above = aboveAfter c n R (k .left) (k .since) (k .above);
+-- the requests that are open
+abbrev pub waiting : Tally → Before
+waiting k = before (k .left) (k .since)
+
+-- behind the same records, for streams with the bounds R
+abbrev pub after : List ℕ → List ℕ → List ℕ → Watch → Tally → Tally
+after c R T w k = record {
+  left = leftAfter c (waiting k);
+  since = sinceAfter c (waiting k);
+  answers = answersAfter c (k .answers);
+  largest = largestAfter c (waiting k) (k .largest);
+  above = aboveAfter c (waiting k) R (k .above);
   asked = seenAfter c T w (k .asked) .asked;
 }
 
@@ -87,7 +91,7 @@ figures H figure = streamRun (Read H) figure none
 
 -- what the whole capture leaves
 unfoldable pub tallyOf : Sheet → List ℕ → Tally
-tallyOf H c = after c (length (H .streams)) (figures H boundOf) (figures H spacingOf) began unheard
+tallyOf H c = after c (figures H boundOf) (figures H spacingOf) began unheard
 
 unfoldable pub watchOf : Sheet → List ℕ → Watch
 watchOf H c = seenAfter c (figures H spacingOf) began none .watch

@@ -15,7 +15,7 @@ ghost use Rattle.pnet_bounds.specs.Bounded.{boundOf, masterOf, spacingOf, strea
 ghost use Rattle.capture_tally.specs.Pieces.{answerTo};
 ghost use Rattle.report_phrases.specs.Phrases.{refusalText};
 ghost use Rattle.report_capture.specs.Shown.{captureRefusal};
-ghost use Rattle.report_beside.specs.Whole.{tally, none, seenAfter, after, laid, textOf, cleanOf};
+ghost use Rattle.report_beside.specs.Whole.{tally, none, seenAfter, waiting, after, laid, textOf, cleanOf};
 ghost use Rattle.report_beside.specs.Steps.{last, over, begunAs, begunText, heardAs, heardText, heardTally, reportedAs};
 ghost use Rattle.report_beside.specs.Kept.{Kept, Begins, Hears, Reports};
 
@@ -134,8 +134,8 @@ pub fn hear(
         let p = now (piece .entry) in
         let was = tally (now (left .entry)) (now (since .entry)) (now (answers .entry)) (now (largest .entry)) (now (above .entry)) (now (asked .entry)) in
         let short = ltb (heard .bytes) last in
-        let answer = answerTo p (heard .streams) (was .left) (was .since) in
-        let then = heardTally short answer (after p (heard .streams) (now (bound .entry)) (now (spacing .entry)) (heard .watch) was) was in
+        let answer = answerTo p (heard .streams) (waiting was) in
+        let then = heardTally short answer (after p (now (bound .entry)) (now (spacing .entry)) (heard .watch) was) was in
         ⌜ (r ≡ heardAs short answer heard (length p) (seenAfter p (now (spacing .entry)) (heard .watch) (was .asked) .watch))
         × (now (out .exit) ≡ heardText short answer (heard .bytes) (now (out .entry)))
         × (now (left .exit) ≡ then .left)

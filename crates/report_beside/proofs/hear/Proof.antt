@@ -3,6 +3,7 @@ use mathlib.Core.Path.{_≡_, refl, sym, _∙_}
 use native.Mathlib.Omega.{arith}
 use borrow.Author.Needs.{needs}
 use denote.Ref.{now}
+use Rattle.capture_tally.specs.Pieces.{before}
 use Rattle.capture_tally.proofs.Split.{refused-inside}
 use Rattle.report_beside.specs.Whole.{Tally, tally}
 use Rattle.report_beside.proofs.Pieces.{tally-same}
@@ -33,7 +34,7 @@ add-refuse-capture c =
     let a = c .before .before .before .before .before .before .before .before .before .before .before .before .args in
     let t = c .before .before .before .before .take .ensures in
     let x = c .before .before .taken .given in
-    omega (arith, refused-inside (now (a .piece)) (a .heard .streams) (now (a .left)) (now (a .since)) _ _ (sym (t .0) ∙ x .1))
+    omega (arith, refused-inside (now (a .piece)) (a .heard .streams) (before (now (a .left)) (now (a .since))) _ _ (sym (t .0) ∙ x .1))
 
 refuse-capture-requires : tie.Need-refuse-capture-requires
 refuse-capture-requires c κs = search needs
@@ -45,10 +46,12 @@ returns-2 c =
     let a = start .args in
     let t = c .before .before .before .before .before .take .ensures in
     let x = c .before .before .before .taken .given in
+    let not-taken = sym (t .0) ∙ x .1 in
     promised (now (a .piece)) (now (a .bound)) (now (a .spacing)) (now (a .out)) (a .heard) (was start) _ _ _ _ _ _ _ _
     (answered-refused (now (a .piece)) (now (a .bound)) (now (a .spacing)) (now (a .out)) (a .heard) (was start) (c .before .before .before .before .before .before .before .before .before .before .before .if1 .left) _ _ _ _ _
-    (sym (t .0) ∙ x .1) (c .refuse-capture .ensures .0) (c .refuse-capture .ensures .1)
-    (tally-same (t .1 .0) (t .1 .1 .0) (t .1 .1 .1 .0) (t .1 .1 .1 .1 .0) (t .1 .1 .1 .1 .1) refl))
+    not-taken (c .refuse-capture .ensures .0) (c .refuse-capture .ensures .1)
+    (tally-same (rw not-taken at (t .1)) (rw not-taken at (t .2)) (rw not-taken at (t .3)) (rw not-taken at (t .4))
+    (rw not-taken at (t .5)) refl))
 
 enum-told : tie.Need-enum-told
 enum-told c = search needs
@@ -67,9 +70,11 @@ returns-3 c =
     let t = c .before .before .before .before .take .ensures in
     let x = c .before .before .enum-told .given in
     let f = c .follow .ensures in
+    let all = sym (t .0) ∙ x .1 in
     promised (now (a .piece)) (now (a .bound)) (now (a .spacing)) (now (a .out)) (a .heard) (was start) _ _ _ _ _ _ _ _
     (answered-all (now (a .piece)) (now (a .bound)) (now (a .spacing)) (now (a .out)) (a .heard) (was start) (c .before .before .before .before .before .before .before .before .before .before .if1 .left) _ _
-    (sym (t .0) ∙ x .1) (f .0) (tally-same (t .1 .0) (t .1 .1 .0) (t .1 .1 .1 .0) (t .1 .1 .1 .1 .0) (t .1 .1 .1 .1 .1) (f .1)))
+    all (f .0)
+    (tally-same (rw all at (t .1)) (rw all at (t .2)) (rw all at (t .3)) (rw all at (t .4)) (rw all at (t .5)) (f .1)))
 
 pub hear-spec : {M : Type 1} → statement M
 hear-spec =
