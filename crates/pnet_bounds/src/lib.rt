@@ -34,7 +34,7 @@ fn first_late(s: &[u8], first: usize, n: usize, counts: &[u8; 33], turn: u32) ->
     let mut at = first;
     let mut i: usize = 0;
     while i < n {
-        let met = sheet_record::stream_at(s, at, 1);
+        let met = sheet_record::pnet_stream_at(s, at);
         let r = met.found;
         let bound = counts[r.a as usize] as u32 * turn;
         if r.d < bound {
@@ -66,7 +66,7 @@ fn by_stream(
     let mut at = first;
     let mut i: usize = 0;
     while i < n {
-        let met = sheet_record::stream_at(s, at, 1);
+        let met = sheet_record::pnet_stream_at(s, at);
         let r = met.found;
         masters[i] = r.a as u8;
         bound[i] = counts[r.a as usize] as u32 * turn;

@@ -95,7 +95,7 @@ fn place(
     let mut at = first;
     let mut i: usize = 0;
     while i < streams {
-        let met = sheet_record::stream_at(s, at, 1);
+        let met = sheet_record::pnet_stream_at(s, at);
         let r = met.found;
         let m = r.a as usize;
         let bound = counts[m] as u32 * turn;

@@ -37,7 +37,7 @@ fn largest_target(
     let mut at = first;
     let mut i: usize = 0;
     while i < streams {
-        let met = sheet_record::stream_at(s, at, 3);
+        let met = sheet_record::ring_stream_at(s, at);
         let r = met.found;
         let master = r.a as usize;
         let h = counts[master] as u64;

@@ -5,9 +5,10 @@ use mathlib.Core.Path.{_≡_, refl, sym, ap, subst, _∙_}
 use mathlib.Core.List.{List, [], _++_, append-nil}
 use mathlib.Core.Bool.{Bool, true, false}
 use native.Mathlib.Omega.{arith}
-use borrow.Author.Tests.{ltb-false}
+use borrow.Author.Tests.{ltb-true, ltb-false}
 use lib.Dec.{ltb}
-use lib.ListN.{length, length-append}
+use lib.ListN.{length, take, drop, length-append}
+use lib.Seq.{take-append-seam}
 use Rattle.common.specs.Checks.{Verdict}
 use Rattle.common.specs.Checks.Verdict.{Passed, Refused}
 use Rattle.sheet_read.specs.Sheets.{Sheet}
@@ -28,11 +29,14 @@ use Rattle.report_phrases.specs.Phrases.{refusalText}
 use Rattle.report_capture.specs.Shown.{captureRefusal}
 use Rattle.report_beside.specs.declared.Hearing.{Hearing}
 use Rattle.report_beside.specs.declared.Begun.{Begun}
+use Rattle.report_beside.specs.declared.Begun.the-variants as begun
 use Rattle.report_beside.specs.declared.Heard.{Heard}
+use Rattle.report_beside.specs.declared.Heard.the-variants as heards
 use Rattle.report_beside.specs.declared.Reported.{Reported}
+use Rattle.report_beside.specs.declared.Reported.the-variants as reported
 use Rattle.report_beside.specs.Whole.{Tally, tally, none, unheard, seenAfter, waiting, after, textOf, cleanOf, laid, figures, tallyOf, watchOf, heardReport, heardClean, laidReport, laidClean, besideReport, besideClean}
 use Rattle.report_beside.specs.Steps.{last, over, begunAs, begunText, heardAs, heardText, heardTally, reportedAs}
-use Rattle.report_beside.specs.Kept.{Kept, Refuses, Ends, Begins, Hears, Reports}
+use Rattle.report_beside.specs.Kept.{Kept, Refuses, Ends, Begins, Hears, Reports, Holds, Tells}
 use Rattle.report_beside.specs.Kept.Ends.{whole, at-last}
 use Rattle.report_beside.proofs.Pieces.{seen-none, after-none, joined-passes, joined-refused, refused-behind, seen-joined, after-joined}
 
@@ -181,7 +185,8 @@ module _ {s c masters R T : List ℕ} {h : Hearing} {k : Tally} (kept : Kept s c
             → new ≡ heardText b a (h .bytes) old → k' ≡ heardTally b a (after p R T (h .watch) k) k → Hears s c p x old new masters R T k'
         by false l a e y t q =
             subst (λ (z : Heard). Hears s c p z old new masters R T k') (sym y) (omega (arith, ltb-false (h .bytes) last l, kept .bytes-are))
-        by true l taken.All e y t q = subst (λ (z : Heard). Hears s c p z old new masters R T k') (sym y) (still-kept e k' q)
+        by true l taken.All e y t q =
+            subst (λ (z : Heard). Hears s c p z old new masters R T k') (sym y) (omega (arith, ltb-true (h .bytes) last l, kept .bytes-are), still-kept e k' q)
         by true l (taken.Refused r q) e y t u =
             subst (λ (z : Heard). Hears s c p z old new masters R T k') (sym y) (λ rest ends. refuses (then-refused r q e rest ends) refl t)
 
@@ -211,3 +216,68 @@ module _ {s c masters R T : List ℕ} {h : Hearing} {k : Tally} (kept : Kept s c
     says = a ∙ (ap (λ (b : Bool). reportedAs b (length (textOf (h .streams) masters R (h .watch) k))) clean-is ∙ ap (λ (x : List ℕ). reportedAs (besideClean s c) (length x)) text-is);
     text-is = w ∙ ap (λ (x : List ℕ). over x old) text-is;
   }
+
+-- ---- What a program holds and writes
+
+front : (t old : List ℕ) {new : List ℕ} {n : ℕ} → n ≡ length t → new ≡ over t old → take n new ≡ t
+unfolding over
+front t old l w = rw (l, w) (take-append-seam t (drop (length t) old))
+
+tells-refused : {s c old new : List ℕ} {n : ℕ} → Refuses s c old new n → Tells s new n false
+tells-refused {s} {c} {old} x = record { capture = c; text-is = front (besideReport s c) old (x .length-is) (x .text-is); says = sym (x .is-refused) }
+
+-- behind the sheet
+module _ (s old new masters R T : List ℕ) (k : Tally) (x : Begun) (b : Begins s x old new masters R T k) where
+  pub begun-holds : (h : Hearing) → x ≡ begun.On h → Holds s h masters R T k
+  begun-holds h e = record { capture = []; kept = subst (λ (y : Begun). Begins s y old new masters R T k) e b }
+
+  pub begun-tells : (n : ℕ) → x ≡ begun.Refused n → Tells s new n false
+  begun-tells n e = tells-refused (subst (λ (y : Begun). Begins s y old new masters R T k) e b [])
+
+-- behind a piece
+module _ {s masters R T : List ℕ} {h : Hearing} {k : Tally} (held : Holds s h masters R T k) (p : List ℕ) (x : Heard) (old new : List ℕ) (k' : Tally)
+    (clause : (s c masters : List ℕ) → Kept s c h masters R T k → Hears s c p x old new masters R T k') where
+  hears-it : Hears s (held .capture) p x old new masters R T k'
+  hears-it = clause s (held .capture) masters (held .kept)
+
+  module _ (next : Hearing) (e : x ≡ heards.On next) where
+    on : (length (held .capture) < last) × Kept s (held .capture ++ p) next masters R T k'
+    on = subst (λ (y : Heard). Hears s (held .capture) p y old new masters R T k') e hears-it
+
+    pub heard-holds : Holds s next masters R T k'
+    heard-holds = record { capture = held .capture ++ p; kept = on .1 }
+
+    -- its bytes are counted, and they can be
+    pub heard-counts : (h .bytes < last) × (next .bytes ≡ h .bytes + length p)
+    heard-counts = (
+      omega (arith, on .0, held .kept .bytes-are),
+      omega (arith, on .1 .bytes-are, held .kept .bytes-are, length-append (held .capture) p),
+    )
+
+  pub heard-tells : (n : ℕ) → x ≡ heards.Refused n → Tells s new n false
+  heard-tells n e = tells-refused (subst (λ (y : Heard). Hears s (held .capture) p y old new masters R T k') e hears-it [] at-last)
+
+-- behind the last one
+module _ {s masters R T : List ℕ} {h : Hearing} {k : Tally} (held : Holds s h masters R T k) (r : Reported) (old new : List ℕ)
+    (reported-it : Reports s (held .capture) r old new) where
+  abbrev c : List ℕ
+  c = held .capture
+
+  -- the answer says whether it is accepted
+  pub clean-tells : (n : ℕ) → r ≡ reported.Clean n → Tells s new n true
+  clean-tells n e = by (besideClean s c) refl (sym e ∙ reported-it .says)
+    where
+      by : (b : Bool) → besideClean s c ≡ b → reported.Clean n ≡ reportedAs b (length (besideReport s c)) → Tells s new n true
+      by true f q =
+          let l : n ≡ length (besideReport s c) = cc in
+          record { capture = c; text-is = front (besideReport s c) old l (reported-it .text-is); says = sym f }
+      by false f q = let z : _≡_ {A = ℕ} 0 1 = cc in absurd (omega arith)
+
+  pub faulty-tells : (n : ℕ) → r ≡ reported.Faulty n → Tells s new n false
+  faulty-tells n e = by (besideClean s c) refl (sym e ∙ reported-it .says)
+    where
+      by : (b : Bool) → besideClean s c ≡ b → reported.Faulty n ≡ reportedAs b (length (besideReport s c)) → Tells s new n false
+      by true f q = let z : _≡_ {A = ℕ} 0 1 = cc in absurd (omega arith)
+      by false f q =
+          let l : n ≡ length (besideReport s c) = cc in
+          record { capture = c; text-is = front (besideReport s c) old l (reported-it .text-is); says = sym f }

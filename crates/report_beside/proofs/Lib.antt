@@ -2,5 +2,6 @@ pub mod Beginning
 pub mod Kept
 pub mod Listening
 pub mod Pieces
+pub mod Recorded
 pub mod Reporting
 pub mod Stored

@@ -1,10 +1,10 @@
 -- What the runs hold between two pieces, and what each step makes of it: the report is that of sheet and capture as a whole. s is the sheet, c
 -- the capture so far, p the next piece. Assumes nothing.
-use Prim.Native.Nat.{ℕ, _*_, _≤_}
+use Prim.Native.Nat.{ℕ, _*_, _≤_, _<_}
 use mathlib.Core.Path.{_≡_}
 use mathlib.Core.List.{List, [], _++_}
-use mathlib.Core.Bool.{false}
-use lib.ListN.{length}
+use mathlib.Core.Bool.{Bool, false}
+use lib.ListN.{length, take}
 use Rattle.common.specs.Checks.Verdict.{Passed}
 use Rattle.sheet_read.specs.Sheets.{Sheet}
 use Rattle.sheet_read.specs.Whole.Outcome.{Read}
@@ -17,7 +17,7 @@ use Rattle.report_beside.specs.declared.Begun.the-variants as begun
 use Rattle.report_beside.specs.declared.Heard.{Heard}
 use Rattle.report_beside.specs.declared.Heard.the-variants as heard
 use Rattle.report_beside.specs.declared.Reported.{Reported}
-use Rattle.report_beside.specs.Whole.{Tally, laid, figures, tallyOf, watchOf, besideReport, besideClean}
+use Rattle.report_beside.specs.Whole.{Tally, tally, laid, figures, tallyOf, watchOf, besideReport, besideClean}
 use Rattle.report_beside.specs.Steps.{last, over, reportedAs}
 
 -- neither sheet nor capture is refused so far, and the runs hold what they leave
@@ -53,7 +53,7 @@ Begins s (begun.Refused n) old new masters R T k = (c : List ℕ) → Refuses s 
 
 -- hearing: the piece is heard; or the capture is refused, whatever comes behind it; or it is too long to be counted
 abbrev pub Hears : List ℕ → List ℕ → List ℕ → Heard → List ℕ → List ℕ → List ℕ → List ℕ → List ℕ → Tally → Type 0
-Hears s c p (heard.On h) old new masters R T k = Kept s (c ++ p) h masters R T k
+Hears s c p (heard.On h) old new masters R T k = (length c < last) × Kept s (c ++ p) h masters R T k
 Hears s c p (heard.Refused n) old new masters R T k = (rest : List ℕ) → Ends p rest → Refuses s ((c ++ p) ++ rest) old new n
 Hears s c p heard.TooLong old new masters R T k = last ≤ length c
 
@@ -61,3 +61,22 @@ Hears s c p heard.TooLong old new masters R T k = last ≤ length c
 pub record Reports (s c : List ℕ) (r : Reported) (old new : List ℕ) : Type 0 where
   pub says : r ≡ reportedAs (besideClean s c) (length (besideReport s c))
   pub text-is : new ≡ over (besideReport s c) old
+
+-- ---- What a program holds and writes, of which nobody knows what it read
+
+-- what a sheet and the pieces of some capture leave
+pub record Holds (s : List ℕ) (h : Hearing) (masters R T : List ℕ) (k : Tally) : Type 0 where
+  pub capture : List ℕ
+  pub kept : Kept s capture h masters R T k
+
+-- the same of what is shown alone
+pub record Shows (s : List ℕ) (h : Hearing) (masters R left answers largest above asked : List ℕ) : Type 0 where
+  pub spacing : List ℕ
+  pub since : List ℕ
+  pub held : Holds s h masters R spacing (tally left since answers largest above asked)
+
+-- the first n bytes of a text are the whole report of the sheet s beside a capture, and `accepted` is what it says
+pub record Tells (s text : List ℕ) (n : ℕ) (accepted : Bool) : Type 0 where
+  pub capture : List ℕ
+  pub text-is : take n text ≡ besideReport s capture
+  pub says : accepted ≡ besideClean s capture

@@ -180,6 +180,13 @@ pub record Reads (s : List ℕ) (head : Record) (bus : ℕ) (g : Given) (counts 
   pub is-given : g ≡ limits-of head
   pub behind : Behind s head counts longests ids n at
 
+-- the bus is one of the three
+pub bus-kinds : {s : List ℕ} {head : Record} {bus : ℕ} {g : Given} {counts longests ids : List ℕ} {n at : ℕ} → Reads s head bus g counts longests ids n at
+    → bus ≡ 1 ⊎ bus ≡ 3 ⊎ bus ≡ 5
+bus-kinds {head = head} r =
+    let f = head-first (r .behind) in
+    rw (r .is-bus ∙ first-bus (head .kind) f) (first-kinds (head .kind) f)
+
 -- the reader comes to a record: what it meets, whether that is right and in range, and the refusal of it by itself
 pub record Meets (s : List ℕ) (head : Record) (counts longests ids : List ℕ) (n at bus : ℕ) (g : Given) (met : Met) (right ranged : Bool) (own : ℕ) : Type 0 where
   pub reads : Reads s head bus g counts longests ids n at

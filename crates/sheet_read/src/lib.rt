@@ -1,9 +1,12 @@
 // Reading a whole sheet, page 01 'Sheet records' and 'Numbered refusals' 1..7.
 use sheet_record::Given;
+use sheet_record::Met;
 use sheet_record::Record;
 ghost use mathlib.Core.Path.{_≡_};
+ghost use mathlib.Core.Bool.{_&&_};
+ghost use mathlib.Core.Logic.{_⊎_};
 ghost use Prim.Native.Nat.{_≤_, max};
-ghost use Rattle.sheet_record.specs.Kinds.{known};
+ghost use Rattle.sheet_record.specs.Kinds.{pnet, profibus, worldfip, known, isStreamOf, inRange, streamMet};
 ghost use Rattle.sheet_read.specs.Steps;
 ghost use Rattle.sheet_read.specs.Steps.{ownNo, lateNo, countsWith, longestsWith, idsWith, Begun};
 ghost use Rattle.sheet_read.specs.Whole.{told, countsTold, longestsTold, reading};
@@ -107,6 +110,30 @@ fn keep(counts: &mut [u8; 33], longests: &mut [u32; 33], ids: &mut [u32; 64], n:
     }
 }
 
+// The stream of a bus at a place. The bus is a constant in each arm, so that the compiler makes a reader of its own for each.
+fn stream_at(s: &[u8], at: usize, bus: u8) -> Met
+    requires { ⌜ bus ≡ pnet ⊎ (bus ≡ profibus ⊎ bus ≡ worldfip) ⌝ }
+    ensures { λ r. ⌜ r ≡ streamMet (now (s .entry)) at bus ⌝ }
+{
+    match bus {
+        1 => sheet_record::pnet_stream_at(s, at),
+        3 => sheet_record::ring_stream_at(s, at),
+        _ => sheet_record::variable_at(s, at),
+    }
+}
+
+// A stream of a bus with every field in its range.
+fn stream_in_range(bus: u8, given: Given, r: Record) -> bool
+    requires { ⌜ bus ≡ pnet ⊎ (bus ≡ profibus ⊎ bus ≡ worldfip) ⌝ }
+    ensures { λ ok. ⌜ ok ≡ (isStreamOf bus (r .kind) && inRange given r) ⌝ }
+{
+    match bus {
+        1 => sheet_record::in_range_of(2, given, r),
+        3 => sheet_record::in_range_of(4, given, r),
+        _ => sheet_record::in_range_of(6, given, r),
+    }
+}
+
 // Reads the streams behind a first record that passed, up to the sheet's end or the first refusal.
 fn read_streams(
     s: &[u8],
@@ -132,10 +159,10 @@ fn read_streams(
     let mut at = first;
     while at < s.len() {
         let kind = s[at];
-        let met = sheet_record::stream_at(s, at, bus);
+        let met = stream_at(s, at, bus);
         let stream = met.found;
         let right = sheet_record::is_stream_of(bus, kind);
-        let ranged = sheet_record::stream_in_range(bus, given, stream);
+        let ranged = stream_in_range(bus, given, stream);
         let own = own_no(kind, right, met.next != at, ranged);
         if own != 0 {
             return Reading::Refused { no: own, place: at };

@@ -6,7 +6,7 @@ ghost use lib.Dec.{eqb};
 ghost use lib.ListN.{length, getD};
 ghost use Rattle.sheet_record.specs.Numbers.{be};
 ghost use Rattle.sheet_record.specs.Kinds;
-ghost use Rattle.sheet_record.specs.Kinds.{busOf, isFirst, isStreamOf, inRange, metAt, metOf, streamMet, nothing};
+ghost use Rattle.sheet_record.specs.Kinds.{pnet, profibus, worldfip, busOf, isFirst, isStreamOf, inRange, metAt, metOf, streamMet, nothing};
 ghost use Rattle.sheet_record.specs.Widths.{Wide};
 
 // One record: its kind, and its fields in the order of the page. A field that the kind does not have is 0.
@@ -162,17 +162,27 @@ pub fn record_at(s: &[u8], at: usize) -> Met
     record_of(s, at, s[at])
 }
 
-// The stream of a bus at a place and the place just after it; nothing, and the place itself, where no whole stream of that bus stands. All
-// that a planner meets of a sheet behind its first record comes from here.
-pub fn stream_at(s: &[u8], at: usize, bus: u8) -> Met
-    ensures { λ r. ⌜ r ≡ streamMet (now (s .entry)) at bus ⌝ }
+// The P-NET stream at a place and the place just after it; nothing, and the place itself, where none stands whole. All that a planner meets of
+// a sheet behind its first record comes from one function, that of its bus; the kind stands there as a constant, so that one line of
+// `record_of` is left in the planner's loop.
+pub fn pnet_stream_at(s: &[u8], at: usize) -> Met
+    ensures { λ r. ⌜ r ≡ streamMet (now (s .entry)) at pnet ⌝ }
 {
-    match bus {
-        1 => record_of(s, at, 2),
-        3 => record_of(s, at, 4),
-        5 => record_of(s, at, 6),
-        _ => nothing_at(at),
-    }
+    record_of(s, at, 2)
+}
+
+// The same of PROFIBUS.
+pub fn ring_stream_at(s: &[u8], at: usize) -> Met
+    ensures { λ r. ⌜ r ≡ streamMet (now (s .entry)) at profibus ⌝ }
+{
+    record_of(s, at, 4)
+}
+
+// And of WorldFIP, whose streams are variables.
+pub fn variable_at(s: &[u8], at: usize) -> Met
+    ensures { λ r. ⌜ r ≡ streamMet (now (s .entry)) at worldfip ⌝ }
+{
+    record_of(s, at, 6)
 }
 
 // A record of a kind with every field in its range, behind what is given. A field that the kind does not have is 0. All tests are made at
@@ -228,16 +238,4 @@ pub fn in_range(given: Given, r: Record) -> bool
     ensures { λ ok. ⌜ ok ≡ inRange given r ⌝ }
 {
     in_range_of(r.kind, given, r)
-}
-
-// A stream of a bus with every field in its range.
-pub fn stream_in_range(bus: u8, given: Given, r: Record) -> bool
-    ensures { λ ok. ⌜ ok ≡ (isStreamOf bus (r .kind) && inRange given r) ⌝ }
-{
-    match bus {
-        1 => in_range_of(2, given, r),
-        3 => in_range_of(4, given, r),
-        5 => in_range_of(6, given, r),
-        _ => false,
-    }
 }

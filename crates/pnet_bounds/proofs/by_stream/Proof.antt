@@ -28,24 +28,24 @@ abbrev μ-loop : tie.MeasureT-loop
 loop-holds : tie.Need-loop-holds Inv-loop μ-loop
 loop-holds c = (search needs, c .before .before .before .before .pre .0 .0 .starts, filling-none _ _, filling-none _ _, filling-none _ _)
 
-stream-at-requires : tie.Need-stream-at-requires Inv-loop μ-loop
-stream-at-requires c κs = search needs
+pnet-stream-at-requires : tie.Need-pnet-stream-at-requires Inv-loop μ-loop
+pnet-stream-at-requires c κs = search needs
 
 -- what is met is stream i + 1
-its : (c : tie.After-stream-at Inv-loop μ-loop)
-    → Here (c .before .before .before .before .before .before .before .args .s .now) (c .before .before .loop .i) (c .stream-at .result)
+its : (c : tie.After-pnet-stream-at Inv-loop μ-loop)
+    → Here (c .before .before .before .before .before .before .before .args .s .now) (c .before .before .loop .i) (c .pnet-stream-at .result)
 its c =
     let l = c .before .before .loop in
-    here (c .before .before .before .before .before .before .before .pre .0 .0) (l .i) (l .at) (c .stream-at .result) (omega arith) (l .inv .1)
-    (c .stream-at .ensures)
+    here (c .before .before .before .before .before .before .before .pre .0 .0) (l .i) (l .at) (c .pnet-stream-at .result) (omega arith) (l .inv .1)
+    (c .pnet-stream-at .ensures)
 
 -- and its master, bound and spacing are those that the code has
-stream : (c : tie.After-stream-at Inv-loop μ-loop)
+stream : (c : tie.After-pnet-stream-at Inv-loop μ-loop)
     → Placed (c .before .before .before .before .before .before .before .args .s .now) (c .before .before .loop .i) (c .before .before .before .before .before .before .before .args .counts .now) (c .before .before .before .before .before .before .before .args .turn)
-    (c .stream-at .result .found)
+    (c .pnet-stream-at .result .found)
 stream c =
     let start = c .before .before .before .before .before .before .before in
-    placed (start .pre .0 .0) (start .args .counts .now) (start .args .turn) (start .pre .1 .0) (start .pre .1 .1) (c .before .before .loop .i) (c .stream-at .result) (omega arith) (its c)
+    placed (start .pre .0 .0) (start .args .counts .now) (start .args .turn) (start .pre .1 .0) (start .pre .1 .1) (c .before .before .loop .i) (c .pnet-stream-at .result) (omega arith) (its c)
 
 cast-masters : tie.Need-cast-masters Inv-loop μ-loop
 cast-masters c = omega (arith, stream (c .before .before))
@@ -113,7 +113,7 @@ by-stream-spec =
     Inv-loop
     μ-loop
     loop-holds
-    stream-at-requires
+    pnet-stream-at-requires
     cast-masters
     slice-write-masters
     cast-bound

@@ -25,21 +25,21 @@ abbrev μ-loop : tie.MeasureT-loop
 loop-holds : tie.Need-loop-holds Inv-loop μ-loop
 loop-holds c = (search needs, c .before .pre .0 .starts, below-none _)
 
-stream-at-requires : tie.Need-stream-at-requires Inv-loop μ-loop
-stream-at-requires c κs = search needs
+pnet-stream-at-requires : tie.Need-pnet-stream-at-requires Inv-loop μ-loop
+pnet-stream-at-requires c κs = search needs
 
 -- what is met is stream i + 1
-its : (c : tie.After-stream-at Inv-loop μ-loop)
-    → Here (c .before .before .before .before .args .s .now) (c .before .before .loop .i) (c .stream-at .result)
+its : (c : tie.After-pnet-stream-at Inv-loop μ-loop)
+    → Here (c .before .before .before .before .args .s .now) (c .before .before .loop .i) (c .pnet-stream-at .result)
 its c =
     let l = c .before .before .loop in
-    here (c .before .before .before .before .pre .0) (l .i) (l .at) (c .stream-at .result) (omega arith) (l .inv .1) (c .stream-at .ensures)
+    here (c .before .before .before .before .pre .0) (l .i) (l .at) (c .pnet-stream-at .result) (omega arith) (l .inv .1) (c .pnet-stream-at .ensures)
 
-stream : (c : tie.After-stream-at Inv-loop μ-loop)
-    → Placed (c .before .before .before .before .args .s .now) (c .before .before .loop .i) (c .before .before .before .before .args .counts .now) (c .before .before .before .before .args .turn) (c .stream-at .result .found)
+stream : (c : tie.After-pnet-stream-at Inv-loop μ-loop)
+    → Placed (c .before .before .before .before .args .s .now) (c .before .before .loop .i) (c .before .before .before .before .args .counts .now) (c .before .before .before .before .args .turn) (c .pnet-stream-at .result .found)
 stream c =
     let start = c .before .before .before .before in
-    placed (start .pre .0) (start .args .counts .now) (start .args .turn) (start .pre .1 .0) (start .pre .1 .1) (c .before .before .loop .i) (c .stream-at .result) (omega arith) (its c)
+    placed (start .pre .0) (start .args .counts .now) (start .args .turn) (start .pre .1 .0) (start .pre .1 .1) (c .before .before .loop .i) (c .pnet-stream-at .result) (omega arith) (its c)
 
 cast-bound : tie.Need-cast-bound Inv-loop μ-loop
 cast-bound c = omega (arith, stream (c .before .before))
@@ -64,7 +64,7 @@ returns c =
     let a = r .before .before .before .before .args in
     let p = r .before .before .before .before .pre in
     let S = segmentIn (a .s .now) in
-    let hit = its-late (p .0) (omega arith) (r .stream-at .result) (its r) (a .counts .now) (a .turn) (p .1 .1) (p .1 .0) (c .if1 .taken) in
+    let hit = its-late (p .0) (omega arith) (r .pnet-stream-at .result) (its r) (a .counts .now) (a .turn) (p .1 .1) (p .1 .0) (c .if1 .taken) in
     first-here (late S) (S .number) (l .i) (l .inv .2) (omega (arith, number-is (p .0))) hit
 
 add-i : tie.Need-add-i Inv-loop μ-loop
@@ -81,7 +81,7 @@ loop-again c =
     let p = r .before .before .before .before .pre in (
       search needs,
       its r .next,
-      below-more _ _ (l .inv .2) (its-not-late (p .0) (omega arith) (r .stream-at .result) (its r) (a .counts .now) (a .turn) (p .1 .1) (p .1 .0) (omega (arith, c .if1 .left))),
+      below-more _ _ (l .inv .2) (its-not-late (p .0) (omega arith) (r .pnet-stream-at .result) (its r) (a .counts .now) (a .turn) (p .1 .1) (p .1 .0) (omega (arith, c .if1 .left))),
     )
 
 add-result-2 : tie.Need-add-result-2 Inv-loop μ-loop
@@ -104,7 +104,7 @@ first-late-spec =
     Inv-loop
     μ-loop
     loop-holds
-    stream-at-requires
+    pnet-stream-at-requires
     cast-bound
     element-copy-out-bound
     cast-bound-2

@@ -34,24 +34,24 @@ abbrev μ-loop : tie.MeasureT-loop
 loop-holds : tie.Need-loop-holds Inv-loop μ-loop
 loop-holds c = let p = c .before .before .pre in (search needs, p .0 .0 .starts, search needs, below-none _, p .1 .1)
 
-stream-at-requires : tie.Need-stream-at-requires Inv-loop μ-loop
-stream-at-requires c κs = search needs
+pnet-stream-at-requires : tie.Need-pnet-stream-at-requires Inv-loop μ-loop
+pnet-stream-at-requires c κs = search needs
 
 -- what is met is stream i + 1
-its : (c : tie.After-stream-at Inv-loop μ-loop)
-    → Here (c .before .before .before .before .before .args .s .now) (c .before .before .loop .i) (c .stream-at .result)
+its : (c : tie.After-pnet-stream-at Inv-loop μ-loop)
+    → Here (c .before .before .before .before .before .args .s .now) (c .before .before .loop .i) (c .pnet-stream-at .result)
 its c =
     let l = c .before .before .loop in
-    here (c .before .before .before .before .before .pre .0 .0) (l .i) (l .at) (c .stream-at .result) (omega arith) (l .inv .1) (c .stream-at .ensures)
+    here (c .before .before .before .before .before .pre .0 .0) (l .i) (l .at) (c .pnet-stream-at .result) (omega arith) (l .inv .1) (c .pnet-stream-at .ensures)
 
 -- of one of the masters
-master : (c : tie.After-stream-at Inv-loop μ-loop) → c .stream-at .result .found .a ≤ 32
-master c = its-master (c .before .before .before .before .before .pre .0 .0) (omega arith) (c .stream-at .result) (its c)
+master : (c : tie.After-pnet-stream-at Inv-loop μ-loop) → c .pnet-stream-at .result .found .a ≤ 32
+master c = its-master (c .before .before .before .before .before .pre .0 .0) (omega arith) (c .pnet-stream-at .result) (its c)
 
 -- and there is a place for it
-few : (c : tie.After-stream-at Inv-loop μ-loop)
-    → Small (c .stream-at .result .found .a) (at (c .before .before .loop .ends) (c .stream-at .result .found .a)) (length (c .before .before .loop .spacings))
-few c = small (c .before .before .before .before .before .pre .0 .0) (omega arith) (c .stream-at .result) (its c) (c .before .before .loop .inv .4)
+few : (c : tie.After-pnet-stream-at Inv-loop μ-loop)
+    → Small (c .pnet-stream-at .result .found .a) (at (c .before .before .loop .ends) (c .pnet-stream-at .result .found .a)) (length (c .before .before .loop .spacings))
+few c = small (c .before .before .before .before .before .pre .0 .0) (omega arith) (c .pnet-stream-at .result) (its c) (c .before .before .loop .inv .4)
 
 cast-m : tie.Need-cast-m Inv-loop μ-loop
 cast-m c = omega (arith, master (c .before .before))
@@ -60,12 +60,12 @@ element-copy-out-bound : tie.Need-element-copy-out-bound Inv-loop μ-loop
 element-copy-out-bound c = omega (arith, master (c .before .before))
 
 -- its master's count and V are small
-count-small : (c : tie.After-stream-at Inv-loop μ-loop) → at (c .before .before .before .before .before .args .counts .now) (c .stream-at .result .found .a) ≤ 80
+count-small : (c : tie.After-pnet-stream-at Inv-loop μ-loop) → at (c .before .before .before .before .before .args .counts .now) (c .pnet-stream-at .result .found .a) ≤ 80
 count-small c =
     let p = c .before .before .before .before .before .pre in
-    omega (arith, p .1 .0 .1 (c .stream-at .result .found .a) (master c), declares (p .0 .0) .counts (c .stream-at .result .found .a))
+    omega (arith, p .1 .0 .1 (c .pnet-stream-at .result .found .a) (master c), declares (p .0 .0) .counts (c .pnet-stream-at .result .found .a))
 
-v-small : (c : tie.After-stream-at Inv-loop μ-loop) → c .before .before .before .before .before .args .turn ≤ 51040
+v-small : (c : tie.After-pnet-stream-at Inv-loop μ-loop) → c .before .before .before .before .before .args .turn ≤ 51040
 v-small c =
     let a = c .before .before .before .before .before .args in
     let p = c .before .before .before .before .before .pre in
@@ -78,7 +78,7 @@ mul-bound : tie.Need-mul-bound Inv-loop μ-loop
 mul-bound c =
     let r = c .before .before .before in
     let a = r .before .before .before .before .before .args in
-    omega (arith, mul-le-mul {n₁ = at (a .counts .now) (r .stream-at .result .found .a)} {m₁ = a .turn} {n₂ = 80} {m₂ = 51040} (count-small r) (v-small r))
+    omega (arith, mul-le-mul {n₁ = at (a .counts .now) (r .pnet-stream-at .result .found .a)} {m₁ = a .turn} {n₂ = 80} {m₂ = 51040} (count-small r) (v-small r))
 
 add-result : tie.Need-add-result Inv-loop μ-loop
 add-result c = search needs
@@ -94,7 +94,7 @@ returns c =
     let a = r .before .before .before .before .before .args in
     let p = r .before .before .before .before .before .pre in
     let S = segmentIn (a .s .now) in
-    let hit = its-late (p .0 .0) (omega arith) (r .stream-at .result) (its r) (a .counts .now) (a .turn) (p .1 .0 .1) (p .1 .0 .0) (c .if1 .taken) in
+    let hit = its-late (p .0 .0) (omega arith) (r .pnet-stream-at .result) (its r) (a .counts .now) (a .turn) (p .1 .0 .1) (p .1 .0 .0) (c .if1 .taken) in
     (first-here (late S) (S .number) (l .i) (l .inv .3) (omega (arith, number-is (p .0 .0))) hit, λ over. absurd (omega arith))
 
 mul-end : tie.Need-mul-end Inv-loop μ-loop
@@ -148,13 +148,13 @@ loop-again c =
     let l = r .before .before .loop in
     let a = r .before .before .before .before .before .args in
     let p = r .before .before .before .before .before .pre in
-    let m = r .stream-at .result .found .a in (
+    let m = r .pnet-stream-at .result .found .a in (
       search needs,
       its r .next,
-      length-set (l .spacings) (at (l .ends) m) (r .stream-at .result .found .c) ∙ l .inv .2,
+      length-set (l .spacings) (at (l .ends) m) (r .pnet-stream-at .result .found .c) ∙ l .inv .2,
       below-more _ _ (l .inv .3)
-          (its-not-late (p .0 .0) (omega arith) (r .stream-at .result) (its r) (a .counts .now) (a .turn) (p .1 .0 .1) (p .1 .0 .0) (omega (arith, c .before .before .before .if1 .left))),
-      grouped-next (p .0 .0) (omega arith) (r .stream-at .result) (its r) (l .inv .4) (c .smaller .result) (c .smaller .ensures),
+          (its-not-late (p .0 .0) (omega arith) (r .pnet-stream-at .result) (its r) (a .counts .now) (a .turn) (p .1 .0 .1) (p .1 .0 .0) (omega (arith, c .before .before .before .if1 .left))),
+      grouped-next (p .0 .0) (omega arith) (r .pnet-stream-at .result) (its r) (l .inv .4) (c .smaller .result) (c .smaller .ensures),
     )
 
 add-result-2 : tie.Need-add-result-2 Inv-loop μ-loop
@@ -180,7 +180,7 @@ place-spec =
     Inv-loop
     μ-loop
     loop-holds
-    stream-at-requires
+    pnet-stream-at-requires
     cast-m
     element-copy-out-bound
     cast-bound

@@ -43,27 +43,27 @@ module _ (start : tie.Start Inv-loop μ-loop) where
 
 -- the record that was met is stream i + 1
 step : (c : tie.After-struct-known Inv-loop μ-loop)
-    → Stepped (c .before .before .before .before .before .before .args .s .now) (ring (c .before .before .before .before .before .before)) (c .before .before .before .before .loop .i + 1) (c .before .before .stream-at .result)
+    → Stepped (c .before .before .before .before .before .before .args .s .now) (ring (c .before .before .before .before .before .before)) (c .before .before .before .before .loop .i + 1) (c .before .before .ring-stream-at .result)
 step c =
     let start = c .before .before .before .before .before .before in
     let l = c .before .before .before .before .loop in
-    stepped (start .args .s .now) (start .args .first) (start .args .streams) (start .pre .0) (l .i) (l .at) (c .before .before .stream-at .result)
-    (c .before .before .before .loop-test .taken) (l .inv .1) (c .before .before .stream-at .ensures)
+    stepped (start .args .s .now) (start .args .first) (start .args .streams) (start .pre .0) (l .i) (l .at) (c .before .before .ring-stream-at .result)
+    (c .before .before .before .loop-test .taken) (l .inv .1) (c .before .before .ring-stream-at .ensures)
 
 -- its master's count is the ring's h
 share : (c : tie.After-struct-known Inv-loop μ-loop)
-    → getD (c .before .before .before .before .before .before .args .counts .now) (c .before .before .stream-at .result .found .a) 0 ≡ count (ring (c .before .before .before .before .before .before)) (ring (c .before .before .before .before .before .before) .stream (c .before .before .before .before .loop .i + 1) .master)
+    → getD (c .before .before .before .before .before .before .args .counts .now) (c .before .before .ring-stream-at .result .found .a) 0 ≡ count (ring (c .before .before .before .before .before .before)) (ring (c .before .before .before .before .before .before) .stream (c .before .before .before .before .loop .i + 1) .master)
 share c =
     let start = c .before .before .before .before .before .before in
-    let master = c .before .before .stream-at .result .found .a in
+    let master = c .before .before .ring-stream-at .result .found .a in
     ap (λ (l : List ℕ). getD l master 0) (start .pre .1 .0) ∙ (getD-tab (count (ring start)) 33 master (step c .small) ∙ ap (count (ring start)) (step c .master))
 
 -- and stands behind streams 1..i, with its figures
 next : (c : tie.After-struct-known3 Inv-loop μ-loop)
     → Next (ring (c .before .before .before .before .before .before .before .before .before)) (c .before .before .before .before .before .before .before .loop .i) (c .before .before .before .before .before .before .before .loop .borne) (c .before .before .before .before .before .before .before .loop .limiting)
-    (getD (c .before .before .before .before .before .before .before .before .before .args .counts .now) (c .before .before .before .before .before .stream-at .result .found .a) 0)
-    (c .before .before .before .before .before .stream-at .result .found .b)
-    (c .before .before .before .before .before .stream-at .result .found .c)
+    (getD (c .before .before .before .before .before .before .before .before .before .args .counts .now) (c .before .before .before .before .before .ring-stream-at .result .found .a) 0)
+    (c .before .before .before .before .before .ring-stream-at .result .found .b)
+    (c .before .before .before .before .before .ring-stream-at .result .found .c)
 next c =
     let s = step (c .before .before .before) in
     record {
@@ -82,8 +82,8 @@ loop-holds c =
     let l : rotation (ring (c .before)) (ring (c .before) .latency) ≤ 1000000000 = omega (arith, at-latency (c .before), at-latency-most (c .before)) in
     (omega arith, c .before .pre .0 .starts, tight-none (ring (c .before)) l)
 
-stream-at-requires : tie.Need-stream-at-requires Inv-loop μ-loop
-stream-at-requires c κs = search needs
+ring-stream-at-requires : tie.Need-ring-stream-at-requires Inv-loop μ-loop
+ring-stream-at-requires c κs = search needs
 
 cast-master : tie.Need-cast-master Inv-loop μ-loop
 cast-master c = omega (arith, step c .small)
@@ -170,7 +170,7 @@ largest-target-spec =
     μ-loop
     add-shortest
     loop-holds
-    stream-at-requires
+    ring-stream-at-requires
     cast-master
     element-copy-out-h
     cast-h

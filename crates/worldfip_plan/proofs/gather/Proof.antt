@@ -28,8 +28,8 @@ abbrev μ-loop : tie.MeasureT-loop
 μ-loop s first n names₀ periods₀ at₀ i₀ names periods at i = n - i
 
 -- the record that was met is the next variable
-step : (c : tie.After-struct-known Inv-loop μ-loop) → Stepped (c .before .before .before .before .before .before .pre) (c .before .before .before .before .loop .i) (c .before .before .stream-at .result)
-step c = stepped (c .before .before .before .before .before .before .pre) (c .before .before .before .before .loop .i) (c .before .before .before .before .loop .at) (c .before .before .stream-at .result) (omega arith) (c .before .before .before .before .loop .inv .3) (c .before .before .stream-at .ensures)
+step : (c : tie.After-struct-known Inv-loop μ-loop) → Stepped (c .before .before .before .before .before .before .pre) (c .before .before .before .before .loop .i) (c .before .before .variable-at .result)
+step c = stepped (c .before .before .before .before .before .before .pre) (c .before .before .before .before .loop .i) (c .before .before .before .before .loop .at) (c .before .before .variable-at .result) (omega arith) (c .before .before .before .before .loop .inv .3) (c .before .before .variable-at .ensures)
 
 -- and there is room for it
 few : (c : tie.After-struct-known Inv-loop μ-loop) → c .before .before .before .before .loop .i < 64
@@ -38,8 +38,8 @@ few c = omega (arith, ready-declared (c .before .before .before .before .before 
 loop-holds : tie.Need-loop-holds Inv-loop μ-loop
 loop-holds c = (search needs, refl, refl, c .before .pre .starts, front-none _ 64, front-none _ 64)
 
-stream-at-requires : tie.Need-stream-at-requires Inv-loop μ-loop
-stream-at-requires c κs = search needs
+variable-at-requires : tie.Need-variable-at-requires Inv-loop μ-loop
+variable-at-requires c κs = search needs
 
 cast-names : tie.Need-cast-names Inv-loop μ-loop
 cast-names c = omega (arith, step c .small)
@@ -95,7 +95,7 @@ gather-spec =
     Inv-loop
     μ-loop
     loop-holds
-    stream-at-requires
+    variable-at-requires
     cast-names
     mul-names
     array-write-names

@@ -1,0 +1,179 @@
+-- The report says what the capture's records say, wherever 64 bits hold its bytes and its clock: below 2^64 bytes and 2^64 bp, which are 7 million
+-- years. So whoever reads a report reads page 02's four figures and docs/DECISIONS.md 57 to 64 of the whole capture. Assumes nothing.
+use Prim.Native.Nat.{ℕ, zero, suc, _+_, _-_, _*_, _/_, _^_, _≤_, _<_, min}
+use mathlib.Core.Path.{_≡_, refl, sym, ap, subst, fun-ext, _∙_}
+use mathlib.Core.List.{List}
+use mathlib.Core.Bool.{Bool}
+use native.Mathlib.Decide.{decLt}
+use native.Mathlib.Omega.{arith}
+use lib.ListN.{length, getD, drop, replicate, length-replicate, List·getD-eq-default}
+use lib.Seq.{getD-append-add}
+use Rattle.common.specs.Checks.{Verdict}
+use Rattle.common.specs.Checks.Verdict.{Passed, Refused}
+use Rattle.common.specs.Runs.{tab, filled}
+use Rattle.common.specs.Sums.{when}
+use Rattle.common.proofs.Runs.{length-tab, filled-at, zero-at}
+use Rattle.text.specs.Text.{item}
+use Rattle.sheet_record.specs.Kinds.{nothing}
+use Rattle.sheet_read.specs.Sheets.{Sheet}
+use Rattle.sheet_read.specs.Whole.{Outcome}
+use Rattle.sheet_read.specs.Whole.Outcome.{Read, Not}
+use Rattle.pnet_rules.specs.Segment.{Segment, segmentOf, streamAt}
+use Rattle.pnet_plan.specs.Planned.{atPlace}
+use Rattle.pnet_bounds.specs.Bounded.{boundOf, masterOf, spacingOf}
+use Rattle.capture_log.specs.declared.Event.{Event}
+use Rattle.capture_log.specs.Log.{fresh, left, answered, largest, above}
+use Rattle.capture_log.specs.Records.{size, eventsIn, heard}
+use Rattle.capture_tally.specs.Pieces.{most}
+use Rattle.capture_compare.specs.Compared.{events}
+use Rattle.capture_compare.proofs.Told.{left-whole, answers-whole, largest-whole, above-whole}
+use Rattle.capture_watch.specs.Ages.{clock, broken, soon, whose, beyond}
+use Rattle.capture_watch.specs.Follow.{began, Seen, overdueRun}
+use Rattle.capture_watch.proofs.Means.{Keeps, overdue-means}
+use Rattle.capture_watch.proofs.Passed.{passed-count, passed-means}
+use Rattle.report_capture.specs.Shown.{clean, captureText}
+use Rattle.report_capture.proofs.Same.{Agree, clean-same, capture-same}
+use Rattle.report_beside.specs.Whole.{none, seenAfter, lateOf, textOf, cleanOf, laid, figures, tallyOf, watchOf, heardReport, heardClean, laidReport, laidClean, besideReport, besideClean}
+use Rattle.report_beside.specs.Recorded.{aboveAt, lateAt, recordedText, recordedClean, shownReport, shownClean, sheetReport, sheetClean, recordedReport, recordedAccepted}
+use Rattle.report_beside.proofs.Kept.{streams-few}
+
+-- ---- The sheet's runs
+
+zero-drop : (m n i : ℕ) → _≡_ {A = ℕ} (getD (drop n (replicate m 0)) i 0) 0
+zero-drop m zero i = zero-at m i
+zero-drop zero (suc n) i = refl
+zero-drop (suc m) (suc n) i = zero-drop m n i
+
+-- behind the last stream a run has zeros
+zero-behind : (f : ℕ → ℕ) (n j : ℕ) → n ≤ j → getD (filled f n none) j 0 ≡ 0
+unfolding filled none
+zero-behind f n j h =
+    let e : j ≡ length (tab f n) + (j - n) = omega (arith, length-tab f n) in
+    ap (λ (k : ℕ). getD (filled f n none) k 0) e ∙ (getD-append-add (tab f n) (drop n none) (j - n) 0 ∙ zero-drop most n (j - n))
+
+module _ (H : Sheet) where
+  abbrev S : Segment
+  S = segmentOf H
+
+  abbrev n : ℕ
+  n = length (H .streams)
+
+  figure-at : (figure : Segment → ℕ → ℕ) → Agree n (item (figures H figure)) (atPlace (figure S))
+  figure-at figure i l = filled-at (atPlace (figure S)) n i none l
+
+  -- the spacing of every stream, on the sheet or not
+  spacing-of : (i : ℕ) → getD (figures H spacingOf) (i - 1) 0 ≡ spacingOf S i
+  unfolding segmentOf streamAt
+  spacing-of i = split (decLt (i - 1) n)
+    where
+      split : Dec (i - 1 < n) → getD (figures H spacingOf) (i - 1) 0 ≡ spacingOf S i
+      split (yes l) = let e : i - 1 + 1 - 1 ≡ i - 1 = omega arith in figure-at spacingOf (i - 1) l ∙ ap (λ (k : ℕ). getD (H .streams) k nothing .c) e
+      split (no l) =
+          zero-behind (atPlace (spacingOf S)) n (i - 1) (omega (arith, l))
+          ∙ sym (ap (λ r. r .c) (List·getD-eq-default (H .streams) nothing {n = i - 1} (omega (arith, l))))
+
+-- ---- A capture that passes
+
+module _ (s c : List ℕ) (H : Sheet) (is-laid : laid s ≡ Read H) (passes : heard c (length (H .streams)) fresh ≡ Passed) (small : length c < 2 ^ 64)
+    (short : clock (events c) < 2 ^ 64) where
+  few : n H ≤ most
+  few = streams-few s H is-laid
+
+  abbrev T : List ℕ
+  T = figures H spacingOf
+
+  abbrev kept : Seen
+  kept = seenAfter c T began none
+
+  events-are : eventsIn c (length c / size) ≡ events c
+  unfolding events
+  events-are = ap (eventsIn c) (sym (passed-count c (n H) passes))
+
+  keeps : Keeps T (events c) kept
+  unfolding none
+  keeps =
+      subst (λ (es : List Event). Keeps T es kept) events-are
+      (passed-means c (n H) passes few T none (length-replicate {A = ℕ} most 0) (λ i l. zero-at most i) small (subst (λ (es : List Event). clock es < 2 ^ 64) (sym events-are) short))
+
+  left-at : (i : ℕ) → i < most → getD (tallyOf H c .left) i 0 ≡ left fresh (events c) (i + 1)
+  unfolding tallyOf none
+  left-at i l = left-whole c (n H) few small passes i l
+
+  answers-at : Agree (n H) (item (tallyOf H c .answers)) (atPlace (answered (events c)))
+  unfolding tallyOf none
+  answers-at i l = answers-whole c (n H) few small passes i (omega (arith, few))
+
+  largest-at : Agree (n H) (item (tallyOf H c .largest)) (atPlace (largest fresh (events c)))
+  unfolding tallyOf none
+  largest-at i l = largest-whole c (n H) few small passes i (omega (arith, few))
+
+  above-at : Agree (n H) (item (tallyOf H c .above)) (aboveAt H (events c))
+  unfolding tallyOf none aboveAt
+  above-at i l =
+      above-whole c (n H) few small passes i (omega (arith, few)) (figures H boundOf)
+      ∙ ap (λ (R : ℕ). above fresh R (events c) (i + 1)) (figure-at H boundOf i l)
+
+  late-at : Agree (n H) (item (lateOf (figures H boundOf) (watchOf H c) (tallyOf H c))) (lateAt H (events c))
+  unfolding tallyOf watchOf lateAt
+  late-at i l =
+      overdue-means keeps short (figures H boundOf) (tallyOf H c .left) left-at i (omega (arith, few))
+      ∙ ap (λ (R : ℕ). when (beyond R (events c) (i + 1)) 1) (figure-at H boundOf i l)
+
+  spacing-same : _≡_ {A = ℕ → ℕ} (λ i. getD T (i - 1) 0) (spacingOf (segmentOf H))
+  spacing-same = fun-ext (spacing-of H)
+
+  soon-is : watchOf H c .soon ≡ soon (spacingOf (segmentOf H)) (events c)
+  unfolding watchOf
+  soon-is = keeps .soon-is ∙ ap (λ (f : ℕ → ℕ). soon f (events c)) spacing-same
+
+  whose-is : watchOf H c .whose ≡ whose (spacingOf (segmentOf H)) (events c)
+  unfolding watchOf
+  whose-is = keeps .whose-is ∙ ap (λ (f : ℕ → ℕ). whose f (events c)) spacing-same
+
+  broken-is : watchOf H c .broken ≡ broken (events c)
+  unfolding watchOf
+  broken-is = keeps .broken-is
+
+  all-shown : min (n H) most ≡ n H
+  all-shown = omega (arith, few)
+
+  text-recorded : textOf (n H) (figures H masterOf) (figures H boundOf) (watchOf H c) (tallyOf H c) ≡ recordedText H (events c)
+  unfolding textOf recordedText
+  text-recorded =
+      rw (all-shown, soon-is, whose-is, broken-is)
+      (capture-same (n H) _ (aboveAt H (events c)) _ (lateAt H (events c)) _ (atPlace (answered (events c))) above-at late-at answers-at _ _ _ _
+      (atPlace (masterOf (segmentOf H))) _ (atPlace (boundOf (segmentOf H))) _ (atPlace (largest fresh (events c))) _ (atPlace (left fresh (events c)))
+      (figure-at H masterOf) (figure-at H boundOf) largest-at (λ i l. left-at i (omega (arith, few))))
+
+  clean-recorded : cleanOf (n H) (figures H boundOf) (watchOf H c) (tallyOf H c) ≡ recordedClean H (events c)
+  unfolding cleanOf recordedClean
+  clean-recorded =
+      rw (all-shown, soon-is, broken-is)
+      (clean-same (n H) _ (aboveAt H (events c)) _ (lateAt H (events c)) _ (atPlace (answered (events c))) above-at late-at answers-at _ 0 _)
+
+-- ---- Any sheet and capture
+
+module _ (s c : List ℕ) (small : length c < 2 ^ 64) (short : clock (events c) < 2 ^ 64) where
+  pub report-as-recorded : besideReport s c ≡ recordedReport s c
+  unfolding besideReport recordedReport
+  report-as-recorded = by (laid s) refl
+    where
+      by : (o : Outcome) → laid s ≡ o → laidReport o c ≡ sheetReport o c
+      by (Not m p) e = refl
+      by (Read H) e = on (heard c (length (H .streams)) fresh) refl
+        where
+          on : (v : Verdict) → heard c (length (H .streams)) fresh ≡ v → heardReport v H c ≡ shownReport v H (events c)
+          on (Refused m p) q = refl
+          on Passed q = text-recorded s c H e q small short
+
+  pub clean-as-recorded : besideClean s c ≡ recordedAccepted s c
+  unfolding besideClean recordedAccepted
+  clean-as-recorded = by (laid s) refl
+    where
+      by : (o : Outcome) → laid s ≡ o → laidClean o c ≡ sheetClean o c
+      by (Not m p) e = refl
+      by (Read H) e = on (heard c (length (H .streams)) fresh) refl
+        where
+          on : (v : Verdict) → heard c (length (H .streams)) fresh ≡ v → heardClean v H c ≡ shownClean v H (events c)
+          on (Refused m p) q = refl
+          on Passed q = clean-recorded s c H e q small short

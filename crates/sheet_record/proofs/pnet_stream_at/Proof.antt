@@ -1,0 +1,18 @@
+-- `sheet_record::pnet_stream_at` meets its contract: the streams of P-NET are of one kind. Assumes nothing.
+use mathlib.Core.Path.{_∙_}
+use borrow.Author.Needs.{needs}
+use Rattle.sheet_record.proofs.Parts.{pnet-streams}
+use Rattle.sheet_record.proofs.Records.{stream-kind}
+use Rattle.sheet_record.proofs.pnet_stream_at.Statement.{statement}
+use Rattle.sheet_record.proofs.pnet_stream_at.Tie as tie
+
+record-of-requires : tie.Need-record-of-requires
+record-of-requires c κs = search needs
+
+returns : tie.Need-returns
+returns c =
+    let a = c .before .before .args in
+    c .record-of .ensures ∙ stream-kind (a .s .now) (a .at) 1 2 pnet-streams
+
+pub pnet-stream-at-spec : {M : Type 1} → statement M
+pnet-stream-at-spec = tie.close (tie.spec record-of-requires returns)
