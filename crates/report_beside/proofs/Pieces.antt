@@ -1,5 +1,5 @@
 -- What pieces leave is what the capture leaves that they make up. Assumes nothing.
-use Prim.Native.Nat.{ℕ, _+_, _*_, _/_, _%_, _^_, _≤_, _<_, max}
+use Prim.Native.Nat.{ℕ, _+_, _*_, _/_, _%_, _^_, _≤_, max}
 use mathlib.Core.Path.{_≡_, refl, sym, ap, _∙_}
 use mathlib.Core.List.{List, [], _++_}
 use native.Mathlib.Omega.{arith}
@@ -12,10 +12,9 @@ use Rattle.capture_log.specs.Log as Log
 use Rattle.capture_log.specs.Log.{fresh}
 use Rattle.capture_log.specs.Records.{size, eventsIn, records, heard}
 use Rattle.capture_log.specs.Records as Records
-use Rattle.capture_log.proofs.Refusals.{passed-exactly}
 use Rattle.capture_tally.specs.declared.Taken.{Taken}
 use Rattle.capture_tally.specs.declared.Taken.the-variants as taken
-use Rattle.capture_tally.specs.Pieces.{most, before, behind, takenIn, answerTo, leftAfter, sinceAfter, answersAfter, largestAfter, aboveAfter}
+use Rattle.capture_tally.specs.Pieces.{most, behind, takenIn, answerTo, leftAfter, sinceAfter, answersAfter, largestAfter, aboveAfter}
 use Rattle.capture_tally.proofs.Split.{split-refused, split-answer, split-left, split-since, split-answers, split-largest, split-above}
 use Rattle.capture_compare.proofs.Told.{whole-refused, whole-passed}
 use Rattle.capture_watch.specs.declared.Watch.{Watch}

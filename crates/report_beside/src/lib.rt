@@ -19,7 +19,7 @@ ghost use Rattle.report_beside.specs.Whole.{tally, none, seenAfter, afte
 ghost use Rattle.report_beside.specs.Steps.{last, over, begunAs, begunText, heardAs, heardText, heardTally, reportedAs};
 ghost use Rattle.report_beside.specs.Kept.{Kept, Begins, Hears, Reports};
 
-// No place of a capture is counted behind this one, 2^63.
+// A piece that begins at this byte of a capture or behind it is not heard, 2^63: its places could not be counted.
 const LAST: usize = 9_223_372_036_854_775_808;
 
 // What goes from step to step beside the runs: how many streams the sheet has, how many bytes of the capture were heard, and the clock.
