@@ -1,6 +1,6 @@
 -- What beginning with a sheet answers, from what the sheet gives. Assumes nothing.
 use Prim.Native.Nat.{ℕ}
-use mathlib.Core.Path.{_≡_, refl, sym, ap, _∙_}
+use mathlib.Core.Path.{_≡_, sym, ap, _∙_}
 use mathlib.Core.List.{List}
 use lib.ListN.{length}
 use Rattle.sheet_read.specs.Whole.{Outcome}
@@ -11,7 +11,6 @@ use Rattle.capture_compare.proofs.Beside.{told-refused, accepts}
 use Rattle.capture_watch.specs.declared.Watch.{Watch}
 use Rattle.capture_watch.specs.Follow.{began}
 use Rattle.report_phrases.specs.Phrases.{refusalText}
-use Rattle.report_beside.specs.declared.Begun.{Begun}
 use Rattle.report_beside.specs.declared.Begun.the-variants as begun
 use Rattle.report_beside.specs.Whole.{laid}
 use Rattle.report_beside.specs.Steps.{over, begunAs, begunText}

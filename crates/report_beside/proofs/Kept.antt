@@ -31,10 +31,10 @@ use Rattle.report_beside.specs.declared.Hearing.{Hearing}
 use Rattle.report_beside.specs.declared.Begun.{Begun}
 use Rattle.report_beside.specs.declared.Begun.the-variants as begun
 use Rattle.report_beside.specs.declared.Heard.{Heard}
-use Rattle.report_beside.specs.declared.Heard.the-variants as heards
+use Rattle.report_beside.specs.declared.Heard.the-variants as told
 use Rattle.report_beside.specs.declared.Reported.{Reported}
 use Rattle.report_beside.specs.declared.Reported.the-variants as reported
-use Rattle.report_beside.specs.Whole.{Tally, tally, none, unheard, seenAfter, waiting, after, textOf, cleanOf, laid, figures, tallyOf, watchOf, heardReport, heardClean, laidReport, laidClean, besideReport, besideClean}
+use Rattle.report_beside.specs.Whole.{Tally, none, unheard, seenAfter, waiting, after, textOf, cleanOf, laid, figures, tallyOf, watchOf, heardReport, heardClean, laidReport, laidClean, besideReport, besideClean}
 use Rattle.report_beside.specs.Steps.{last, over, begunAs, begunText, heardAs, heardText, heardTally, reportedAs}
 use Rattle.report_beside.specs.Kept.{Kept, Refuses, Ends, Begins, Hears, Reports, Holds, Tells}
 use Rattle.report_beside.specs.Kept.Ends.{whole, at-last}
@@ -240,7 +240,7 @@ module _ {s masters R T : List ℕ} {h : Hearing} {k : Tally} (held : Holds s h 
   hears-it : Hears s (held .capture) p x old new masters R T k'
   hears-it = clause s (held .capture) masters (held .kept)
 
-  module _ (next : Hearing) (e : x ≡ heards.On next) where
+  module _ (next : Hearing) (e : x ≡ told.On next) where
     on : (length (held .capture) < last) × Kept s (held .capture ++ p) next masters R T k'
     on = subst (λ (y : Heard). Hears s (held .capture) p y old new masters R T k') e hears-it
 
@@ -254,7 +254,7 @@ module _ {s masters R T : List ℕ} {h : Hearing} {k : Tally} (held : Holds s h 
       omega (arith, on .1 .bytes-are, held .kept .bytes-are, length-append (held .capture) p),
     )
 
-  pub heard-tells : (n : ℕ) → x ≡ heards.Refused n → Tells s new n false
+  pub heard-tells : (n : ℕ) → x ≡ told.Refused n → Tells s new n false
   heard-tells n e = tells-refused (subst (λ (y : Heard). Hears s (held .capture) p y old new masters R T k') e hears-it [] at-last)
 
 -- behind the last one

@@ -1,4 +1,5 @@
 pub mod Beginning
+pub mod Examples
 pub mod Kept
 pub mod Listening
 pub mod Pieces

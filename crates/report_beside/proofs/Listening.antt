@@ -1,6 +1,6 @@
 -- What hearing a piece answers and leaves, case by case, as the code comes to it. Assumes nothing.
 use Prim.Native.Nat.{ℕ, _+_, _≤_, _<_}
-use mathlib.Core.Path.{_≡_, refl, sym, ap, _∙_}
+use mathlib.Core.Path.{_≡_, refl, ap}
 use mathlib.Core.List.{List}
 use mathlib.Core.Bool.{Bool, true, false}
 use borrow.Author.Tests.{lt-ltb, le-ltb}
@@ -13,7 +13,7 @@ use Rattle.capture_watch.specs.declared.Watch.{Watch}
 use Rattle.report_capture.specs.Shown.{captureRefusal}
 use Rattle.report_beside.specs.declared.Hearing.{Hearing}
 use Rattle.report_beside.specs.declared.Heard.{Heard}
-use Rattle.report_beside.specs.declared.Heard.the-variants as heard
+use Rattle.report_beside.specs.declared.Heard.the-variants as told
 use Rattle.report_beside.specs.Whole.{Tally, tally, seenAfter, waiting, after}
 use Rattle.report_beside.specs.Steps.{last, over, heardAs, heardText, heardTally}
 use Rattle.report_beside.specs.Kept.{Kept, Hears}
@@ -41,19 +41,19 @@ module _ (p R T old : List ℕ) (h : Hearing) (k : Tally) where
       → new ≡ heardText b a (h .bytes) old → k' ≡ heardTally b a new-tally k → Answered x new k'
   by b a e f x new k' q r s = rw (e, f) (q, r, s)
 
-  pub answered-long : last ≤ h .bytes → Answered heard.TooLong old k
-  answered-long l = by false answer (le-ltb (h .bytes) last l) refl heard.TooLong old k refl refl refl
+  pub answered-long : last ≤ h .bytes → Answered told.TooLong old k
+  answered-long l = by false answer (le-ltb (h .bytes) last l) refl told.TooLong old k refl refl refl
 
   module _ (l : h .bytes < last) where
     pub answered-all : (w : Watch) (k' : Tally) → answer ≡ taken.All → w ≡ new-watch → k' ≡ new-tally
-        → Answered (heard.On (record { streams = h .streams; bytes = h .bytes + length p; watch = w })) old k'
+        → Answered (told.On (record { streams = h .streams; bytes = h .bytes + length p; watch = w })) old k'
     answered-all w k' e q s =
         by true taken.All (lt-ltb (h .bytes) last l) e _ old k'
-        (ap (λ (x : Watch). heard.On (record { streams = h .streams; bytes = h .bytes + length p; watch = x })) q) refl s
+        (ap (λ (x : Watch). told.On (record { streams = h .streams; bytes = h .bytes + length p; watch = x })) q) refl s
 
     pub answered-refused : (r q n : ℕ) (new : List ℕ) (k' : Tally) → answer ≡ taken.Refused r q → n ≡ length (captureRefusal r (h .bytes + q))
-        → new ≡ over (captureRefusal r (h .bytes + q)) old → k' ≡ heardTally true (taken.Refused r q) new-tally k → Answered (heard.Refused n) new k'
-    answered-refused r q n new k' e a t s = by true (taken.Refused r q) (lt-ltb (h .bytes) last l) e _ new k' (ap heard.Refused a) t s
+        → new ≡ over (captureRefusal r (h .bytes + q)) old → k' ≡ heardTally true (taken.Refused r q) new-tally k → Answered (told.Refused n) new k'
+    answered-refused r q n new k' e a t s = by true (taken.Refused r q) (lt-ltb (h .bytes) last l) e _ new k' (ap told.Refused a) t s
 
   -- both clauses of the contract
   pub promised : (x : Heard) (new left since answers largest above asked : List ℕ) → Answered x new (tally left since answers largest above asked)

@@ -1,9 +1,8 @@
 -- The report says what the capture's records say, wherever 64 bits hold its bytes and its clock: below 2^64 bytes and 2^64 bp, which are 7 million
 -- years. So whoever reads a report reads page 02's four figures and docs/DECISIONS.md 57 to 64 of the whole capture. Assumes nothing.
-use Prim.Native.Nat.{ℕ, zero, suc, _+_, _-_, _*_, _/_, _^_, _≤_, _<_, min}
+use Prim.Native.Nat.{ℕ, zero, suc, _+_, _-_, _/_, _^_, _≤_, _<_, min}
 use mathlib.Core.Path.{_≡_, refl, sym, ap, subst, fun-ext, _∙_}
 use mathlib.Core.List.{List}
-use mathlib.Core.Bool.{Bool}
 use native.Mathlib.Decide.{decLt}
 use native.Mathlib.Omega.{arith}
 use lib.ListN.{length, getD, drop, replicate, length-replicate, List·getD-eq-default}
@@ -28,10 +27,9 @@ use Rattle.capture_tally.specs.Pieces.{most}
 use Rattle.capture_compare.specs.Compared.{events}
 use Rattle.capture_compare.proofs.Told.{left-whole, answers-whole, largest-whole, above-whole}
 use Rattle.capture_watch.specs.Ages.{clock, broken, soon, whose, beyond}
-use Rattle.capture_watch.specs.Follow.{began, Seen, overdueRun}
+use Rattle.capture_watch.specs.Follow.{began, Seen}
 use Rattle.capture_watch.proofs.Means.{Keeps, overdue-means}
 use Rattle.capture_watch.proofs.Passed.{passed-count, passed-means}
-use Rattle.report_capture.specs.Shown.{clean, captureText}
 use Rattle.report_capture.proofs.Same.{Agree, clean-same, capture-same}
 use Rattle.report_beside.specs.Whole.{none, seenAfter, lateOf, textOf, cleanOf, laid, figures, tallyOf, watchOf, heardReport, heardClean, laidReport, laidClean, besideReport, besideClean}
 use Rattle.report_beside.specs.Recorded.{aboveAt, lateAt, recordedText, recordedClean, shownReport, shownClean, sheetReport, sheetClean, recordedReport, recordedAccepted}

@@ -15,7 +15,7 @@ use Rattle.report_beside.specs.declared.Hearing.{Hearing}
 use Rattle.report_beside.specs.declared.Begun.{Begun}
 use Rattle.report_beside.specs.declared.Begun.the-variants as begun
 use Rattle.report_beside.specs.declared.Heard.{Heard}
-use Rattle.report_beside.specs.declared.Heard.the-variants as heard
+use Rattle.report_beside.specs.declared.Heard.the-variants as told
 use Rattle.report_beside.specs.declared.Reported.{Reported}
 use Rattle.report_beside.specs.Whole.{Tally, tally, laid, figures, tallyOf, watchOf, besideReport, besideClean}
 use Rattle.report_beside.specs.Steps.{last, over, reportedAs}
@@ -53,9 +53,9 @@ Begins s (begun.Refused n) old new masters R T k = (c : List ℕ) → Refuses s 
 
 -- hearing: the piece is heard; or the capture is refused, whatever comes behind it; or it is too long to be counted
 abbrev pub Hears : List ℕ → List ℕ → List ℕ → Heard → List ℕ → List ℕ → List ℕ → List ℕ → List ℕ → Tally → Type 0
-Hears s c p (heard.On h) old new masters R T k = (length c < last) × Kept s (c ++ p) h masters R T k
-Hears s c p (heard.Refused n) old new masters R T k = (rest : List ℕ) → Ends p rest → Refuses s ((c ++ p) ++ rest) old new n
-Hears s c p heard.TooLong old new masters R T k = last ≤ length c
+Hears s c p (told.On h) old new masters R T k = (length c < last) × Kept s (c ++ p) h masters R T k
+Hears s c p (told.Refused n) old new masters R T k = (rest : List ℕ) → Ends p rest → Refuses s ((c ++ p) ++ rest) old new n
+Hears s c p told.TooLong old new masters R T k = last ≤ length c
 
 -- reporting: the run `new`, that was `old`, begins with the whole report, and the answer says how long it is and whether anything is wrong
 pub record Reports (s c : List ℕ) (r : Reported) (old new : List ℕ) : Type 0 where

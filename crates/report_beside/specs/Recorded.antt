@@ -12,7 +12,7 @@ use Rattle.sheet_read.specs.Whole.{Outcome}
 use Rattle.sheet_read.specs.Whole.Outcome.{Read, Not}
 use Rattle.pnet_rules.specs.Segment.{segmentOf}
 use Rattle.pnet_plan.specs.Planned.{atPlace}
-use Rattle.pnet_bounds.specs.Bounded.{bounded, boundOf, masterOf, spacingOf}
+use Rattle.pnet_bounds.specs.Bounded.{boundOf, masterOf, spacingOf}
 use Rattle.capture_log.specs.declared.Event.{Event}
 use Rattle.capture_log.specs.Log.{fresh, left, answered, largest, above}
 use Rattle.capture_log.specs.Records.{events, heard}

@@ -16,12 +16,12 @@ use Rattle.report_beside.specs.declared.Hearing.{Hearing}
 use Rattle.report_beside.specs.declared.Begun.{Begun}
 use Rattle.report_beside.specs.declared.Begun.the-variants as begun
 use Rattle.report_beside.specs.declared.Heard.{Heard}
-use Rattle.report_beside.specs.declared.Heard.the-variants as heard
+use Rattle.report_beside.specs.declared.Heard.the-variants as told
 use Rattle.report_beside.specs.declared.Reported.{Reported}
 use Rattle.report_beside.specs.declared.Reported.the-variants as reported
 use Rattle.report_beside.specs.Whole.{Tally}
 
--- no place behind this one is counted
+-- a piece that begins at this byte of a capture or behind it is not heard: its places could not be counted
 abbrev pub last : ℕ
 last = 2 ^ 63
 
@@ -43,9 +43,9 @@ begunText (Not n p) old = over (refusalText n p) old
 
 -- `short` says whether its place is counted, and `answer` how it was taken, with the refusal's place in the piece
 abbrev pub heardAs : Bool → Taken → Hearing → ℕ → Watch → Heard
-heardAs false answer h m w = heard.TooLong
-heardAs true taken.All h m w = heard.On (record { streams = h .streams; bytes = h .bytes + m; watch = w })
-heardAs true (taken.Refused n q) h m w = heard.Refused (length (captureRefusal n (h .bytes + q)))
+heardAs false answer h m w = told.TooLong
+heardAs true taken.All h m w = told.On (record { streams = h .streams; bytes = h .bytes + m; watch = w })
+heardAs true (taken.Refused n q) h m w = told.Refused (length (captureRefusal n (h .bytes + q)))
 
 abbrev pub heardText : Bool → Taken → ℕ → List ℕ → List ℕ
 heardText false answer d old = old

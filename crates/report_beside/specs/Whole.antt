@@ -116,6 +116,7 @@ abbrev pub laidClean : Outcome → List ℕ → Bool
 laidClean (Not n p) c = false
 laidClean (Read H) c = heardClean (heard c (length (H .streams)) fresh) H c
 
+-- the whole text
 unfoldable pub besideReport : List ℕ → List ℕ → List ℕ
 besideReport s c = laidReport (laid s) c
 

@@ -8,7 +8,7 @@ use report_capture::MOST_TEXT;
 use sheet_read::MOST;
 ghost use mathlib.Core.Path.{_≡_};
 ghost use mathlib.Core.List.{List};
-ghost use Prim.Native.Nat.{ℕ};
+ghost use Prim.Native.Nat.{ℕ, _+_, _^_, _<_};
 ghost use lib.Dec.{ltb};
 ghost use lib.ListN.{length};
 ghost use Rattle.pnet_bounds.specs.Bounded.{boundOf, masterOf, spacingOf, streamRun};
@@ -19,7 +19,7 @@ ghost use Rattle.report_beside.specs.Whole.{tally, none, seenAfter, wait
 ghost use Rattle.report_beside.specs.Steps.{last, over, begunAs, begunText, heardAs, heardText, heardTally, reportedAs};
 ghost use Rattle.report_beside.specs.Kept.{Kept, Begins, Hears, Reports};
 
-// No place of a capture is counted behind this one, 2^63.
+// A piece that begins at this byte of a capture or behind it is not heard, 2^63: its places could not be counted.
 const LAST: usize = 9_223_372_036_854_775_808;
 
 // What goes from step to step beside the runs: how many streams the sheet has, how many bytes of the capture were heard, and the clock.
@@ -56,11 +56,13 @@ fn refuse_sheet(out: &mut [u8; MOST_TEXT], no: u8, place: usize) -> usize
     report_phrases::put_refusal(out, 0, no, place as u64)
 }
 
-// Of a refused capture, its refusal is the whole report.
-fn refuse_capture(out: &mut [u8; MOST_TEXT], no: u8, place: usize) -> usize
-    ensures { λ r. ⌜ (r ≡ length (captureRefusal no place)) × (now (out .exit) ≡ over (captureRefusal no place) (now (out .entry))) ⌝ }
+// Of a refused capture, its refusal is the whole report; the place is one of the piece, with so many bytes of the capture before it.
+fn refuse_capture(out: &mut [u8; MOST_TEXT], no: u8, before: usize, place: usize) -> usize
+    requires { ⌜ before + place < 2 ^ 64 ⌝ }
+    ensures { λ r. ⌜ (r ≡ length (captureRefusal no (before + place))) × (now (out .exit) ≡ over (captureRefusal no (before + place)) (now (out .entry))) ⌝ }
 {
-    report_capture::put_capture_refusal(out, no, place as u64)
+    let at = before + place;
+    report_capture::put_capture_refusal(out, no, at as u64)
 }
 
 // Begins with the bytes of a sheet: nothing of a capture is heard yet. What the runs held is forgotten.
@@ -158,12 +160,13 @@ pub fn hear(
     let streams = heard.streams;
     let taken = capture_tally::take(piece, streams, bound, left, since, answers, largest, above);
     if let Taken::Refused { no, place } = taken {
-        return Heard::Refused(refuse_capture(out, no, bytes + place));
+        return Heard::Refused(refuse_capture(out, no, bytes, place));
     }
     let watch = capture_watch::follow(piece, heard.watch, spacing, asked);
+    let behind = bytes + piece.len();
     Heard::On(Hearing {
         streams,
-        bytes: bytes + piece.len(),
+        bytes: behind,
         watch,
     })
 }
@@ -186,12 +189,15 @@ pub fn report(
         ⌜ (r ≡ reportedAs (cleanOf (heard .streams) (now (bound .entry)) (heard .watch) k) (length text)) × (now (out .exit) ≡ over text (now (out .entry))) ⌝ }
     ensures { λ r. ⌜ ((s c T since : List ℕ) → Kept s c heard (now (masters .entry)) (now (bound .entry)) T (tally (now (left .entry)) since (now (answers .entry)) (now (largest .entry)) (now (above .entry)) (now (asked .entry))) → Reports s c r (now (out .entry)) (now (out .exit))) ⌝ }
 {
+    let streams = heard.streams;
     let watch = heard.watch;
+    let soon = watch.soon;
+    let broken = watch.broken;
     let mut late = [0u64; MOST];
     capture_watch::overdue(watch, bound, left, asked, &mut late);
     let n = report_capture::put_capture(
         out,
-        heard.streams,
+        streams,
         masters,
         bound,
         largest,
@@ -199,18 +205,11 @@ pub fn report(
         above,
         left,
         &late,
-        watch.soon,
+        soon,
         watch.whose,
-        watch.broken,
+        broken,
     );
-    if report_capture::is_clean(
-        heard.streams,
-        answers,
-        above,
-        &late,
-        watch.soon,
-        watch.broken,
-    ) {
+    if report_capture::is_clean(streams, answers, above, &late, soon, broken) {
         Reported::Clean(n)
     } else {
         Reported::Faulty(n)

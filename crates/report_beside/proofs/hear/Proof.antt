@@ -1,5 +1,5 @@
 -- `report_beside::hear` takes a piece and follows it, or stores its refusal. Assumes nothing.
-use mathlib.Core.Path.{_≡_, refl, sym, _∙_}
+use mathlib.Core.Path.{refl, sym, _∙_}
 use native.Mathlib.Omega.{arith}
 use borrow.Author.Needs.{needs}
 use denote.Ref.{now}
@@ -29,15 +29,12 @@ take-requires c κs = search needs
 enum-known-taken : tie.Need-enum-known-taken
 enum-known-taken c = search needs
 
-add-refuse-capture : tie.Need-add-refuse-capture
-add-refuse-capture c =
+refuse-capture-requires : tie.Need-refuse-capture-requires
+refuse-capture-requires c κs =
     let a = c .before .before .before .before .before .before .before .before .before .before .before .before .args in
     let t = c .before .before .before .before .take .ensures in
     let x = c .before .before .taken .given in
     omega (arith, refused-inside (now (a .piece)) (a .heard .streams) (before (now (a .left)) (now (a .since))) _ _ (sym (t .0) ∙ x .1))
-
-refuse-capture-requires : tie.Need-refuse-capture-requires
-refuse-capture-requires c κs = search needs
 
 returns-2 : tie.Need-returns-2
 unfolding was
@@ -59,8 +56,8 @@ enum-told c = search needs
 follow-requires : tie.Need-follow-requires
 follow-requires c κs = search needs
 
-add-t29 : tie.Need-add-t29
-add-t29 c = search needs
+add-behind : tie.Need-add-behind
+add-behind c = search needs
 
 returns-3 : tie.Need-returns-3
 unfolding was
@@ -79,4 +76,4 @@ returns-3 c =
 pub hear-spec : {M : Type 1} → statement M
 hear-spec =
     tie.close
-    (tie.spec returns take-requires enum-known-taken add-refuse-capture refuse-capture-requires returns-2 enum-told follow-requires add-t29 returns-3)
+    (tie.spec returns take-requires enum-known-taken refuse-capture-requires returns-2 enum-told follow-requires add-behind returns-3)

@@ -1,6 +1,5 @@
 -- `planner::beside::finish` writes the report that was made, and the status that it says. Assumes nothing.
 use borrow.Author.Needs.{needs}
-use denote.Ref.{now}
 use Rattle.report_beside.proofs.Kept.{clean-tells, faulty-tells}
 use Rattle.planner.proofs.beside.finish.Statement.{statement}
 use Rattle.planner.proofs.beside.finish.Tie as tie

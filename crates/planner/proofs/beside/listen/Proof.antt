@@ -4,7 +4,7 @@ use Prim.Native.Nat.{ℕ, _+_, _-_, _^_, _≤_}
 use mathlib.Core.Path.{_≡_, sym}
 use native.Mathlib.Omega.{arith}
 use denote.Ref.{now}
-use lib.ListN.{length, take, length-replicate}
+use lib.ListN.{length, length-replicate}
 use lib.Seq.{length-take-le}
 use Rattle.report_beside.specs.Whole.{tally}
 use Rattle.report_beside.specs.Kept.{Holds}
