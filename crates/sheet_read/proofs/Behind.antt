@@ -28,7 +28,7 @@ use Rattle.sheet_read.specs.declared.Reading.the-variants as answer
 use Rattle.sheet_read.proofs.Walk.{head-at, place-next, place-from}
 use Rattle.sheet_read.proofs.Cases.{Upto, passes-then, upto-none, upto-more, upto-place, stops-once, ended-empty, ended-no-stream, ended-sheet}
 use Rattle.sheet_read.proofs.Cases.Stops.{by-record, at-end}
-use Rattle.sheet_read.proofs.Judged.{numbered, met-some, own-met, own-stream, lateChecks, ownAt, judge-own}
+use Rattle.sheet_read.proofs.Judged.{numbered, met-some, own-met, own-met-of, lateChecks, ownAt, judge-own}
 use Rattle.sheet_read.proofs.Kept.{Figures, Keeps, keeps-none, keeps-more, late-variable, late-stream, variable, no-variable, not-late-variable}
 use Rattle.sheet_read.proofs.Order.{nth, stream-of, fits-first, fits-behind, first-passes, head-some, behind-first, adds-stream}
 use Rattle.sheet_read.proofs.Known.{settings-none, all-streams}
@@ -188,15 +188,16 @@ bus-kinds {head = head} r =
     rw (r .is-bus ∙ first-bus (head .kind) f) (first-kinds (head .kind) f)
 
 -- the reader comes to a record: what it meets, whether that is right and in range, and the refusal of it by itself
-pub record Meets (s : List ℕ) (head : Record) (counts longests ids : List ℕ) (n at bus : ℕ) (g : Given) (met : Met) (ranged : Bool) (own : ℕ) : Type 0 where
+pub record Meets (s : List ℕ) (head : Record) (counts longests ids : List ℕ) (n at bus : ℕ) (g : Given) (met : Met) (right ranged : Bool) (own : ℕ) : Type 0 where
   pub reads : Reads s head bus g counts longests ids n at
   pub inside : at < length s
   pub is-met : met ≡ streamMet s at bus
+  pub is-right : right ≡ isStreamOf bus (getD s at 0)
   pub is-ranged : ranged ≡ (isStreamOf bus (met .found .kind) && inRange g (met .found))
-  pub is-own : own ≡ cond (not (eqb (met .next) at)) (cond ranged 0 4) (ownNo (known (getD s at 0)) (isStreamOf bus (getD s at 0)) false false)
+  pub is-own : own ≡ ownNo (known (getD s at 0)) right (not (eqb (met .next) at)) ranged
 
-module _ {s : List ℕ} {head : Record} {counts longests ids : List ℕ} {n at bus : ℕ} {g : Given} {met : Met} {ranged : Bool} {own : ℕ}
-    (m : Meets s head counts longests ids n at bus g met ranged own) where
+module _ {s : List ℕ} {head : Record} {counts longests ids : List ℕ} {n at bus : ℕ} {g : Given} {met : Met} {right ranged : Bool} {own : ℕ}
+    (m : Meets s head counts longests ids n at bus g met right ranged own) where
   here : placeOf s (suc n) < length s
   here = rw (m .reads .behind .is-at) at (m .inside)
 
@@ -209,7 +210,7 @@ module _ {s : List ℕ} {head : Record} {counts longests ids : List ℕ} {n at b
   own-is : own ≡ ownAt s (suc n)
   unfolding ownAt
   own-is =
-      rw (m .is-own, m .is-ranged, m .is-met, m .reads .is-bus, m .reads .is-given, m .reads .behind .is-at, own-stream s (placeOf s (suc n)), right-is, head-at s n, m .reads .behind .is-head)
+      rw (m .is-own, m .is-ranged, m .is-right, m .is-met, m .reads .is-bus, m .reads .is-given, m .reads .behind .is-at, own-met-of s (placeOf s (suc n)), right-is, head-at s n, m .reads .behind .is-head)
 
   pub refused-own : (own ≡ 0 → ⊥) → answer.Refused own at ≡ told s (reading s)
   refused-own h =

@@ -1,6 +1,6 @@
 -- The numbers that the parts of the reader answer at a record are the verdict on that record. Assumes nothing.
-use mathlib.Core.Path.{_≡_, refl, sym, ap, _∙_}
-use mathlib.Core.Bool.{Bool, true, false, cond, not, _&&_}
+use mathlib.Core.Path.{_≡_, refl, ap, _∙_}
+use mathlib.Core.Bool.{Bool, true, false, not, _&&_}
 use mathlib.Core.List.{List, [], _∷_}
 use Prim.Native.Nat.{ℕ, zero, suc, _+_, _≤_}
 use native.Mathlib.Omega.{arith}
@@ -79,13 +79,6 @@ own-same true false w g w' g' ew eg = refl
 own-same true true w g false g' ew eg = rw (ew refl refl)
 own-same true true w g true g' ew eg = rw (ew refl refl, eg refl refl refl)
 
--- ranges do not matter where the sheet ends inside the record
-own-cut-short : (isKnown isRight isRanged : Bool) → ownNo isKnown isRight false false ≡ ownNo isKnown isRight false isRanged
-unfolding ownNo
-own-cut-short false r g = refl
-own-cut-short true false g = refl
-own-cut-short true true g = refl
-
 -- the record that is met at a place tells the same as the bytes there
 module _ (s : List ℕ) (at : ℕ) where
   pub met-some : whole s at ≡ true → metAt s at ≡ record { found = decode s at; next = at + sizeOf (getD s at 0) }
@@ -121,7 +114,7 @@ module _ (s : List ℕ) (at : ℕ) where
       own-same (known (getD s at 0)) isRight _ _ _ _ (λ k r. next-tells k) (λ k r w. ap (inRange g) (found-tells k w))
 
   -- the same where a stream of a bus alone is asked for: any other record is refused before anything else is looked at
-  own-met-of : (bus : ℕ) (g : Given)
+  pub own-met-of : (bus : ℕ) (g : Given)
       → ownNo (known (getD s at 0)) (isStreamOf bus (getD s at 0)) (not (eqb (streamMet s at bus .next) at))
       (isStreamOf bus (streamMet s at bus .found .kind) && inRange g (streamMet s at bus .found))
       ≡ ownNo (known (getD s at 0)) (isStreamOf bus (getD s at 0)) (leb (at + sizeOf (getD s at 0)) (length s)) (inRange g (decode s at))
@@ -137,37 +130,6 @@ module _ (s : List ℕ) (at : ℕ) where
       ranged k r w =
           let e : streamMet s at bus .found ≡ decode s at = ap (λ (m : Met). m .found) (stream-same s at bus r) ∙ found-tells k w in
           ap (λ (x : Record). isStreamOf bus (x .kind) && inRange g x) e ∙ ap (λ (b : Bool). b && inRange g (decode s at)) r
-
-  -- a stream that is met is of a known kind
-  met-tells : (bus : ℕ) → not (eqb (streamMet s at bus .next) at) ≡ true → (known (getD s at 0) ≡ true) × (isStreamOf bus (getD s at 0) ≡ true)
-  unfolding streamMet metAt whole
-  met-tells bus e = split (isStreamOf bus (getD s at 0)) refl (known (getD s at 0)) refl (leb (at + sizeOf (getD s at 0)) (length s)) refl
-    where
-      stays : (n : ℕ) → n ≡ at → not (eqb n at) ≡ true → ⊥
-      stays n q f =
-          let g : false ≡ true = sym (ap not (eq-eqb n at q)) ∙ f in
-          let z : _≡_ {A = ℕ} 0 1 = cc in
-          omega arith
-
-      split : (r : Bool) → isStreamOf bus (getD s at 0) ≡ r → (k : Bool) → known (getD s at 0) ≡ k → (l : Bool) → leb (at + sizeOf (getD s at 0)) (length s) ≡ l
-          → (known (getD s at 0) ≡ true) × (isStreamOf bus (getD s at 0) ≡ true)
-      split true er true ek l el = (ek, er)
-      split true er false ek l el = absurd (stays (streamMet s at bus .next) (rw (er, ek)) e)
-      split false er k ek l el = absurd (stays (streamMet s at bus .next) (rw er) e)
-
-  -- so a stream that is met is refused by its ranges alone, and where none is met these do not matter
-  pub own-stream : (bus : ℕ) (g : Given)
-      → cond (not (eqb (streamMet s at bus .next) at)) (cond (isStreamOf bus (streamMet s at bus .found .kind) && inRange g (streamMet s at bus .found)) 0 4)
-      (ownNo (known (getD s at 0)) (isStreamOf bus (getD s at 0)) false false)
-      ≡ ownNo (known (getD s at 0)) (isStreamOf bus (getD s at 0)) (leb (at + sizeOf (getD s at 0)) (length s)) (inRange g (decode s at))
-  unfolding ownNo
-  own-stream bus g = split (not (eqb (streamMet s at bus .next) at)) refl ∙ own-met-of bus g
-    where
-      split : (m : Bool) → not (eqb (streamMet s at bus .next) at) ≡ m
-          → cond m (cond (isStreamOf bus (streamMet s at bus .found .kind) && inRange g (streamMet s at bus .found)) 0 4) (ownNo (known (getD s at 0)) (isStreamOf bus (getD s at 0)) false false)
-          ≡ ownNo (known (getD s at 0)) (isStreamOf bus (getD s at 0)) m (isStreamOf bus (streamMet s at bus .found .kind) && inRange g (streamMet s at bus .found))
-      split true e = let t = met-tells bus e in rw (t .0, t .1)
-      split false e = own-cut-short (known (getD s at 0)) (isStreamOf bus (getD s at 0)) (isStreamOf bus (streamMet s at bus .found .kind) && inRange g (streamMet s at bus .found))
 
 -- ---- A record of the sheet
 

@@ -3,7 +3,7 @@ use sheet_record::Given;
 use sheet_record::Met;
 use sheet_record::Record;
 ghost use mathlib.Core.Path.{_≡_};
-ghost use mathlib.Core.Bool.{false, cond, _&&_};
+ghost use mathlib.Core.Bool.{_&&_};
 ghost use mathlib.Core.Logic.{_⊎_};
 ghost use Prim.Native.Nat.{_≤_, max};
 ghost use Rattle.sheet_record.specs.Kinds.{pnet, profibus, worldfip, known, isStreamOf, inRange, streamMet};
@@ -46,19 +46,6 @@ fn own_no(kind: u8, right: bool, whole: bool, ranged: bool) -> u8
         return 4;
     }
     0
-}
-
-// The same where a stream of a bus is wanted: one that was met is in range or not, and where none was met the kind tells why.
-fn stream_no(bus: u8, kind: u8, met: bool, ranged: bool) -> u8
-    ensures { λ no. ⌜ no ≡ cond met (cond ranged 0 4) (ownNo (known kind) (isStreamOf bus kind) false false) ⌝ }
-{
-    if met {
-        if ranged {
-            return 0;
-        }
-        return 4;
-    }
-    own_no(kind, sheet_record::is_stream_of(bus, kind), false, false)
 }
 
 // Whether x stands among the first n identifiers.
@@ -174,8 +161,9 @@ fn read_streams(
         let kind = s[at];
         let met = stream_at(s, at, bus);
         let stream = met.found;
+        let right = sheet_record::is_stream_of(bus, kind);
         let ranged = stream_in_range(bus, given, stream);
-        let own = stream_no(bus, kind, met.next != at, ranged);
+        let own = own_no(kind, right, met.next != at, ranged);
         if own != 0 {
             return Reading::Refused { no: own, place: at };
         }

@@ -31,33 +31,37 @@ shared-slice-read-kind c = search needs
 stream-at-requires : tie.Need-stream-at-requires Inv-loop μ-loop
 stream-at-requires c κs = bus-kinds (c .before .before .loop .inv)
 
-stream-in-range-requires : tie.Need-stream-in-range-requires Inv-loop μ-loop
-stream-in-range-requires c κs = bus-kinds (c .before .before .before .before .loop .inv)
+is-stream-of-requires : tie.Need-is-stream-of-requires Inv-loop μ-loop
+is-stream-of-requires c κs = search needs
 
-stream-no-requires : tie.Need-stream-no-requires Inv-loop μ-loop
-stream-no-requires c κs = search needs
+stream-in-range-requires : tie.Need-stream-in-range-requires Inv-loop μ-loop
+stream-in-range-requires c κs = bus-kinds (c .before .before .before .before .before .loop .inv)
+
+own-no-requires : tie.Need-own-no-requires Inv-loop μ-loop
+own-no-requires c κs = search needs
 
 -- what is met behind the streams so far
-abbrev so-far : tie.After-stream-no Inv-loop μ-loop → tie.At-loop Inv-loop μ-loop
-so-far c = c .before .before .before .before .before .before .before
+abbrev so-far : tie.After-own-no Inv-loop μ-loop → tie.At-loop Inv-loop μ-loop
+so-far c = c .before .before .before .before .before .before .before .before
 
-meets : (c : tie.After-stream-no Inv-loop μ-loop)
+meets : (c : tie.After-own-no Inv-loop μ-loop)
     → Meets (so-far c .before .before .before .args .s .now) (so-far c .before .before .before .args .head)
     (so-far c .loop .counts) (so-far c .loop .longests) (so-far c .loop .ids) (so-far c .loop .n) (so-far c .loop .at) (so-far c .before .bus-of .result)
     (record { masters = so-far c .before .before .before .args .head .a; message = so-far c .before .before .before .args .head .c })
-    (c .before .before .before .before .stream-at .result) (c .before .before .stream-in-range .result) (c .stream-no .result)
+    (c .before .before .before .before .before .stream-at .result) (c .before .before .before .is-stream-of .result) (c .before .before .stream-in-range .result) (c .own-no .result)
 meets c =
     record {
       reads = so-far c .loop .inv;
-      inside = c .before .before .before .before .before .before .loop-test .taken;
-      is-met = c .before .before .before .before .stream-at .ensures;
+      inside = c .before .before .before .before .before .before .before .loop-test .taken;
+      is-met = c .before .before .before .before .before .stream-at .ensures;
+      is-right = c .before .before .before .is-stream-of .ensures;
       is-ranged = c .before .before .stream-in-range .ensures;
-      is-own = c .stream-no .ensures;
+      is-own = c .own-no .ensures;
     }
 
 returns : tie.Need-returns Inv-loop μ-loop
 returns c =
-    let a = c .before .before .before .before .before .before .before .before .before .before .before .args in
+    let a = c .before .before .before .before .before .before .before .before .before .before .before .before .args in
     let e = refused-own (meets (c .before)) (c .if1 .taken) in
     (e, refused-keeps (a .s .now) _ _ _ (a .counted .now) (a .longest .now) e)
 
@@ -66,7 +70,7 @@ late-no-requires c κs = master-here (meets (c .before .before .before)) (c .bef
 
 returns-2 : tie.Need-returns-2 Inv-loop μ-loop
 returns-2 c =
-    let a = c .before .before .before .before .before .before .before .before .before .before .before .before .before .before .before .args in
+    let a = c .before .before .before .before .before .before .before .before .before .before .before .before .before .before .before .before .args in
     let f = c .before .late-no in
     let e = refused-late (meets (c .before .before .before .before .before)) (c .before .before .before .before .if1 .left) (f .result) (f .ensures) (c .if2 .taken) in
     (e, refused-keeps (a .s .now) _ _ _ (a .counted .now) (a .longest .now) e)
@@ -133,8 +137,9 @@ read-streams-spec =
     loop-holds
     shared-slice-read-kind
     stream-at-requires
+    is-stream-of-requires
     stream-in-range-requires
-    stream-no-requires
+    own-no-requires
     returns
     late-no-requires
     returns-2
