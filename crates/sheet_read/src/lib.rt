@@ -5,7 +5,8 @@ use sheet_record::Record;
 ghost use mathlib.Core.Path.{_≡_};
 ghost use mathlib.Core.Bool.{_&&_};
 ghost use mathlib.Core.Logic.{_⊎_};
-ghost use Prim.Native.Nat.{_≤_, max};
+ghost use Prim.Native.Nat.{ℕ, _≤_, max};
+ghost use lib.Dec.{eqb};
 ghost use Rattle.sheet_record.specs.Kinds.{pnet, profibus, worldfip, known, isStreamOf, inRange, streamMet};
 ghost use Rattle.sheet_read.specs.Steps;
 ghost use Rattle.sheet_read.specs.Steps.{ownNo, lateNo, countsWith, longestsWith, idsWith, Begun};
@@ -110,6 +111,18 @@ fn keep(counts: &mut [u8; 33], longests: &mut [u32; 33], ids: &mut [u32; 64], n:
     }
 }
 
+// The kind of the streams of a bus.
+fn stream_kind(bus: u8) -> u8
+    requires { ⌜ bus ≡ pnet ⊎ (bus ≡ profibus ⊎ bus ≡ worldfip) ⌝ }
+    ensures { λ r. ⌜ ((k : ℕ) → isStreamOf bus k ≡ eqb k r) ⌝ }
+{
+    match bus {
+        1 => 2,
+        3 => 4,
+        _ => 6,
+    }
+}
+
 // The stream of a bus at a place. The bus is a constant in each arm, so that the compiler makes a reader of its own for each.
 fn stream_at(s: &[u8], at: usize, bus: u8) -> Met
     requires { ⌜ bus ≡ pnet ⊎ (bus ≡ profibus ⊎ bus ≡ worldfip) ⌝ }
@@ -148,6 +161,7 @@ fn read_streams(
     ensures { λ _. ⌜ now (longest .exit) ≡ longestsTold (reading (now (s .entry))) (now (longest .entry)) ⌝ }
 {
     let bus = sheet_record::bus_of(head.kind);
+    let wanted = stream_kind(bus);
     let given = Given {
         masters: head.a,
         message: head.c,
@@ -161,9 +175,8 @@ fn read_streams(
         let kind = s[at];
         let met = stream_at(s, at, bus);
         let stream = met.found;
-        let right = sheet_record::is_stream_of(bus, kind);
         let ranged = stream_in_range(bus, given, stream);
-        let own = own_no(kind, right, met.next != at, ranged);
+        let own = own_no(kind, kind == wanted, met.next != at, ranged);
         if own != 0 {
             return Reading::Refused { no: own, place: at };
         }

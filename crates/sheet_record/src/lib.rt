@@ -6,7 +6,7 @@ ghost use lib.Dec.{eqb};
 ghost use lib.ListN.{length, getD};
 ghost use Rattle.sheet_record.specs.Numbers.{be};
 ghost use Rattle.sheet_record.specs.Kinds;
-ghost use Rattle.sheet_record.specs.Kinds.{pnet, profibus, worldfip, busOf, isFirst, isStreamOf, inRange, metAt, metOf, streamMet, nothing};
+ghost use Rattle.sheet_record.specs.Kinds.{pnet, profibus, worldfip, busOf, isFirst, inRange, metAt, metOf, streamMet, nothing};
 ghost use Rattle.sheet_record.specs.Widths.{Wide};
 
 // One record: its kind, and its fields in the order of the page. A field that the kind does not have is 0.
@@ -72,18 +72,6 @@ pub fn is_first(kind: u8) -> bool
     ensures { λ r. ⌜ r ≡ isFirst kind ⌝ }
 {
     (kind == 1) | ((kind == 3) | (kind == 5))
-}
-
-// This kind is a stream of a bus.
-pub fn is_stream_of(bus: u8, kind: u8) -> bool
-    ensures { λ r. ⌜ r ≡ isStreamOf bus kind ⌝ }
-{
-    match bus {
-        1 => kind == 2,
-        3 => kind == 4,
-        5 => kind == 6,
-        _ => false,
-    }
 }
 
 // No record at a place.
