@@ -9,7 +9,7 @@ use Rattle.text.specs.Text.{word, _·_, places, holds, widthOf, decimal, texts}
 use Rattle.pnet_bounds.specs.Bounded.{bounded, boundOf}
 use Rattle.capture_log.specs.Log as Log
 use Rattle.capture_log.specs.Records as log
-use Rattle.capture_compare.specs.Compared.{events}
+use Rattle.capture_log.specs.Records.{events}
 use Rattle.capture_watch.specs.Ages.{clock, broken, soon, whose, beyond}
 use Rattle.report_phrases.specs.Phrases.{inBp, inNs, inBoth, twoCounts, nameOf, placeText, refusedText, refusalText}
 use Rattle.report_capture.specs.Shown as shown

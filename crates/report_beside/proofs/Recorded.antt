@@ -22,9 +22,8 @@ use Rattle.pnet_plan.specs.Planned.{atPlace}
 use Rattle.pnet_bounds.specs.Bounded.{boundOf, masterOf, spacingOf}
 use Rattle.capture_log.specs.declared.Event.{Event}
 use Rattle.capture_log.specs.Log.{fresh, left, answered, largest, above}
-use Rattle.capture_log.specs.Records.{size, eventsIn, heard}
+use Rattle.capture_log.specs.Records.{events, size, eventsIn, heard}
 use Rattle.capture_tally.specs.Pieces.{most}
-use Rattle.capture_compare.specs.Compared.{events}
 use Rattle.capture_compare.proofs.Told.{left-whole, answers-whole, largest-whole, above-whole}
 use Rattle.capture_watch.specs.Ages.{clock, broken, soon, whose, beyond}
 use Rattle.capture_watch.specs.Follow.{began, Seen}
@@ -95,20 +94,20 @@ module _ (s c : List ℕ) (H : Sheet) (is-laid : laid s ≡ Read H) (passes : he
 
   left-at : (i : ℕ) → i < most → getD (tallyOf H c .left) i 0 ≡ left fresh (events c) (i + 1)
   unfolding tallyOf none
-  left-at i l = left-whole c (n H) few small passes i l
+  left-at i l = left-whole c i l
 
   answers-at : Agree (n H) (item (tallyOf H c .answers)) (atPlace (answered (events c)))
   unfolding tallyOf none
-  answers-at i l = answers-whole c (n H) few small passes i (omega (arith, few))
+  answers-at i l = answers-whole c i (omega (arith, few)) small
 
   largest-at : Agree (n H) (item (tallyOf H c .largest)) (atPlace (largest fresh (events c)))
   unfolding tallyOf none
-  largest-at i l = largest-whole c (n H) few small passes i (omega (arith, few))
+  largest-at i l = largest-whole c i (omega (arith, few))
 
   above-at : Agree (n H) (item (tallyOf H c .above)) (aboveAt H (events c))
   unfolding tallyOf none aboveAt
   above-at i l =
-      above-whole c (n H) few small passes i (omega (arith, few)) (figures H boundOf)
+      above-whole c i (omega (arith, few)) small (figures H boundOf)
       ∙ ap (λ (R : ℕ). above fresh R (events c) (i + 1)) (figure-at H boundOf i l)
 
   late-at : Agree (n H) (item (lateOf (figures H boundOf) (watchOf H c) (tallyOf H c))) (lateAt H (events c))
