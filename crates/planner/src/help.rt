@@ -5,7 +5,7 @@ use crate::output::complain;
 use crate::output::put;
 
 // The version of the project.
-const VERSION: [u8; 14] = *b"planner 1.5.1
+const VERSION: [u8; 14] = *b"planner 1.5.2
 ";
 
 // How the program is called, but for its commands.
