@@ -29,8 +29,9 @@ use Rattle.pnet_rules.proofs.Holds.{longest-at-most, turn-at-most}
 use Rattle.pnet_plan.specs.declared.answer.Plan.{Plan}
 use Rattle.pnet_plan.specs.declared.answer.Plan.the-variants as answer
 use Rattle.pnet_plan.specs.Planned.{firstLate, planChecks, plannedBy, planned, planOf, atPlace, runOf}
+use Rattle.units.specs.Units.{capped}
 use Rattle.units.specs.declared.BitPeriods.{BitPeriods}
-use Rattle.pnet_turn.specs.Turn.{at, wrapped, chargeIn, turnOf}
+use Rattle.pnet_turn.specs.Turn.{at, chargeIn, turnOf}
 use Rattle.pnet_plan.specs.Arrays.{segmentIn, Sheeted, SetOut, Grouped, turnIn, boundIn, refinedIn, roundsIn, Kept, Shortest}
 use Rattle.pnet_plan.proofs.Bytes.{declares, number-is}
 use Rattle.pnet_plan.proofs.Gathering.{grouped-none}
@@ -141,7 +142,7 @@ module _ {s : List ℕ} {N m first : ℕ} {counts longests : List ℕ} (h : Shee
 
   -- V is that of the segment, which 32 bits hold
   pub turn-is : (v : BitPeriods) → v ≡ turnOf counts longests N → v .0 ≡ turn (segmentIn s)
-  unfolding turnOf turn turnBy wrapped
+  unfolding turnOf turn turnBy capped
   turn-is v e =
       let few : min N 32 ≡ segmentIn s .masters = omega (arith, masters-few, h .masters-are) in
       let same =

@@ -151,26 +151,21 @@ module _ (s c : List ℕ) (H : Sheet) (is-laid : laid s ≡ Read H) (passes : he
 -- ---- Any sheet and capture
 
 module _ (s c : List ℕ) (small : length c < 2 ^ 64) (short : clock (events c) < 2 ^ 64) where
-  pub report-as-recorded : besideReport s c ≡ recordedReport s c
-  unfolding besideReport recordedReport
-  report-as-recorded = by (laid s) refl
+  as-recorded : (besideReport s c ≡ recordedReport s c) × (besideClean s c ≡ recordedAccepted s c)
+  unfolding besideReport recordedReport besideClean recordedAccepted
+  as-recorded = by (laid s) refl
     where
-      by : (o : Outcome) → laid s ≡ o → laidReport o c ≡ sheetReport o c
-      by (Not m p) e = refl
+      by : (o : Outcome) → laid s ≡ o → (laidReport o c ≡ sheetReport o c) × (laidClean o c ≡ sheetClean o c)
+      by (Not m p) e = (refl, refl)
       by (Read H) e = on (heard c (length (H .streams)) fresh) refl
         where
-          on : (v : Verdict) → heard c (length (H .streams)) fresh ≡ v → heardReport v H c ≡ shownReport v H (events c)
-          on (Refused m p) q = refl
-          on Passed q = text-recorded s c H e q small short
+          on : (v : Verdict) → heard c (length (H .streams)) fresh ≡ v
+              → (heardReport v H c ≡ shownReport v H (events c)) × (heardClean v H c ≡ shownClean v H (events c))
+          on (Refused m p) q = (refl, refl)
+          on Passed q = (text-recorded s c H e q small short, clean-recorded s c H e q small short)
+
+  pub report-as-recorded : besideReport s c ≡ recordedReport s c
+  report-as-recorded = as-recorded .0
 
   pub clean-as-recorded : besideClean s c ≡ recordedAccepted s c
-  unfolding besideClean recordedAccepted
-  clean-as-recorded = by (laid s) refl
-    where
-      by : (o : Outcome) → laid s ≡ o → laidClean o c ≡ sheetClean o c
-      by (Not m p) e = refl
-      by (Read H) e = on (heard c (length (H .streams)) fresh) refl
-        where
-          on : (v : Verdict) → heard c (length (H .streams)) fresh ≡ v → heardClean v H c ≡ shownClean v H (events c)
-          on (Refused m p) q = refl
-          on Passed q = clean-recorded s c H e q small short
+  clean-as-recorded = as-recorded .1

@@ -30,18 +30,10 @@ use Rattle.sheet_read.proofs.Cases.{Upto, passes-then, upto-none, upto-
 use Rattle.sheet_read.proofs.Cases.Stops.{by-record, at-end}
 use Rattle.sheet_read.proofs.Judged.{numbered, met-some, own-met, own-met-of, lateChecks, ownAt, judge-own}
 use Rattle.sheet_read.proofs.Kept.{Figures, Keeps, keeps-none, keeps-more, late-variable, late-stream, variable, no-variable, not-late-variable}
-use Rattle.sheet_read.proofs.Order.{nth, stream-of, fits-first, fits-behind, first-passes, head-some, behind-first, adds-stream}
+use Rattle.sheet_read.proofs.Order.{no-limits, limits-of, nth, stream-of, fits-first, fits-behind, first-passes, head-some, behind-first, adds-stream}
 use Rattle.sheet_read.proofs.Known.{settings-none, all-streams}
 
 -- ---- Masters
-
--- what a first record is given
-abbrev no-limits : Given
-no-limits = record { masters = 0; message = 0 }
-
--- what it sets
-abbrev limits-of : Record → Given
-limits-of h = record { masters = h .a; message = h .c }
 
 -- a stream's master is one of the 32 that are counted: it is at most N, or n
 master-counted : (h r : Record) → isFirst (h .kind) ≡ true → inRange no-limits h ≡ true → isStreamOf (busOf (h .kind)) (r .kind) ≡ true

@@ -16,7 +16,6 @@ use Rattle.common.specs.Checks.{verdict, Verdict}
 use Rattle.common.specs.Checks.Verdict.{Passed, Refused}
 use Rattle.common.proofs.Checks.{Clear, passed-then}
 use Rattle.common.proofs.Checks.Clear.{none, and}
-use Rattle.sheet_record.specs.declared.Given.{Given}
 use Rattle.sheet_record.specs.declared.Met.{Met}
 use Rattle.sheet_record.specs.declared.Record.{Record}
 use Rattle.sheet_record.specs.Kinds.{known, sizeOf, decode, inRange, whole, metAt, nothing, busOf, isFirst, isSetting, isStream, isStreamOf}
@@ -29,7 +28,7 @@ use Rattle.sheet_read.proofs.Walk.{before-none, head-at}
 use Rattle.sheet_read.proofs.Cases.{PassesAt, Upto, Stops, upto-front, reading-stops}
 use Rattle.sheet_read.proofs.Cases.Stops.{by-record, at-end}
 use Rattle.sheet_read.proofs.Counts.{count-more, count-none}
-use Rattle.sheet_read.proofs.Order.{Placed, fits-then, fits-behind, stream-of, nth, first-passes, head-some, adds-stream, adds-setting, behind-first, how-many, stream-at}
+use Rattle.sheet_read.proofs.Order.{limits-of, Placed, fits-then, fits-behind, stream-of, nth, first-passes, head-some, adds-stream, adds-setting, behind-first, how-many, stream-at}
 use Rattle.sheet_read.proofs.Order.Placed.{as-first, as-setting, as-stream}
 
 pub record Known (s : List ℕ) (S : Sheet) : Type 0 where
@@ -60,14 +59,10 @@ pub both-fail : (a b : Bool) → (a || b) ≡ false → (a ≡ false) × (b ≡ 
 both-fail true b e = let z : _≡_ {A = ℕ} 0 1 = cc in absurd (omega arith)
 both-fail false b e = (refl, e)
 
--- the limits that a first record sets
-abbrev givenBy : Record → Given
-givenBy h = record { masters = h .a; message = h .c }
-
 record Sound (h : Record) (rs : List Record) : Type 0 where
   few : length rs ≤ mostInAll (busOf (h .kind))
   kinds : (i : ℕ) → i < length rs → isStreamOf (busOf (h .kind)) (getD rs i nothing .kind) ≡ true
-  ranged : (i : ℕ) → i < length rs → inRange (givenBy h) (getD rs i nothing) ≡ true
+  ranged : (i : ℕ) → i < length rs → inRange (limits-of h) (getD rs i nothing) ≡ true
   per-master : (k : ℕ) → (busOf (h .kind) ≡ 5 → ⊥) → countOf k rs ≤ 80
   distinct : busOf (h .kind) ≡ 5 → (i j : ℕ) → i < j → j < length rs → getD rs i nothing .a ≡ getD rs j nothing .a → ⊥
 
@@ -144,12 +139,12 @@ module _ (h : Record) (rs : List Record) (sound : Sound h rs) (r : Record) (its 
           let a : getD rs i nothing .a ≡ getD rs j nothing .a = rw (old i (omega arith), old j m) at q in
           sound .distinct e i j l m a
 
-  sound-more : inRange (givenBy h) r ≡ true → Sound h (rs ++ (r ∷ []))
+  sound-more : inRange (limits-of h) r ≡ true → Sound h (rs ++ (r ∷ []))
   sound-more is-ranged =
       record {
         few = more-few;
         kinds = each-more (λ x. isStreamOf (busOf (h .kind)) (x .kind) ≡ true) rs r (sound .kinds) its;
-        ranged = each-more (λ x. inRange (givenBy h) x ≡ true) rs r (sound .ranged) is-ranged;
+        ranged = each-more (λ x. inRange (limits-of h) x ≡ true) rs r (sound .ranged) is-ranged;
         per-master = more-counted;
         distinct = more-distinct;
       }
@@ -173,7 +168,7 @@ module _ (s : List ℕ) where
       step ih (as-setting e z) = rw (adds-setting s (suc n) e .1) ih
       step ih (as-stream e) =
           let its : isStreamOf (busOf (decode s 0 .kind)) (nth s (suc n) .kind) ≡ true = rw (head-at s n) at e in
-          let ranged : inRange (givenBy (decode s 0)) (nth s (suc n)) ≡ true = rw (head-at s n) at (p .is-ranged) in
+          let ranged : inRange (limits-of (decode s 0)) (nth s (suc n)) ≡ true = rw (head-at s n) at (p .is-ranged) in
           rw (adds-stream s (suc n) (stream-of (busIn (before s (suc n))) (nth s (suc n) .kind) e .0) .1)
           (sound-more (decode s 0) (before s (suc n) .streams) ih (nth s (suc n)) its (p .in-limits) (p .is-new) ranged)
 

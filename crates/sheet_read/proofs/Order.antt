@@ -10,6 +10,7 @@ use borrow.Author.Tests.{eqb-true, eqb-false, eq-eqb, ne-eqb}
 use lib.Dec.{eqb}
 use lib.ListN.{length, getD, length-append}
 use lib.Seq.{getD-append-add}
+use Rattle.sheet_record.specs.declared.Given.{Given}
 use Rattle.sheet_record.specs.declared.Record.{Record}
 use Rattle.sheet_record.specs.Kinds.{kinds, lineOf, busOf, Part, partOf, isFirstPart, isSettingPart, isStreamPart, isFirst, isSetting, isStream, isStreamOf, decode, nothing}
 use Rattle.sheet_record.specs.Kinds.Part.{no-part, first, setting, stream}
@@ -23,6 +24,15 @@ use Rattle.sheet_read.proofs.Cases.{PassesAt, Upto, upto-front}
 
 never : {A : Type 0} → false ≡ true → A
 never e = let z : _≡_ {A = ℕ} 0 1 = cc in absurd (omega arith)
+
+-- ---- Limits
+
+-- what a first record is given, and what it sets
+abbrev pub no-limits : Given
+no-limits = record { masters = 0; message = 0 }
+
+abbrev pub limits-of : Record → Given
+limits-of h = record { masters = h .a; message = h .c }
 
 -- ---- A kind has one part
 

@@ -25,17 +25,10 @@ use Rattle.sheet_read.proofs.Walk.{length-records, record-at, records-f
 use Rattle.sheet_read.proofs.Cases.{PassesAt, Upto, upto-front, stops-once, ended-sheet}
 use Rattle.sheet_read.proofs.Cases.Stops.{at-end}
 use Rattle.sheet_read.proofs.Judged.{size-some}
-use Rattle.sheet_read.proofs.Order.{fits-first, fits-behind, first-some, head-some, in-order}
+use Rattle.sheet_read.proofs.Order.{no-limits, limits-of, fits-first, fits-behind, first-some, head-some, in-order}
 use Rattle.sheet_read.proofs.Known.{ReadsTo, reading-whole}
 
 -- ---- Ranges at their greatest
-
--- what a first record is given, and what it sets
-abbrev no-limits : Given
-no-limits = record { masters = 0; message = 0 }
-
-abbrev limits-of : Record → Given
-limits-of h = record { masters = h .a; message = h .c }
 
 -- what is in range behind a first record is in range for the writer
 variable-ranged : (g : Given) (r : Record) → r .kind ≡ 6 → inRange g r ≡ true → inRange greatest r ≡ true

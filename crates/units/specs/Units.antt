@@ -21,6 +21,10 @@ ns n = record { 0 = n }
 abbrev pub ringBp : ℕ → RingPeriods
 ringBp n = record { 0 = n }
 
+-- n bp, and the greatest count that 32 bits hold where n is above it
+unfoldable pub capped : ℕ → BitPeriods
+capped n = bp (min n (2 ^ 32 - 1))
+
 -- b bp are over within u us: 48 bp last 625 us
 abbrev pub Within : BitPeriods → Micros → Type 0
 Within b u = 625 * b .0 ≤ 48 * u .0
@@ -40,4 +44,5 @@ nanosUp b = ns (up (78125 * b .0) 6)
 
 -- u rounded down: the greatest count of bp that fits into u, of those that 32 bits hold
 unfoldable pub periodsDown : Micros → BitPeriods
-periodsDown u = bp (min (48 * u .0 / 625) (2 ^ 32 - 1))
+unfolding capped
+periodsDown u = capped (48 * u .0 / 625)
