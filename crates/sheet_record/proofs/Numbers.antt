@@ -29,6 +29,11 @@ digits-more w v = rw add-one refl
 pub step-below : (i x b : ℕ) → x < 256 ^ i → b < 256 → x * 256 + b < 256 ^ (i + 1)
 step-below i x b hx hb = rw (add-one, pow-suc) (omega arith)
 
+pub be-below : (s : List ℕ) (at w : ℕ) → ((i : ℕ) → getD s i 0 < 256) → be s at w < 256 ^ w
+unfolding be
+be-below s at zero bytes = omega arith
+be-below s at (suc w) bytes = rw (← add-one w) (step-below w (be s at w) (getD s (at + w) 0) (be-below s at w bytes) (bytes (at + w)))
+
 pub four-at-most : (i : ℕ) → i < 4 → 256 ^ i ≤ 16777216
 four-at-most i h = let g : i ≤ 3 = omega arith in pow-le-pow-right {n = 256} (lit< tt) g
 

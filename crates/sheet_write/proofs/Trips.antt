@@ -1,26 +1,26 @@
 -- A record and its bytes: what is encoded decodes to itself, wherever it stands; what is decoded encodes to the bytes that stand there;
 -- and decoding looks at no other bytes. Assumes nothing.
 use mathlib.Core.Path.{_≡_, refl, sym, ap, _∙_}
-use mathlib.Core.Bool.{Bool, true, false, _&&_, true≢false}
+use mathlib.Core.Bool.{true}
 use mathlib.Core.List.{List, [], _∷_, _++_, append-assoc}
-use Prim.Native.Nat.{ℕ, zero, suc, _+_, _^_, _≤_, _<_}
+use Prim.Native.Nat.{ℕ, zero, suc, _+_, _≤_, _<_}
 use native.Mathlib.Numerals.{add-one}
 use native.Mathlib.Omega.{arith}
-use borrow.Author.Tests.{le-leb, leb-true, ltb-true, eqb-true}
-use lib.Dec.{ltb, leb, eqb}
+use borrow.Author.Tests.{le-leb, leb-true}
+use lib.Dec.{leb}
 use lib.ListN.{length, getD, take, drop, length-append}
 use lib.Seq.{getD-at, getD-take, take-add, drop-drop, drop-cons}
 use Rattle.sheet_record.specs.declared.Record.{Record}
 use Rattle.sheet_record.specs.Numbers.{be, digits}
-use Rattle.sheet_record.specs.Kinds.{Field, Limit, kinds, fieldsOf, widths, sizeOf, known, fieldAt, decode, body, numbers, encode, whole, limit, within, ranged, inRange}
-use Rattle.sheet_record.specs.Kinds.Limit.{is, masters, message, own, less}
+use Rattle.sheet_record.specs.Kinds.{Field, fieldsOf, widths, sizeOf, known, fieldAt, decode, body, numbers, encode, whole, inRange}
 use Rattle.sheet_record.specs.Widths.{widthAt}
 use Rattle.sheet_write.specs.Writing.{greatest}
 use Rattle.sheet_record.proofs.Numbers.{length-digits, be-digits, be-same, digits-be}
-use Rattle.sheet_record.proofs.Tables.{both-true, at-every-kind, wide, size-is, fields-at-most}
+use Rattle.sheet_record.proofs.Tables.{both-true, wide, size-is, fields-at-most}
 use Rattle.sheet_write.proofs.Stored.{encode-is}
 use Rattle.sheet_record.proofs.Records.{decode-is}
-use Rattle.sheet_record.proofs.Ranges.{within-range}
+use Rattle.sheet_record.proofs.Fits.{Fit, in-range-fits}
+use Rattle.sheet_record.proofs.Fits.Fit.{none, over, more}
 
 -- ---- Whole records
 
@@ -52,84 +52,6 @@ pub length-encode : (r : Record) → length (encode r) ≡ sizeOf (r .kind)
 unfolding encode sizeOf
 length-encode r = omega (arith, length-body (fieldsOf (r .kind)) (numbers r) (fields-at-most (r .kind)))
 
--- ---- Numbers that fit their fields
-
--- each number fits its field, and is 0 where there is no field
-data Fit : List Field → List ℕ → Type 0 where
-  none : Fit [] []
-  over : {x : ℕ} {xs : List ℕ} → x ≡ 0 → Fit [] xs → Fit [] (x ∷ xs)
-  more : {f : Field} {fs : List Field} {x : ℕ} {xs : List ℕ} → x < 256 ^ f .width → Fit fs xs → Fit (f ∷ fs) (x ∷ xs)
-
--- a limit is less than m; one that another field sets is so if the test `other` says it of that field
-abbrev below : (ℕ → Bool) → ℕ → Limit → Bool
-below other m (is n) = ltb n m
-below other m masters = ltb (greatest .masters) m
-below other m message = ltb (greatest .message) m
-below other m (own i) = other i
-below other m (less i j) = other i
-
--- field i's own limit is less than m, and no other field sets it; 0 where there is no field
-abbrev belowAt : ℕ → List Field → ℕ → Bool
-belowAt m [] i = ltb 0 m
-belowAt m (f ∷ fs) zero = below (λ i. false) m (f .most)
-belowAt m (f ∷ fs) (suc i) = belowAt m fs i
-
--- every limit of these fields, which are some of `all`, fits its field's bytes
-abbrev roomy : List Field → List Field → Bool
-roomy all [] = true
-roomy all (f ∷ fs) = below (belowAt (256 ^ f .width) all) (256 ^ f .width) (f .most) && roomy all fs
-
-module _ (r : Record) where
-  limit-below : (other : ℕ → Bool) (m : ℕ) → ((i : ℕ) → other i ≡ true → getD (numbers r) i 0 < m)
-      → (l : Limit) → below other m l ≡ true → limit greatest r l < m
-  unfolding limit
-  limit-below other m h (is n) q = ltb-true n m q
-  limit-below other m h masters q = ltb-true (greatest .masters) m q
-  limit-below other m h message q = ltb-true (greatest .message) m q
-  limit-below other m h (own i) q = h i q
-  limit-below other m h (less i j) q = omega (arith, h i q)
-
-  -- a limit that no other field sets
-  plain-below : (m : ℕ) (l : Limit) → below (λ i. false) m l ≡ true → limit greatest r l < m
-  plain-below m = limit-below (λ i. false) m (λ i e. absurd (true≢false (sym e)))
-
-  number-below : (m : ℕ) (fs : List Field) (xs : List ℕ) (i : ℕ) → ranged greatest r fs xs ≡ true → belowAt m fs i ≡ true → getD xs i 0 < m
-  unfolding ranged
-  number-below m [] [] i e q = ltb-true 0 m q
-  number-below m [] (x ∷ xs) zero e q = omega (arith, ltb-true 0 m q, eqb-true x 0 (both-true (eqb x 0) (ranged greatest r [] xs) e .0))
-  number-below m [] (x ∷ xs) (suc i) e q = number-below m [] xs i (both-true (eqb x 0) (ranged greatest r [] xs) e .1) q
-  number-below m (f ∷ fs) [] zero e q = omega (arith, plain-below m (f .most) q)
-  number-below m (f ∷ fs) [] (suc i) e q = number-below m fs [] i e q
-  number-below m (f ∷ fs) (x ∷ xs) zero e q =
-      let b = both-true (within (f .least) x (limit greatest r (f .most))) (ranged greatest r fs xs) e in
-      omega (arith, within-range (f .least) x (limit greatest r (f .most)) (b .0) .most, plain-below m (f .most) q)
-  number-below m (f ∷ fs) (x ∷ xs) (suc i) e q =
-      number-below m fs xs i (both-true (within (f .least) x (limit greatest r (f .most))) (ranged greatest r fs xs) e .1) q
-
-  module _ (all : List Field) (in-all : ranged greatest r all (numbers r) ≡ true) where
-    ranged-fits : (fs : List Field) (xs : List ℕ) → length fs ≤ length xs → roomy all fs ≡ true → ranged greatest r fs xs ≡ true → Fit fs xs
-    unfolding ranged
-    ranged-fits [] [] l q e = none
-    ranged-fits [] (x ∷ xs) l q e =
-        let b = both-true (eqb x 0) (ranged greatest r [] xs) e in
-        over (eqb-true x 0 (b .0)) (ranged-fits [] xs (omega arith) q (b .1))
-    ranged-fits (f ∷ fs) [] l q e = absurd (omega arith)
-    ranged-fits (f ∷ fs) (x ∷ xs) l q e =
-        let m = 256 ^ f .width in
-        let b = both-true (within (f .least) x (limit greatest r (f .most))) (ranged greatest r fs xs) e in
-        let t = both-true (below (belowAt m all) m (f .most)) (roomy all fs) q in
-        let w = within-range (f .least) x (limit greatest r (f .most)) (b .0) in
-        let s = limit-below (belowAt m all) m (λ i. number-below m all (numbers r) i in-all) (f .most) (t .0) in
-        let h : x < m = omega (arith, w .most, s) in
-        more h (ranged-fits fs xs (omega arith) (t .1) (b .1))
-
--- a record in range fits its fields
-in-range-fits : (r : Record) → inRange greatest r ≡ true → Fit (fieldsOf (r .kind)) (numbers r)
-unfolding inRange kinds
-in-range-fits r e =
-    let fs = fieldsOf (r .kind) in
-    ranged-fits r fs e fs (numbers r) (fields-at-most (r .kind)) (at-every-kind (λ fs. roomy fs fs) refl refl (r .kind)) e
-
 -- ---- Encoded, then decoded
 
 fields-back : {fs : List Field} {xs : List ℕ} → Fit fs xs → (p q : List ℕ) (j : ℕ) → fieldAt (p ++ (body fs xs ++ q)) (length p) fs j ≡ getD xs j 0
@@ -145,7 +67,7 @@ fields-back (more {f} {fs} {x} {xs} h t) p q (suc j) =
     let n : length p + f .width ≡ length (p ++ d) = omega (arith, length-append p d, length-digits (f .width) x) in
     rw (e, n) (fields-back t (p ++ d) q j)
 
-module _ (r : Record) (e : inRange greatest r ≡ true) (p q : List ℕ) where
+module _ (r : Record) (fit : Fit (fieldsOf (r .kind)) (numbers r)) (p q : List ℕ) where
   kind-back : getD (p ++ (encode r ++ q)) (length p) 0 ≡ r .kind
   unfolding encode
   kind-back = getD-at p (r .kind) (body (fieldsOf (r .kind)) (numbers r) ++ q) 0 (length p) refl
@@ -157,18 +79,26 @@ module _ (r : Record) (e : inRange greatest r ≡ true) (p q : List ℕ) where
       let fs = fieldsOf (r .kind) in
       let g : p ++ (k ++ (body fs (numbers r) ++ q)) ≡ (p ++ k) ++ (body fs (numbers r) ++ q) = simp append-assoc in
       let n : length p + 1 ≡ length (p ++ k) = omega (arith, length-append p k) in
-      rw (g, n) (fields-back (in-range-fits r e) (p ++ k) q j)
+      rw (g, n) (fields-back fit (p ++ k) q j)
 
-  -- a record in range, encoded anywhere, decodes to itself
-  pub decode-encode : decode (p ++ (encode r ++ q)) (length p) ≡ r
+  -- a record whose numbers fit their bytes, encoded anywhere, decodes to itself
+  pub decode-fit : decode (p ++ (encode r ++ q)) (length p) ≡ r
   unfolding decode
-  decode-encode = simp (kind-back, field-back)
+  decode-fit = simp (kind-back, field-back)
+
+-- so does one in range
+module _ (r : Record) (e : inRange greatest r ≡ true) (p q : List ℕ) where
+  fit-in-range : Fit (fieldsOf (r .kind)) (numbers r)
+  fit-in-range = in-range-fits greatest (omega arith) (omega arith) r e
+
+  pub decode-encode : decode (p ++ (encode r ++ q)) (length p) ≡ r
+  decode-encode = decode-fit r fit-in-range p q
 
   pub whole-encode : known (r .kind) ≡ true → whole (p ++ (encode r ++ q)) (length p) ≡ true
   whole-encode k =
       let s = p ++ (encode r ++ q) in
       let n : length p + sizeOf (r .kind) ≤ length s = omega (arith, length-append p (encode r ++ q), length-append (encode r) q, length-encode r) in
-      whole-if s (length p) (record { is-known = rw kind-back k; ends = rw kind-back n })
+      whole-if s (length p) (record { is-known = rw (kind-back r fit-in-range p q) k; ends = rw (kind-back r fit-in-range p q) n })
 
 -- ---- Decoded, then encoded
 

@@ -1,13 +1,13 @@
 -- Laws of the writer, page 01 'Sheet records': a refusal changes nothing, and a record without one is put. Assumes nothing.
 use mathlib.Core.Path.{_≡_, refl, ap, _∙_}
-use mathlib.Core.Bool.{Bool, true, false, not, _||_}
-use mathlib.Core.List.{List, _∷_, _++_}
+use mathlib.Core.Bool.{Bool, true, false, not, _&&_, _||_}
+use mathlib.Core.List.{List, [], _∷_, _++_}
 use Prim.Native.Nat.{ℕ, _+_, _≤_, _<_, _^_}
 use borrow.Author.Tests.{lt-ltb, le-ltb, ltb-false, not-false}
 use native.Mathlib.Omega.{arith}
 use lib.ListN.{length, take, drop, length-append}
 use lib.Seq.{length-take-le, take-at, drop-at}
-use Rattle.common.specs.Checks.{Check, Verdict, verdict}
+use Rattle.common.specs.Checks.{Check, check, Verdict, verdict}
 use Rattle.common.specs.Checks.Verdict.{Passed, Refused}
 use Rattle.common.proofs.Checks.{Applies, Clear, refused-if, passed-if, passed-then}
 use Rattle.common.proofs.Checks.Applies.{here, later}
@@ -17,45 +17,70 @@ use Rattle.sheet_write.specs.declared.Put.{Put}
 use Rattle.sheet_write.specs.declared.Put.the-variants as put
 use Rattle.sheet_record.specs.Numbers.{pasted}
 use Rattle.sheet_record.specs.Kinds.{Kind, kinds, lineOf, fieldsOf, some, known, written, sizeOf, encode, decode, whole, inRange}
-use Rattle.sheet_write.specs.Writing.{greatest, needed, writeChecks, putBy, pastedBy, putAnswer, putBytes}
+use Rattle.sheet_write.specs.Writing.{greatest, needed, roomCheck, writeChecks, freeChecks, putBy, pastedBy, putAnswer, putBytes, freeAnswer, freeBytes}
 use Rattle.sheet_record.proofs.Numbers.{length-pasted, pasted-front}
-use Rattle.sheet_record.proofs.Tables.{at-every-line}
+use Rattle.sheet_record.proofs.Tables.{at-every-line, both-true}
 use Rattle.sheet_write.proofs.Trips.{length-encode, decode-encode, whole-encode}
 
 -- what a call answers and leaves in the buffer
 abbrev pub Written : List ℕ → ℕ → Record → Put → List ℕ → Type 0
 Written b at r p b' = (p ≡ putAnswer (length b) at r) × (b' ≡ putBytes b at r)
 
+-- and one that does not look at ranges
+abbrev pub Freely : List ℕ → ℕ → Record → Put → List ℕ → Type 0
+Freely b at r p b' = (p ≡ freeAnswer (length b) at r) × (b' ≡ freeBytes b at r)
+
 module _ (b : List ℕ) (at : ℕ) (r : Record) where
-  pub refused-written : {n p : ℕ} → Applies (writeChecks (length b) at r) n p → Written b at r (put.Refused n p) b
-  unfolding putAnswer putBytes
-  refused-written a = let e = refused-if a in (rw e, rw e)
+  refused-free : {n p : ℕ} → Applies (freeChecks (length b) at r) n p → Freely b at r (put.Refused n p) b
+  unfolding freeAnswer freeBytes
+  refused-free a = let e = refused-if a in (rw e, rw e)
 
-  pub passed-written : Clear (writeChecks (length b) at r) → Written b at r (put.Next (at + sizeOf (r .kind))) (pasted b at (encode r))
-  unfolding putAnswer putBytes
-  passed-written c = let e = passed-if c in (rw e, rw e)
+  passed-free : Clear (freeChecks (length b) at r) → Freely b at r (put.Next (at + sizeOf (r .kind))) (pasted b at (encode r))
+  unfolding freeAnswer freeBytes
+  passed-free c = let e = passed-if c in (rw e, rw e)
 
-  pub unknown-written : written (r .kind) ≡ false → Written b at r (put.Refused 2 at) b
-  unfolding writeChecks
-  unknown-written k = refused-written (here (ap not k))
+  pub unknown-free : written (r .kind) ≡ false → Freely b at r (put.Refused 2 at) b
+  unfolding freeChecks
+  unknown-free k = refused-free (here (ap not k))
 
-  pub range-written : written (r .kind) ≡ true → inRange greatest r ≡ false → Written b at r (put.Refused 4 at) b
-  unfolding writeChecks
-  range-written k ok = refused-written (later (ap not k) (here (ap not ok)))
-
-  module _ (k : written (r .kind) ≡ true) (ok : inRange greatest r ≡ true) where
+  module _ (k : written (r .kind) ≡ true) where
     -- no room: 13, with the length that the whole buffer needs
-    pub short-written : length b < at + sizeOf (r .kind) → (p : ℕ) → needed (at + sizeOf (r .kind)) ≡ p → Written b at r (put.Refused 13 p) b
-    unfolding writeChecks
-    short-written h p e =
+    pub short-free : length b < at + sizeOf (r .kind) → (p : ℕ) → needed (at + sizeOf (r .kind)) ≡ p → Freely b at r (put.Refused 13 p) b
+    unfolding freeChecks
+    short-free h p e =
         let t = lt-ltb (length b) (at + sizeOf (r .kind)) h in
-        rw (← e) (refused-written (later (ap not k) (later (ap not ok) (here t))))
+        rw (← e) (refused-free (later (ap not k) (here t)))
 
-    pub room-written : at + sizeOf (r .kind) ≤ length b → Written b at r (put.Next (at + sizeOf (r .kind))) (pasted b at (encode r))
-    unfolding writeChecks
-    room-written h =
+    pub room-free : at + sizeOf (r .kind) ≤ length b → Freely b at r (put.Next (at + sizeOf (r .kind))) (pasted b at (encode r))
+    unfolding freeChecks
+    room-free h =
         let t = le-ltb (length b) (at + sizeOf (r .kind)) h in
-        passed-written (and (ap not k) (and (ap not ok) (and t none)))
+        passed-free (and (ap not k) (and t none))
+
+  pub range-written : (written (r .kind) && not (inRange greatest r)) ≡ true → Written b at r (put.Refused 4 at) b
+  unfolding writeChecks putAnswer putBytes
+  range-written t =
+      let h = both-true (written (r .kind)) (not (inRange greatest r)) t in
+      let e = refused-if {cs = writeChecks (length b) at r} (later (ap not (h .0)) (here (h .1))) in
+      (rw e, rw e)
+
+  -- out of range is refused with 4 only where the writer puts the kind; else ranges make no difference
+  same-verdict : (n : ℕ) → (written (r .kind) && not (inRange greatest r)) ≡ false → verdict (writeChecks n at r) ≡ verdict (freeChecks n at r)
+  unfolding writeChecks freeChecks verdict
+  same-verdict n = split (written (r .kind)) (inRange greatest r)
+    where
+      split : (w g : Bool) → (w && not g) ≡ false
+          → verdict (check 2 (not w) at ∷ check 4 (not g) at ∷ roomCheck n at r ∷ []) ≡ verdict (check 2 (not w) at ∷ roomCheck n at r ∷ [])
+      split false g h = refl
+      split true true h = refl
+      split true false h = let z : _≡_ {A = ℕ} 0 1 = cc in absurd (omega arith)
+
+  pub free-written : {p : Put} {b' : List ℕ} → (written (r .kind) && not (inRange greatest r)) ≡ false → Freely b at r p b' → Written b at r p b'
+  unfolding freeAnswer freeBytes putAnswer putBytes
+  free-written e f = let q = same-verdict (length b) e in (f .0 ∙ rw q, f .1 ∙ rw q)
+
+  pub room-written : written (r .kind) ≡ true → inRange greatest r ≡ true → at + sizeOf (r .kind) ≤ length b → Written b at r (put.Next (at + sizeOf (r .kind))) (pasted b at (encode r))
+  room-written k ok h = free-written (rw (k, ok)) (room-free k h)
 
 -- what the whole buffer needs is counted in 64 bits, or 0
 pub needed-is : (n : ℕ) → n < 2 ^ 64 → needed n ≡ n
@@ -91,9 +116,14 @@ pub record Stands (b now : List ℕ) (at : ℕ) (r : Record) (e : ℕ) : Type 0 
   pub same-before : take at now ≡ take at b
   pub same-after : drop e now ≡ drop e b
 
-next-passed : (v : Verdict) (end e : ℕ) → putBy v end ≡ put.Next e → (v ≡ Passed) × (e ≡ end)
+-- what an answer tells of the verdict that it was made of
+pub next-passed : (v : Verdict) (end e : ℕ) → putBy v end ≡ put.Next e → (v ≡ Passed) × (e ≡ end)
 next-passed Passed end e q = (refl, cc)
 next-passed (Refused n p) end e q = (cc, cc)
+
+pub refused-by : (v : Verdict) (end n p : ℕ) → putBy v end ≡ put.Refused n p → v ≡ Refused n p
+refused-by Passed end n p q = cc
+refused-by (Refused m o) end n p q = let a : m ≡ n = cc in let b : o ≡ p = cc in cc
 
 pasted-stands : (b : List ℕ) (at : ℕ) (r : Record) → known (r .kind) ≡ true → inRange greatest r ≡ true → at + sizeOf (r .kind) ≤ length b
     → Stands b (pasted b at (encode r)) at r (at + sizeOf (r .kind))
@@ -130,7 +160,7 @@ written-stands b at r e q =
     let same : putBytes b at r ≡ pasted b at (encode r) = simp (v .0) in
     rw (v .1, same) (pasted-stands b at r (written-known (r .kind) (not-false (written (r .kind)) (c₁ .0))) (not-false (inRange greatest r) (c₂ .0)) fits)
 
-refused-kept : (v : Verdict) (end n p : ℕ) (new b : List ℕ) → putBy v end ≡ put.Refused n p → pastedBy v new b ≡ b
+pub refused-kept : (v : Verdict) (end n p : ℕ) (new b : List ℕ) → putBy v end ≡ put.Refused n p → pastedBy v new b ≡ b
 refused-kept Passed end n p new b q = cc
 refused-kept (Refused m o) end n p new b q = refl
 

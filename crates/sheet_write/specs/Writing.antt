@@ -21,14 +21,22 @@ greatest = record { masters = 32; message = 100000 }
 unfoldable pub needed : ℕ → ℕ
 needed end = cond (ltb end (2 ^ 64)) end 0
 
--- kind, ranges, room, in this order, for a buffer of n bytes
+-- for a buffer of n bytes: the writer puts the kind, and there is room
+abbrev pub kindCheck : ℕ → Record → Check
+kindCheck at r = check 2 (not (written (r .kind))) at
+
+abbrev pub roomCheck : ℕ → ℕ → Record → Check
+roomCheck n at r = check 13 (ltb n (at + sizeOf (r .kind))) (needed (at + sizeOf (r .kind)))
+
+-- kind, ranges, room, in this order
 unfoldable pub writeChecks : ℕ → ℕ → Record → List Check
 unfolding written inRange needed sizeOf
-writeChecks n at r =
-    check 2 (not (written (r .kind))) at
-    ∷ check 4 (not (inRange greatest r)) at
-    ∷ check 13 (ltb n (at + sizeOf (r .kind))) (needed (at + sizeOf (r .kind)))
-    ∷ []
+writeChecks n at r = kindCheck at r ∷ check 4 (not (inRange greatest r)) at ∷ roomCheck n at r ∷ []
+
+-- the same for a record whose numbers may be out of range, as a text may say them
+unfoldable pub freeChecks : ℕ → ℕ → Record → List Check
+unfolding written needed sizeOf
+freeChecks n at r = kindCheck at r ∷ roomCheck n at r ∷ []
 
 abbrev pub putBy : Verdict → ℕ → Put
 putBy Passed end = put.Next end
@@ -47,3 +55,11 @@ putAnswer n at r = putBy (verdict (writeChecks n at r)) (at + sizeOf (r .kind))
 unfoldable pub putBytes : List ℕ → ℕ → Record → List ℕ
 unfolding verdict writeChecks encode
 putBytes b at r = pastedBy (verdict (writeChecks (length b) at r)) (pasted b at (encode r)) b
+
+unfoldable pub freeAnswer : ℕ → ℕ → Record → Put
+unfolding verdict freeChecks sizeOf
+freeAnswer n at r = putBy (verdict (freeChecks n at r)) (at + sizeOf (r .kind))
+
+unfoldable pub freeBytes : List ℕ → ℕ → Record → List ℕ
+unfolding verdict freeChecks encode
+freeBytes b at r = pastedBy (verdict (freeChecks (length b) at r)) (pasted b at (encode r)) b

@@ -10,9 +10,9 @@ ghost use Prim.Native.Nat.{_+_, _≤_};
 ghost use lib.ListN.{length};
 ghost use Rattle.sheet_record.specs.Numbers.{digits, pasted};
 ghost use Rattle.sheet_record.specs.Kinds;
-ghost use Rattle.sheet_record.specs.Kinds.{encode, inRange};
+ghost use Rattle.sheet_record.specs.Kinds.{encode};
 ghost use Rattle.sheet_record.specs.Widths.{Wide};
-ghost use Rattle.sheet_write.specs.Writing.{greatest, putAnswer, putBytes};
+ghost use Rattle.sheet_write.specs.Writing.{putAnswer, putBytes, freeAnswer, freeBytes};
 
 // What writing a record answers: the place just after it, or the refusal's number and place.
 pub enum Put {
@@ -67,7 +67,7 @@ fn store(
 // The greatest place that can be counted.
 const LAST: usize = 18446744073709551615;
 
-// Writes a record that the writer puts and that is in range, if there is room: its length is not added to a place that is too high for it.
+// Writes a record that the writer puts, if there is room: its length is not added to a place that is too high for it.
 fn put_whole(
     buf: &mut [u8],
     at: usize,
@@ -79,10 +79,9 @@ fn put_whole(
     we: usize,
 ) -> Put
     requires { ⌜ Kinds.written (r .kind) ≡ true ⌝ }
-    requires { ⌜ inRange greatest r ≡ true ⌝ }
     requires { ⌜ Wide (r .kind) wa wb wc wd we ⌝ }
-    ensures { λ p. ⌜ p ≡ putAnswer (length (now (buf .entry))) at r ⌝ }
-    ensures { λ _. ⌜ now (buf .exit) ≡ putBytes (now (buf .entry)) at r ⌝ }
+    ensures { λ p. ⌜ p ≡ freeAnswer (length (now (buf .entry))) at r ⌝ }
+    ensures { λ _. ⌜ now (buf .exit) ≡ freeBytes (now (buf .entry)) at r ⌝ }
 {
     let size = 1 + wa + wb + wc + wd + we;
     if LAST - size < at {
@@ -103,22 +102,14 @@ fn written(kind: u8) -> bool
     known(kind)
 }
 
-// Writes one record at a place. Refused with 2, 4 or 13, in this order, and then no byte changes.
-pub fn put_record(buf: &mut [u8], at: usize, r: Record) -> Put
-    ensures { λ p. ⌜ p ≡ putAnswer (length (now (buf .entry))) at r ⌝ }
-    ensures { λ _. ⌜ now (buf .exit) ≡ putBytes (now (buf .entry)) at r ⌝ }
+// Writes one record at a place, whatever its numbers are: of each the bytes of its field. Refused with 2 or 13, and then no byte changes.
+pub fn put_free(buf: &mut [u8], at: usize, r: Record) -> Put
+    ensures { λ p. ⌜ p ≡ freeAnswer (length (now (buf .entry))) at r ⌝ }
+    ensures { λ _. ⌜ now (buf .exit) ≡ freeBytes (now (buf .entry)) at r ⌝ }
 {
     let kind = r.kind;
     if !written(kind) {
         return Put::Refused { no: 2, place: at };
-    }
-    // Limits that need another record are taken at their greatest.
-    let given = Given {
-        masters: 32,
-        message: 100000,
-    };
-    if !in_range(given, r) {
-        return Put::Refused { no: 4, place: at };
     }
     match kind {
         1 => put_whole(buf, at, r, 1, 0, 0, 0, 0),
@@ -129,4 +120,20 @@ pub fn put_record(buf: &mut [u8], at: usize, r: Record) -> Put
         // 6, the kind that is left
         _ => put_whole(buf, at, r, 2, 4, 0, 0, 0),
     }
+}
+
+// Writes one record at a place. Refused with 2, 4 or 13, in this order, and then no byte changes.
+pub fn put_record(buf: &mut [u8], at: usize, r: Record) -> Put
+    ensures { λ p. ⌜ p ≡ putAnswer (length (now (buf .entry))) at r ⌝ }
+    ensures { λ _. ⌜ now (buf .exit) ≡ putBytes (now (buf .entry)) at r ⌝ }
+{
+    // Limits that need another record are taken at their greatest.
+    let given = Given {
+        masters: 32,
+        message: 100000,
+    };
+    if written(r.kind) & !in_range(given, r) {
+        return Put::Refused { no: 4, place: at };
+    }
+    put_free(buf, at, r)
 }

@@ -1,129 +1,43 @@
--- `sheet_write::put_record` meets its contract: 2, then 4, then what `put_whole` answers at the kind's widths. Assumes nothing.
-use mathlib.Core.Path.{_≡_, refl, sym, _∙_}
-use mathlib.Core.Bool.{true}
-use native.Mathlib.Nat.{le-antisymm}
-use native.Mathlib.Omega.{arith}
-use borrow.Author.Tests.{not-true, not-false}
-use Rattle.sheet_record.specs.Kinds.{kinds, lineOf, fieldsOf, known, written, inRange}
-use Rattle.sheet_record.specs.Widths.{widthAt}
-use Rattle.sheet_write.specs.Writing.{greatest}
-use Rattle.sheet_record.proofs.Tables.{wide, known-bounds}
-use Rattle.sheet_write.proofs.Writing.{unknown-written, range-written, written-known}
+-- `sheet_write::put_record` meets its contract: 4 for a kind that the writer puts, else what `put_free` answers. Assumes nothing.
+use mathlib.Core.Path.{_≡_, sym, ap, _∙_}
+use mathlib.Core.Bool.{Bool, not, _&&_}
 use borrow.Author.Needs.{needs}
+use Rattle.sheet_record.specs.Kinds.{written, inRange}
+use Rattle.sheet_write.specs.Writing.{greatest}
+use Rattle.sheet_write.proofs.Writing.{range-written, free-written}
 use Rattle.sheet_write.proofs.put_record.Statement.{statement}
 use Rattle.sheet_write.proofs.put_record.Tie as tie
 
 written-requires : tie.Need-written-requires
 written-requires c κs = search needs
 
-returns : tie.Need-returns
-returns c =
-    let a = c .before .before .before .args in
-    unknown-written (a .buf .now) (a .at) (a .r) (sym (c .before .written .ensures) ∙ not-true _ (c .if1 .taken))
-
--- past the first test, the writer puts the kind
-put-kind : (c : tie.Else1) → written (c .before .before .before .args .r .kind) ≡ true
-put-kind c = sym (c .before .written .ensures) ∙ not-false _ (c .if1 .left)
-
 in-range-requires : tie.Need-in-range-requires
 in-range-requires c κs = search needs
 
-returns-2 : tie.Need-returns-2
-returns-2 c =
-    let a = c .before .before .before .before .before .args in
-    range-written (a .buf .now) (a .at) (a .r) (put-kind (c .before .before)) (sym (c .before .in-range .ensures) ∙ not-true _ (c .if2 .taken))
+-- the test, in the words of the page
+test : {w g w' g' : Bool} {b : Bool} → w ≡ w' → g ≡ g' → (w && not g) ≡ b → (w' && not g') ≡ b
+test e f t = rw (← e, ← f) t
 
--- past the second, the record is in range
-in-its-ranges : (c : tie.Else2) → inRange greatest (c .before .before .before .before .before .args .r) ≡ true
-in-its-ranges c = sym (c .before .in-range .ensures) ∙ not-false _ (c .if2 .left)
+returns : tie.Need-returns
+returns c =
+    let a = c .before .before .before .before .args in
+    range-written (a .buf .now) (a .at) (a .r) (test (c .before .before .written .ensures) (c .before .in-range .ensures) (c .if1 .taken))
 
-put-whole-requires : tie.Need-put-whole-requires
-unfolding widthAt fieldsOf lineOf kinds known
-put-whole-requires c κs = (put-kind (c .before .before .before .before), (in-its-ranges (c .before .before), rw (c .before .match .keys1) (wide 1 refl)))
-
-put-whole-requires-2 : tie.Need-put-whole-requires-2
-unfolding widthAt fieldsOf lineOf kinds known
-put-whole-requires-2 c κs = (put-kind (c .before .before .before .before), (in-its-ranges (c .before .before), rw (c .before .match .keys2) (wide 2 refl)))
-
-put-whole-requires-3 : tie.Need-put-whole-requires-3
-unfolding widthAt fieldsOf lineOf kinds known
-put-whole-requires-3 c κs = (put-kind (c .before .before .before .before), (in-its-ranges (c .before .before), rw (c .before .match .keys3) (wide 3 refl)))
-
-put-whole-requires-4 : tie.Need-put-whole-requires-4
-unfolding widthAt fieldsOf lineOf kinds known
-put-whole-requires-4 c κs = (put-kind (c .before .before .before .before), (in-its-ranges (c .before .before), rw (c .before .match .keys4) (wide 4 refl)))
-
-put-whole-requires-5 : tie.Need-put-whole-requires-5
-unfolding widthAt fieldsOf lineOf kinds known
-put-whole-requires-5 c κs = (put-kind (c .before .before .before .before), (in-its-ranges (c .before .before), rw (c .before .match .keys5) (wide 5 refl)))
-
-put-whole-requires-6 : tie.Need-put-whole-requires-6
-unfolding widthAt fieldsOf lineOf kinds known
-put-whole-requires-6 c κs =
-    let k = c .before .before .before .before .before .before .before .args .r .kind in
-    let b = known-bounds k (written-known k (put-kind (c .before .before .before .before))) in
-    let e : k ≡ 6 = le-antisymm (b .1) (omega arith) in
-    (put-kind (c .before .before .before .before), (in-its-ranges (c .before .before), rw e (wide 6 refl)))
+put-free-requires : tie.Need-put-free-requires
+put-free-requires c κs = search needs
 
 same-length : tie.Need-same-length
-same-length c = c .before .before .put-whole .kept .0
+same-length c = search needs
 
-returns-3 : tie.Need-returns-3
-returns-3 c = c .before .before .put-whole .ensures
-
-same-length-2 : tie.Need-same-length-2
-same-length-2 c = c .before .before .put-whole2 .kept .0
-
-returns-4 : tie.Need-returns-4
-returns-4 c = c .before .before .put-whole2 .ensures
-
-same-length-3 : tie.Need-same-length-3
-same-length-3 c = c .before .before .put-whole3 .kept .0
-
-returns-5 : tie.Need-returns-5
-returns-5 c = c .before .before .put-whole3 .ensures
-
-same-length-4 : tie.Need-same-length-4
-same-length-4 c = c .before .before .put-whole4 .kept .0
-
-returns-6 : tie.Need-returns-6
-returns-6 c = c .before .before .put-whole4 .ensures
-
-same-length-5 : tie.Need-same-length-5
-same-length-5 c = c .before .before .put-whole5 .kept .0
-
-returns-7 : tie.Need-returns-7
-returns-7 c = c .before .before .put-whole5 .ensures
-
-same-length-6 : tie.Need-same-length-6
-same-length-6 c = c .before .before .put-whole6 .kept .0
-
-returns-8 : tie.Need-returns-8
-returns-8 c = c .before .before .put-whole6 .ensures
+returns-2 : tie.Need-returns-2
+returns-2 c =
+    let start = c .before .before .before .before .before .before .before .before in
+    let a = start .args in
+    free-written (a .buf .now) (a .at) (a .r)
+    (test (c .before .before .before .before .before .before .written .ensures) (c .before .before .before .before .before .in-range .ensures) (c .before .before .before .before .if1 .left))
+    (c .before .before .put-free .ensures)
 
 pub put-record-spec : {M : Type 1} → statement M
 put-record-spec =
     tie.close
-    (tie.spec
-    written-requires
-    returns
-    in-range-requires
-    returns-2
-    put-whole-requires
-    put-whole-requires-2
-    put-whole-requires-3
-    put-whole-requires-4
-    put-whole-requires-5
-    put-whole-requires-6
-    same-length
-    returns-3
-    same-length-2
-    returns-4
-    same-length-3
-    returns-5
-    same-length-4
-    returns-6
-    same-length-5
-    returns-7
-    same-length-6
-    returns-8)
+    (tie.spec written-requires in-range-requires returns put-free-requires same-length returns-2)

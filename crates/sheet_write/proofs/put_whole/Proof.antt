@@ -6,7 +6,7 @@ use Rattle.sheet_write.specs.declared.Put.the-variants.{Next}
 use Rattle.sheet_record.specs.Kinds.{sizeOf}
 use Rattle.sheet_write.specs.Writing.{needed}
 use Rattle.sheet_record.proofs.Tables.{size-is}
-use Rattle.sheet_write.proofs.Writing.{short-written, room-written, needed-is, needed-none}
+use Rattle.sheet_write.proofs.Writing.{short-free, room-free, needed-is, needed-none}
 use borrow.Author.Needs.{needs}
 use Rattle.sheet_write.proofs.put_whole.Statement.{statement}
 use Rattle.sheet_write.proofs.put_whole.Tie as tie
@@ -33,9 +33,9 @@ returns : tie.Need-returns
 returns c =
     let start = c .before .before in
     let a = start .args in
-    let w = start .pre .1 .1 in
+    let w = start .pre .1 in
     let z = size-is (a .r .kind) (a .wa) (a .wb) (a .wc) (a .wd) (a .we) w in
-    short-written (a .buf .now) (a .at) (a .r) (start .pre .0) (start .pre .1 .0) (omega arith) 0 (needed-none (a .at + sizeOf (a .r .kind)) (omega arith))
+    short-free (a .buf .now) (a .at) (a .r) (start .pre .0) (omega arith) 0 (needed-none (a .at + sizeOf (a .r .kind)) (omega arith))
 
 add-end : tie.Need-add-end
 add-end c = search needs
@@ -44,11 +44,11 @@ returns-2 : tie.Need-returns-2
 returns-2 c =
     let start = c .before .before .before in
     let a = start .args in
-    let w = start .pre .1 .1 in
+    let w = start .pre .1 in
     let z = size-is (a .r .kind) (a .wa) (a .wb) (a .wc) (a .wd) (a .we) w in
     let e : needed (a .at + sizeOf (a .r .kind)) ≡ a .at + (1 + a .wa + a .wb + a .wc + a .wd + a .we) =
     needed-is (a .at + sizeOf (a .r .kind)) (omega arith) ∙ omega arith in
-    short-written (a .buf .now) (a .at) (a .r) (start .pre .0) (start .pre .1 .0) (omega arith) (a .at + (1 + a .wa + a .wb + a .wc + a .wd + a .we)) e
+    short-free (a .buf .now) (a .at) (a .r) (start .pre .0) (omega arith) (a .at + (1 + a .wa + a .wb + a .wc + a .wd + a .we)) e
 
 store-requires : tie.Need-store-requires
 store-requires c κs = search needs
@@ -60,9 +60,9 @@ returns-3 : tie.Need-returns-3
 returns-3 c =
     let start = c .before .before .before .before .before .before .before in
     let a = start .args in
-    let w = start .pre .1 .1 in
+    let w = start .pre .1 in
     let z = size-is (a .r .kind) (a .wa) (a .wb) (a .wc) (a .wd) (a .we) w in
-    let p = room-written (a .buf .now) (a .at) (a .r) (start .pre .0) (start .pre .1 .0) (omega arith) in
+    let p = room-free (a .buf .now) (a .at) (a .r) (start .pre .0) (omega arith) in
     (ap (λ (n : ℕ). Next (a .at + n)) (sym z) ∙ p .0, c .before .before .store .ensures ∙ p .1)
 
 pub put-whole-spec : {M : Type 1} → statement M
