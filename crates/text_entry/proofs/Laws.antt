@@ -21,7 +21,7 @@ pub is-digit : (d : ℕ) → 48 ≤ d → d ≤ 57 → isDigit d ≡ true
 unfolding isDigit
 is-digit d lo hi = simp (le-leb 48 d lo, le-leb d 57 hi)
 
-is-none : (d : ℕ) → (ltb d 48 || ltb 57 d) ≡ true → isDigit d ≡ false
+pub is-none : (d : ℕ) → (ltb d 48 || ltb 57 d) ≡ true → isDigit d ≡ false
 unfolding isDigit
 is-none d h = not-true (leb 48 d && leb d 57) (outside-is 48 d 57 ∙ h)
 

@@ -27,10 +27,14 @@ unfolding allDigits places
 digits-of zero n = refl
 digits-of (suc k) n = digits-append (places k (n / 10)) (digit n ∷ []) (digits-of k (n / 10)) (rw (is-digit (digit n) (omega arith) (omega arith)))
 
+-- a number's text is digits
+pub decimal-digits : (n : ℕ) → allDigits (decimal n) ≡ true
+unfolding decimal
+decimal-digits n = digits-of (widthOf n) n
+
 pub shown-is-entered : (n : ℕ) → n < 2 ^ 32 → enteredOf (decimal n) ≡ answer.Number n
 unfolding decimal widthOf enteredBehind
 shown-is-entered n small =
     let some : length (decimal n) ≡ 0 → ⊥ = λ e. omega (arith, e, length-places (widthOf n) n, first-is (holds n) 20 1 .from) in
-    let digits : allDigits (decimal n) ≡ true = digits-of (widthOf n) n in
     let value : min (readBehind 0 (decimal n)) 4294967295 ≡ n = omega (arith, decimal-reads-back n (omega arith)) in
-    entered-some (decimal n) some ∙ rw (digits, value)
+    entered-some (decimal n) some ∙ rw (decimal-digits n, value)

@@ -1,5 +1,5 @@
 -- Page 02, 'Ask 4': a number as a user enters it, beside its unit. Assumes nothing.
-use Prim.Native.Nat.{ℕ, min}
+use Prim.Native.Nat.{ℕ, _+_, _-_, _*_, min}
 use mathlib.Core.List.{List, [], _∷_}
 use mathlib.Core.Bool.{Bool, true, cond, not, _&&_}
 use lib.ListN.{length}
@@ -11,6 +11,11 @@ use Rattle.text_entry.specs.declared.Entered.the-variants as answer
 -- `0` to `9`
 unfoldable pub isDigit : ℕ → Bool
 isDigit b = leb 48 b && leb b 57
+
+-- a number with one byte more behind it: another digit, as far as 32 bits go; what is no digit changes nothing
+unfoldable pub withByte : ℕ → ℕ → ℕ
+unfolding isDigit
+withByte n b = cond (isDigit b) (min (n * 10 + (b - 48)) 4294967295) n
 
 unfoldable pub allDigits : List ℕ → Bool
 unfolding isDigit

@@ -1,7 +1,7 @@
 // Numbers as a user enters them.
 ghost use mathlib.Core.Path.{_≡_};
 ghost use Prim.Native.Nat.{_+_, _-_, _*_, _≤_, min};
-ghost use Rattle.text_entry.specs.Entered.{enteredOf};
+ghost use Rattle.text_entry.specs.Entered.{enteredOf, withByte};
 
 // A number, or a word that is none.
 pub enum Entered {
@@ -19,6 +19,16 @@ fn with_digit(n: u32, digit: u8) -> u32
         return next as u32;
     }
     4_294_967_295
+}
+
+// The number with one byte more behind it: another digit, as far as 32 bits go; what is no digit changes nothing.
+pub fn with_byte(n: u32, byte: u8) -> u32
+    ensures { λ r. ⌜ r ≡ withByte n byte ⌝ }
+{
+    if (byte < 48) | (byte > 57) {
+        return n;
+    }
+    with_digit(n, byte)
 }
 
 // The number that a word of decimal digits says; one that 32 bits do not hold is the greatest that they hold.
