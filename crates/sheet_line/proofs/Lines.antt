@@ -1,0 +1,141 @@
+-- Laws of a record's line: which kinds have a word, the pieces that the code stores, and how long a line is at most. Assumes nothing.
+use Prim.Native.Nat.{ℕ, zero, suc, _+_, _*_, _^_, _≤_, _<_}
+use mathlib.Core.Path.{_≡_, refl, sym, ap, _∙_}
+use mathlib.Core.List.{List, [], _∷_, _++_, append-assoc}
+use mathlib.Core.Bool.{Bool, true, false, cond, not, _&&_}
+use native.Mathlib.Decide.{ℕ-discrete}
+use native.Mathlib.Omega.{arith}
+use borrow.Author.Tests.{leb-true, eq-eqb, ne-eqb}
+use lib.Dec.{leb, ltb, eqb, leb·suc-suc}
+use lib.ListN.{length, length-append}
+use Rattle.text.specs.Text.{word, decimal, counted}
+use Rattle.text.proofs.Lengths.{decimal-most}
+use Rattle.sheet_record.specs.declared.Record.{Record}
+use Rattle.sheet_record.specs.Kinds as table
+use Rattle.sheet_record.specs.Kinds.{Field, kinds, lineOf, fieldsOf, known, numbers}
+use Rattle.sheet_record.specs.Kinds.Unit.{no-unit, bp, us}
+use Rattle.sheet_record.proofs.Tables.{unknown, at-every-line}
+use Rattle.sheet_line.specs.Lines.{unitText, cells, wordOf, hasWord, lineText, inBytes, sayable}
+
+-- ---- Which kinds have a word
+
+-- those that are known, but 3
+pub known-but-3 : (k : ℕ) → (not (eqb k 3) && known k) ≡ hasWord k
+unfolding hasWord wordOf known fieldsOf lineOf kinds
+known-but-3 zero = refl
+known-but-3 (suc zero) = refl
+known-but-3 (suc (suc zero)) = refl
+known-but-3 (suc (suc (suc zero))) = refl
+known-but-3 (suc (suc (suc (suc zero)))) = refl
+known-but-3 (suc (suc (suc (suc (suc zero))))) = refl
+known-but-3 (suc (suc (suc (suc (suc (suc zero)))))) = refl
+known-but-3 (suc (suc (suc (suc (suc (suc (suc n))))))) = beyond (not (eqb (suc (suc (suc (suc (suc (suc (suc n))))))) 3))
+  where
+    beyond : (t : Bool) → (t && false) ≡ false
+    beyond true = refl
+    beyond false = refl
+
+-- so 3 has none, and what is not one of 1 to 6
+pub no-word : (k : ℕ) → (1 ≤ k → k ≤ 6 → k ≡ 3) → hasWord k ≡ false
+no-word k other = sym (known-but-3 k) ∙ split (ℕ-discrete k 3)
+  where
+    split : Dec (k ≡ 3) → (not (eqb k 3) && known k) ≡ false
+    split (yes e) = ap (λ (t : Bool). not t && known k) (eq-eqb k 3 e)
+    split (no n) = rw (ne-eqb k 3 n) (unknown k (λ lo hi. n (other lo hi)))
+
+-- ---- What a line can say
+
+-- a record is judged by its kind
+pub judged-by : (k : ℕ) (r : Record) → r .kind ≡ k → sayable r ≡ (hasWord k && inBytes (fieldsOf k) (numbers r))
+unfolding sayable
+judged-by k r e = ap (λ (n : ℕ). hasWord n && inBytes (fieldsOf n) (numbers r)) e
+
+pub not-sayable : (r : Record) → hasWord (r .kind) ≡ false → sayable r ≡ false
+unfolding sayable
+not-sayable r e = ap (λ (t : Bool). t && inBytes (fieldsOf (r .kind)) (numbers r)) e
+
+-- below n + 1, as the definition has it, is at most n, as code tests it
+pub below-next : (x n : ℕ) → ltb x (suc n) ≡ leb x n
+below-next x n = leb·suc-suc x n
+
+-- ---- The pieces that the code stores, kind by kind
+
+-- a record's line is that of its kind
+line-of-kind : (k : ℕ) (r : Record) → r .kind ≡ k → lineText r ≡ cond (hasWord k) (wordOf k ++ (cells (fieldsOf k) (numbers r) ++ word "\n")) []
+unfolding lineText
+line-of-kind k r e = ap (λ (n : ℕ). cond (hasWord n) (wordOf n ++ (cells (fieldsOf n) (numbers r) ++ word "\n")) []) e
+
+module _ (r : Record) where
+  pub segment-pieces : r .kind ≡ 1 → lineText r ≡ counted (word "pnet-segment,") (r .a) (word "\n")
+  unfolding counted hasWord wordOf cells fieldsOf lineOf kinds
+  segment-pieces e = line-of-kind 1 r e ∙ simp append-assoc
+
+  pub stream-pieces : r .kind ≡ 2 → lineText r
+      ≡ counted (word "pnet-stream,") (r .a) (word ",") ++ (counted [] (r .b) (word " bp,") ++ (counted [] (r .c) (word " bp,") ++ counted [] (r .d) (word " bp\n")))
+  unfolding counted hasWord wordOf cells fieldsOf lineOf kinds
+  stream-pieces e = line-of-kind 2 r e ∙ simp append-assoc
+
+  pub ring-stream-pieces : r .kind ≡ 4 → lineText r
+      ≡ counted (word "profibus-stream,") (r .a) (word ",") ++ (counted [] (r .b) (word " bp,") ++ counted [] (r .c) (word " bp\n"))
+  unfolding counted hasWord wordOf cells fieldsOf lineOf kinds
+  ring-stream-pieces e = line-of-kind 4 r e ∙ simp append-assoc
+
+  pub exchange-pieces : r .kind ≡ 5 → lineText r ≡ counted (word "worldfip-exchange,") (r .a) (word " us\n")
+  unfolding counted hasWord wordOf cells fieldsOf lineOf kinds
+  exchange-pieces e = line-of-kind 5 r e ∙ simp append-assoc
+
+  pub variable-pieces : r .kind ≡ 6 → lineText r ≡ counted (word "worldfip-variable,") (r .a) (word ",") ++ counted [] (r .b) (word " us\n")
+  unfolding counted hasWord wordOf cells fieldsOf lineOf kinds
+  variable-pieces e = line-of-kind 6 r e ∙ simp append-assoc
+
+  pub no-line : hasWord (r .kind) ≡ false → lineText r ≡ []
+  unfolding lineText
+  no-line e = ap (λ (t : Bool). cond t (wordOf (r .kind) ++ (cells (fieldsOf (r .kind)) (numbers r) ++ word "\n")) []) e
+
+-- ---- How long a line is at most
+
+-- numbers of 32 bits
+abbrev pub Small : List ℕ → Type 0
+Small [] = Unit
+Small (x ∷ xs) = (x < 2 ^ 32) × Small xs
+
+unit-most : (u : table.Unit) → length (unitText u) ≤ 3
+unit-most no-unit = omega arith
+unit-most bp = omega arith
+unit-most us = omega arith
+
+-- a comma, ten digits and a unit for each field
+cells-most : (fs : List Field) (xs : List ℕ) → Small xs → length (cells fs xs) ≤ 14 * length fs
+unfolding cells
+cells-most [] xs s = omega arith
+cells-most (f ∷ fs) [] s = omega arith
+cells-most (f ∷ fs) (x ∷ xs) s =
+    omega (
+      arith,
+      length-append (decimal x) (unitText (f .unit) ++ cells fs xs),
+      length-append (unitText (f .unit)) (cells fs xs),
+      decimal-most 10 x (omega arith) (omega arith) (omega (arith, s .0)),
+      unit-most (f .unit),
+      cells-most fs xs (s .1),
+    )
+
+-- no line of the table gives more than 94 bytes and the line's end
+room : (k : ℕ) → length (wordOf k) + 14 * length (fieldsOf k) ≤ 94
+unfolding wordOf fieldsOf kinds
+room k = leb-true _ 94 (at-every-line (λ l. leb (length (word (l .word)) + 14 * length (l .fields)) 94) refl refl k)
+
+pub line-most : (r : Record) → Small (numbers r) → length (lineText r) < 96
+unfolding lineText
+line-most r s = split (hasWord (r .kind))
+  where
+    split : (t : Bool) → length (cond t (wordOf (r .kind) ++ (cells (fieldsOf (r .kind)) (numbers r) ++ word "\n")) []) < 96
+    split true =
+        let body = cells (fieldsOf (r .kind)) (numbers r) in
+        omega (
+          arith,
+          length-append (wordOf (r .kind)) (body ++ word "\n"),
+          length-append body (word "\n"),
+          cells-most (fieldsOf (r .kind)) (numbers r) s,
+          room (r .kind),
+        )
+    split false = omega arith

@@ -1,0 +1,95 @@
+-- `sheet_line::put_line` stores the line of a record, by its kind. Assumes nothing.
+use borrow.Author.Needs.{needs}
+use native.Mathlib.Omega.{arith}
+use Rattle.sheet_line.proofs.Lines.{no-word, segment-pieces, exchange-pieces, no-line}
+use Rattle.sheet_line.proofs.put_line.Statement.{statement}
+use Rattle.sheet_line.proofs.put_line.Tie as tie
+
+slice-aggregate-put-counted : tie.Need-slice-aggregate-put-counted
+slice-aggregate-put-counted c = search needs
+
+cast-put-counted : tie.Need-cast-put-counted
+cast-put-counted c = search needs
+
+slice-aggregate-put-counted-2 : tie.Need-slice-aggregate-put-counted-2
+slice-aggregate-put-counted-2 c = search needs
+
+put-counted-requires : tie.Need-put-counted-requires
+put-counted-requires c κs = search needs
+
+put-stream-requires : tie.Need-put-stream-requires
+put-stream-requires c κs = search needs
+
+put-ring-stream-requires : tie.Need-put-ring-stream-requires
+put-ring-stream-requires c κs = search needs
+
+slice-aggregate-put-counted-3 : tie.Need-slice-aggregate-put-counted-3
+slice-aggregate-put-counted-3 c = search needs
+
+cast-put-counted-2 : tie.Need-cast-put-counted-2
+cast-put-counted-2 c = search needs
+
+slice-aggregate-put-counted-4 : tie.Need-slice-aggregate-put-counted-4
+slice-aggregate-put-counted-4 c = search needs
+
+put-counted-requires-2 : tie.Need-put-counted-requires-2
+put-counted-requires-2 c κs = search needs
+
+put-variable-requires : tie.Need-put-variable-requires
+put-variable-requires c κs = search needs
+
+slice-aggregate-put-word : tie.Need-slice-aggregate-put-word
+slice-aggregate-put-word c = search needs
+
+put-word-requires : tie.Need-put-word-requires
+put-word-requires c κs = search needs
+
+same-length : tie.Need-same-length
+same-length c = search needs
+
+returns : tie.Need-returns
+returns c =
+    let m = c .before .before .before .before .before .before .before in
+    rw (segment-pieces (m .before .before .args .r) (m .match .keys1)) (c .before .before .put-counted .ensures)
+
+same-length-2 : tie.Need-same-length-2
+same-length-2 c = search needs
+
+returns-2 : tie.Need-returns-2
+returns-2 c = search needs
+
+same-length-3 : tie.Need-same-length-3
+same-length-3 c = search needs
+
+returns-3 : tie.Need-returns-3
+returns-3 c = search needs
+
+same-length-4 : tie.Need-same-length-4
+same-length-4 c = search needs
+
+returns-4 : tie.Need-returns-4
+returns-4 c =
+    let m = c .before .before .before .before .before .before .before in
+    rw (exchange-pieces (m .before .before .args .r) (m .match .keys4)) (c .before .before .put-counted2 .ensures)
+
+same-length-5 : tie.Need-same-length-5
+same-length-5 c = search needs
+
+returns-5 : tie.Need-returns-5
+returns-5 c = search needs
+
+same-length-6 : tie.Need-same-length-6
+same-length-6 c = search needs
+
+returns-6 : tie.Need-returns-6
+returns-6 c =
+    let m = c .before .before .before .before .before in
+    rw (no-line (m .before .before .args .r) (no-word _ (λ lo hi. omega (arith, m .match .rest)))) (c .before .before .put-word .ensures)
+
+pub put-line-spec : {M : Type 1} → statement M
+put-line-spec =
+    tie.close
+    (tie.spec slice-aggregate-put-counted cast-put-counted slice-aggregate-put-counted-2 put-counted-requires put-stream-requires put-ring-stream-requires
+    slice-aggregate-put-counted-3 cast-put-counted-2 slice-aggregate-put-counted-4 put-counted-requires-2 put-variable-requires slice-aggregate-put-word
+    put-word-requires same-length returns same-length-2 returns-2 same-length-3 returns-3 same-length-4 returns-4 same-length-5 returns-5 same-length-6
+    returns-6)
