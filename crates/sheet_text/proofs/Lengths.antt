@@ -1,0 +1,65 @@
+-- Page 02, 'Ask 14': how long the text of an accepted sheet is at most. Assumes nothing.
+use Prim.Native.Nat.{ℕ, suc, _*_, _^_, _≤_, _<_}
+use mathlib.Core.Path.{_≡_, refl, ap}
+use mathlib.Core.List.{List, [], _∷_}
+use mathlib.Core.Bool.{true}
+use native.Mathlib.Nat.{pow-le-pow-right, suc-mul}
+use native.Mathlib.Omega.{arith}
+use lib.Dec.{lit<}
+use lib.ListN.{length, getD, length-append}
+use Rattle.sheet_record.specs.declared.Record.{Record}
+use Rattle.sheet_record.specs.Kinds.{Field, inRange, nothing}
+use Rattle.sheet_record.specs.Widths.{widthAt}
+use Rattle.sheet_record.proofs.Tables.{width-at-most}
+use Rattle.sheet_record.proofs.Fits.{Fit, in-range-fits}
+use Rattle.sheet_record.proofs.Fits.Fit.{none, over, more}
+use Rattle.sheet_write.specs.Writing.{greatest}
+use Rattle.sheet_read.specs.Sheets.{Sheet, mostInAll}
+use Rattle.sheet_read.specs.Records.{recordsIn}
+use Rattle.sheet_read.specs.Whole.{reading}
+use Rattle.sheet_read.specs.Whole.Outcome.{Read}
+use Rattle.sheet_read.proofs.Known.{reading-read}
+use Rattle.sheet_line.specs.Lines.{lineText}
+use Rattle.sheet_line.proofs.Lines.{Small, line-most}
+use Rattle.sheet_text.specs.Texts.{textOf}
+use Rattle.sheet_text.specs.Answers.{sheetText, most-text}
+use Rattle.sheet_text.proofs.Inverse.{records-are, ranged-at}
+
+pub most-text-is : most-text ≡ 76896
+unfolding most-text mostInAll
+most-text-is = refl
+
+-- numbers that fit their bytes are of 32 bits
+fit-small : {fs : List Field} {xs : List ℕ} → Fit fs xs → ((j : ℕ) → widthAt fs j ≤ 4) → Small xs
+unfolding widthAt
+fit-small none narrow = tt
+fit-small (over e t) narrow = (omega arith, fit-small t narrow)
+fit-small (more {f} {fs} {x} h t) narrow =
+    let big : 256 ^ f .width ≤ 4294967296 = pow-le-pow-right {n = 256} (lit< tt) (narrow 0) in
+    (omega arith, fit-small t (λ j. narrow (suc j)))
+
+pub line-at-most : (r : Record) → inRange greatest r ≡ true → length (lineText r) < 96
+line-at-most r e = line-most r (fit-small (in-range-fits greatest (omega arith) (omega arith) r e) (width-at-most (r .kind)))
+
+lines-at-most : (rs : List Record) → ((i : ℕ) → i < length rs → inRange greatest (getD rs i nothing) ≡ true) → length (textOf rs) ≤ length rs * 96
+unfolding textOf
+lines-at-most [] h = omega arith
+lines-at-most (r ∷ rs) h =
+    omega (
+      arith,
+      length-append (lineText r) (textOf rs),
+      line-at-most r (h 0 (omega arith)),
+      lines-at-most rs (λ i l. h (suc i) (omega arith)),
+      suc-mul (length rs) 96,
+    )
+
+pub text-at-most : (s : List ℕ) (S : Sheet) → reading s ≡ Read S → length (sheetText S) ≤ most-text
+unfolding sheetText
+text-at-most s S e =
+    omega (
+      arith,
+      lines-at-most (recordsIn S) (ranged-at s S e),
+      ap length (records-are s S e),
+      reading-read s S e .few,
+      most-text-is,
+    )

@@ -1,0 +1,5 @@
+pub mod Texts
+pub mod Answers
+pub mod Refusals
+pub mod Steps
+pub mod Comes
