@@ -67,8 +67,8 @@ fn further(way: Way, time: BitPeriods, master: u8, bound: BitPeriods) -> Way
     next
 }
 
-// One segment more, whose sheet is refused: it is the last.
-fn stopped(way: Way, no: u8, place: usize) -> Way
+// One segment more, whose sheet is refused: it is the last. Public for a sheet that comes as a text and is refused as that.
+pub fn stopped(way: Way, no: u8, place: usize) -> Way
     ensures { λ r. ⌜ r ≡ Ways.stopped way no place ⌝ }
 {
     let n = way.segments;

@@ -48,14 +48,18 @@ two-most m first a second b s t =
 
 place-most : (n p : ℕ) → length (placeText n p) ≤ 34
 unfolding placeText
-place-most n p = split (leb n 7) (leb n 9) (eqb n 12)
+place-most n p = split (leb n 7) (leb n 9) (eqb n 12) (eqb n 23)
   where
-    split : (a b c : Bool)
-        → length (cond a (word " at byte " ++ decimal p) (cond b (word " at stream " ++ decimal p) (cond c (word " at variable " ++ decimal p) []))) ≤ 34
-    split true b c = omega (arith, decimal-any p)
-    split false true c = omega (arith, decimal-any p)
-    split false false true = omega (arith, decimal-any p)
-    split false false false = omega arith
+    split : (a b c d : Bool)
+        → length
+        (cond a (word " at byte " ++ decimal p)
+        (cond b (word " at stream " ++ decimal p) (cond c (word " at variable " ++ decimal p) (cond d (word " at line " ++ decimal p) []))))
+        ≤ 34
+    split true b c d = omega (arith, decimal-any p)
+    split false true c d = omega (arith, decimal-any p)
+    split false false true d = omega (arith, decimal-any p)
+    split false false false true = omega (arith, decimal-any p)
+    split false false false false = omega arith
 
 pub refused-most : (n p : ℕ) → length (refusedText n p) ≤ 63
 unfolding refusedText

@@ -71,6 +71,9 @@ fn put_place(out: &mut [u8], at: usize, number: u8, place: u64, after: &[u8]) ->
     if number == 12 {
         return put_counted(out, at, b" at variable ", place, after);
     }
+    if number == 23 {
+        return put_counted(out, at, b" at line ", place, after);
+    }
     put_word(out, at, after)
 }
 

@@ -81,14 +81,24 @@ module _ (s : List ℕ) (n p : ℕ) (e : reading s ≡ Not n p) where
 
 -- ---- A bounded buffer serves
 
--- what is said of a refused sheet by reading's refusal alone, the first bytes settle
+-- what is said of a refused sheet by reading's refusal alone, is said alike of bytes that are read as the sheet is and are the sheet where it is accepted: its
+-- first bytes, and what is kept of one that was given as text (sheet_text: Comes)
 module _ {A : Type 0} (f : List ℕ → A) (g : ℕ → ℕ → A) (refused : (s : List ℕ) (n p : ℕ) → reading s ≡ Not n p → f s ≡ g n p) where
-  settled : (s : List ℕ) → f s ≡ f (take enough s)
-  settled s = by (reading s) refl
+  alike : (k s : List ℕ) → reading k ≡ reading s → ((S : Sheet) → reading s ≡ Read S → k ≡ s) → f k ≡ f s
+  alike k s same whole = by (reading s) refl
     where
-      by : (o : Outcome) → reading s ≡ o → f s ≡ f (take enough s)
-      by (Not n p) e = refused s n p e ∙ sym (refused (take enough s) n p (sym (reading-prefix s) ∙ e))
-      by (Read S) e = ap f (sym (take-all enough s (omega (arith, length-at-most s S e, longest-sheet-is, enough-is))))
+      by : (o : Outcome) → reading s ≡ o → f k ≡ f s
+      by (Not n p) e = refused k n p (same ∙ e) ∙ sym (refused s n p e)
+      by (Read S) e = ap f (whole S e)
+
+  settled : (s : List ℕ) → f s ≡ f (take enough s)
+  settled s = sym (alike (take enough s) s (sym (reading-prefix s)) (λ S e. take-all enough s (omega (arith, length-at-most s S e, longest-sheet-is, enough-is))))
+
+pub report-alike : (k s : List ℕ) → reading k ≡ reading s → ((S : Sheet) → reading s ≡ Read S → k ≡ s) → reportOf k ≡ reportOf s
+report-alike = alike reportOf refusalText refused-alike
+
+pub accepts-alike : (k s : List ℕ) → reading k ≡ reading s → ((S : Sheet) → reading s ≡ Read S → k ≡ s) → accepts k ≡ accepts s
+accepts-alike = alike accepts (λ n p. false) refused-by-each
 
 pub report-prefix : (s : List ℕ) → reportOf s ≡ reportOf (take enough s)
 report-prefix = settled reportOf refusalText refused-alike

@@ -24,9 +24,13 @@ module _ (n p : ℕ) (after : List ℕ) where
   unfolding placeText counted
   variable a b e = simp (lt-leb n 7 a, lt-leb n 9 b, eq-eqb n 12 e)
 
-  nothing : 7 < n → 9 < n → (n ≡ 12 → ⊥) → placeText n p ++ after ≡ after
+  line : 7 < n → 9 < n → (n ≡ 12 → ⊥) → n ≡ 23 → placeText n p ++ after ≡ counted (word " at line ") p after
+  unfolding placeText counted
+  line a b d e = simp (lt-leb n 7 a, lt-leb n 9 b, ne-eqb n 12 d, eq-eqb n 23 e)
+
+  nothing : 7 < n → 9 < n → (n ≡ 12 → ⊥) → (n ≡ 23 → ⊥) → placeText n p ++ after ≡ after
   unfolding placeText
-  nothing a b e = simp (lt-leb n 7 a, lt-leb n 9 b, ne-eqb n 12 e)
+  nothing a b d e = simp (lt-leb n 7 a, lt-leb n 9 b, ne-eqb n 12 d, ne-eqb n 23 e)
 
 -- ---- The needs
 
@@ -68,19 +72,36 @@ returns-3 c =
     let t = c .before .before .before .before .before in
     rw (variable _ _ _ (t .before .before .if1 .left) (t .before .if2 .left) (t .if3 .taken)) (c .before .before .put-counted3 .ensures)
 
-put-word-requires : tie.Need-put-word-requires
-put-word-requires c κs = search needs
+slice-aggregate-put-counted-4 : tie.Need-slice-aggregate-put-counted-4
+slice-aggregate-put-counted-4 c = search needs
+
+put-counted-requires-4 : tie.Need-put-counted-requires-4
+put-counted-requires-4 c κs = search needs
 
 same-length-4 : tie.Need-same-length-4
 same-length-4 c = search needs
 
 returns-4 : tie.Need-returns-4
 returns-4 c =
+    let t = c .before .before .before .before .before in
+    rw (line _ _ _ (t .before .before .before .if1 .left) (t .before .before .if2 .left) (t .before .if3 .left) (t .if4 .taken))
+    (c .before .before .put-counted4 .ensures)
+
+put-word-requires : tie.Need-put-word-requires
+put-word-requires c κs = search needs
+
+same-length-5 : tie.Need-same-length-5
+same-length-5 c = search needs
+
+returns-5 : tie.Need-returns-5
+returns-5 c =
     let t = c .before .before .before .before in
-    rw (nothing _ _ _ (t .before .before .if1 .left) (t .before .if2 .left) (t .if3 .left)) (c .before .before .put-word .ensures)
+    rw (nothing _ _ _ (t .before .before .before .if1 .left) (t .before .before .if2 .left) (t .before .if3 .left) (t .if4 .left))
+    (c .before .before .put-word .ensures)
 
 pub put-place-spec : {M : Type 1} → statement M
 put-place-spec =
     tie.close
     (tie.spec slice-aggregate-put-counted put-counted-requires same-length returns slice-aggregate-put-counted-2 put-counted-requires-2 same-length-2 returns-2
-    slice-aggregate-put-counted-3 put-counted-requires-3 same-length-3 returns-3 put-word-requires same-length-4 returns-4)
+    slice-aggregate-put-counted-3 put-counted-requires-3 same-length-3 returns-3 slice-aggregate-put-counted-4 put-counted-requires-4 same-length-4 returns-4
+    put-word-requires same-length-5 returns-5)
