@@ -1,6 +1,6 @@
 // A path over several P-NET segments, from the words behind `--path`, in fours: a number and its unit, a sheet, and the master that sends
 // there. The first number is the deadline, each other one the forwarding time of the gateway that leads to the segment.
-use crate::input::Input;
+use crate::input::Given;
 use crate::input::open;
 use crate::output;
 use crate::output::ACCEPTED;
@@ -17,6 +17,8 @@ use text_entry::Entered;
 use units::BitPeriods;
 ghost use Prim.Native.Nat.{_≤_};
 ghost use lib.ListN.{length};
+ghost use mathlib.Core.Path.{_≡_};
+ghost use Rattle.sheet_text.specs.Steps.{room};
 
 // ---- Words
 
@@ -133,21 +135,27 @@ fn standard_inputs(segments: usize) -> usize
 // ---- The path
 
 // Reads the sheet that word i names, or says why it cannot.
-fn read_sheet(i: usize, sheet: &mut [u8]) -> Input
+fn read_sheet(i: usize, sheet: &mut [u8]) -> Given
+    requires { ⌜ room ≡ length (now sheet) ⌝ }
     ensures { λ r. ⌜ r .length ≤ length (now (sheet .entry)) ⌝ }
 {
     let mut name = io::buffer();
     let n = os::arg(i, &mut name);
     let fd = open(&name[..n]);
     if fd < 0 {
-        return Input {
-            length: 0,
-            failed: true,
-        };
+        return crate::input::failed();
     }
-    let input = crate::input::read_sheet(fd, &name[..n], sheet);
+    let given = crate::input::read_sheet(fd, &name[..n], sheet, false);
     libc::close(fd);
-    input
+    given
+}
+
+// Goes over one segment more, or ends there where the sheet is a text with a line that is not of the form.
+fn go_on(way: Way, time: BitPeriods, sheet: &[u8], line: usize, master: u8) -> Way {
+    if line > 0 {
+        return pnet_path::stopped(way, 23, line);
+    }
+    pnet_path::over(way, time, sheet, master)
 }
 
 fn write_report(way: Way, deadline: BitPeriods) -> u8 {
@@ -167,14 +175,14 @@ fn cross(segments: usize, deadline: BitPeriods) -> u8
     let mut j: usize = 0;
     while j < segments {
         let i = 4 * j + 2;
-        let mut sheet = report_sheet::sheet_buffer();
-        let input = read_sheet(i + 2, &mut sheet);
-        if input.failed {
+        let mut sheet = sheet_text::sheet_buffer();
+        let given = read_sheet(i + 2, &mut sheet);
+        if given.failed {
             return FAILED;
         }
-        let n = input.length;
+        let n = given.length;
         let time = BitPeriods(number_of(number_at(i)));
-        way = pnet_path::over(way, time, &sheet[..n], sender(i + 3));
+        way = go_on(way, time, &sheet[..n], given.line, sender(i + 3));
         if way.refused {
             return write_report(way, deadline);
         }

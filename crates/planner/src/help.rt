@@ -5,7 +5,7 @@ use crate::output::complain;
 use crate::output::put;
 
 // The version of the project.
-const VERSION: [u8; 14] = *b"planner 1.5.2
+const VERSION: [u8; 14] = *b"planner 1.6.0
 ";
 
 // How the program is called, but for its commands.
@@ -21,8 +21,10 @@ planner COMMAND ..       with a command, a word of the list below
 ";
 
 // The commands, a line for each: its word, what follows, what it does. A command's number is its line's, from 1 (`main` knows it by that).
-pub(crate) const COMMANDS: [u8; 354] =
+pub(crate) const COMMANDS: [u8; 506] =
     *b"--path DEADLINE bp SHEET MASTER TIME bp SHEET MASTER ..  the report of a path
+--export [SHEET]                                         the sheet as text
+--import [TEXT]                                          the sheet of a text
 --help                                                   this text
 -h                                                       the same
 --version                                                the version
@@ -80,6 +82,37 @@ The first record is 1, 3 or 5; all later ones are 2, 4 or 6 to match. P-NET and
 PROFIBUS: at most 800 streams, at most 80 for one master. WorldFIP: at most 64
 variables, no identifier twice. us are microseconds and ns nanoseconds. bp are
 bit periods: of P-NET, 48 in 625 us or 6 in 78125 ns; of that ring for PROFIBUS.
+",
+    )
+}
+
+fn texts() -> bool {
+    put(
+        b"
+A sheet may be given as a text too, wherever SHEET stands. A text begins with
+one of these words and a comma, and has one record a line:
+
+   pnet-segment,MASTERS
+   pnet-stream,MASTER,CYCLE bp,SPACING bp,DEADLINE bp
+   profibus-stream,MASTER,CYCLE bp,DEADLINE bp
+   worldfip-exchange,EXCHANGE us
+   worldfip-variable,IDENTIFIER,PERIOD us
+
+Numbers are decimal digits with no zero in front; behind each time stands one
+blank and its unit; each line ends with LF, the last one too. --export writes
+just that, and --import takes nothing else. A ring of kind 3 has no text. A
+sheet of three records:
+
+   pnet-segment,2
+   pnet-stream,1,203 bp,1000 bp,1000 bp
+   pnet-stream,2,203 bp,2000 bp,2000 bp
+
+What spreadsheets change when they save a text (CR, quotation marks, a byte
+order mark, semicolons, commas behind the last cell, empty rows) this mends:
+
+   tr -d '\\r\"' <FILE | sed '1s/^\\xef\\xbb\\xbf//; s/;/,/g; s/,*$//; /^$/d'
+
+Copy cells there, do not drag them: dragging counts up, 203 bp becomes 204 bp.
 ",
     )
 }
@@ -142,12 +175,20 @@ A sheet that cannot be planned is refused with a number and a place:
   14  a stream that is not on the sheet      15  an answer with no request open
   16  a request while one is open            17  a path of not 1 to 10 gateways
   18  a MASTER absent or without streams     19  a path's total above DEADLINE
+  23  a line that is not of a text's form
 
 In a capture 1 is a record that is cut, 2 a kind that is neither 16 nor 17, and
 the place is a byte of the capture. In a path 4 is a TIME or the DEADLINE out of
-range; where a sheet is refused for itself, the line says of which segment.
+range; where a sheet is refused for itself, the line says of which segment. Of a
+text the place of 23 is a line, from 1, and every other place is of its sheet.
+What is wrong with a text is said on standard error too.
 ",
     )
+}
+
+// What a sheet is.
+fn sheets() -> bool {
+    kinds() & rules() & texts()
 }
 
 // What the reports show.
@@ -157,5 +198,5 @@ fn reports() -> bool {
 
 // All of it; whether it was written whole.
 pub(crate) fn help() -> bool {
-    put(&USAGE) & put(&COMMANDS) & statuses() & kinds() & rules() & reports() & refusals()
+    put(&USAGE) & put(&COMMANDS) & statuses() & sheets() & reports() & refusals()
 }

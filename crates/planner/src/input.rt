@@ -1,7 +1,21 @@
-// Opening a file, and reading until a buffer is full.
+// Opening a file, reading until a buffer is full, and a sheet, which may be given as bytes or as a text.
+use crate::output::complain;
+use crate::output::end_of;
+use crate::slips;
 use crate::words::fail;
-ghost use Prim.Native.Nat.{_≤_};
-ghost use lib.ListN.{length};
+use sheet_text::Ended;
+use sheet_text::Taken;
+use text::put_word;
+ghost use mathlib.Core.Path.{_≡_};
+ghost use mathlib.Core.List.{List};
+ghost use mathlib.Core.Bool.{true};
+ghost use Prim.Native.Nat.{ℕ, _≤_};
+ghost use lib.ListN.{length, take};
+ghost use Rattle.sheet_text.specs.Steps.{State, room};
+ghost use Rattle.planner.specs.Made.{Took, Made, GivenAs};
+
+// So many pieces of a text are counted: 64 bits count no more bytes than are in them.
+const PIECES: usize = 281_474_976_710_656;
 
 // What was read: how many bytes, and whether a read failed.
 pub(crate) struct Input {
@@ -56,13 +70,125 @@ pub(crate) fn open(name: &[u8]) -> i32 {
     fd
 }
 
-// Reads the start of a sheet, as much as decides its report, or says why it cannot.
-pub(crate) fn read_sheet(fd: i32, name: &[u8], sheet: &mut [u8]) -> Input
+// ---- A sheet
+
+// What was given as a sheet: how many bytes of it are kept; the number of a line that is not of a text's form, 0 if there is none; and whether a
+// read failed. What went wrong is then said.
+pub(crate) struct Given {
+    pub(crate) length: usize,
+    pub(crate) line: usize,
+    pub(crate) failed: bool,
+}
+
+// Nothing, as a read failed.
+pub(crate) fn failed() -> Given
+    ensures { λ r. ⌜ (r .length ≡ 0) × (r .failed ≡ true) ⌝ }
+{
+    Given {
+        length: 0,
+        line: 0,
+        failed: true,
+    }
+}
+
+// What a text came to that was taken to its end, or to a line that is not of the form.
+fn told(name: &[u8], taken: Taken, front: &[u8], sheet: &[u8]) -> Given
     ensures { λ r. ⌜ r .length ≤ length (now (sheet .entry)) ⌝ }
+    ensures { λ r. ⌜ ((first : List ℕ) → Took first (record { taken = taken; front = now (front .entry); sheet = now (sheet .entry) }) → Made first (now (sheet .entry)) r) ⌝ }
+{
+    match sheet_text::end(taken) {
+        Ended::Bad(line) => {
+            let held = end_of(front.len(), taken.held);
+            slips::of_line(name, line, &front[..held]);
+            Given {
+                length: 0,
+                line,
+                failed: false,
+            }
+        }
+        Ended::Sheet(kept) => {
+            let length = end_of(sheet.len(), kept);
+            slips::of_sheet(name, &sheet[..length]);
+            Given {
+                length,
+                line: 0,
+                failed: false,
+            }
+        }
+    }
+}
+
+// Takes a text to its end, or to a line that is not of the form, behind the first piece.
+fn read_on(
+    fd: i32,
+    name: &[u8],
+    begun: Taken,
+    piece: &mut [u8],
+    front: &mut [u8],
+    sheet: &mut [u8],
+) -> Given
+    ensures { λ r. ⌜ r .length ≤ length (now (sheet .entry)) ⌝ }
+    ensures { λ r. ⌜ ((first : List ℕ) → Took first (record { taken = begun; front = now (front .entry); sheet = now (sheet .entry) }) → Made first (now (sheet .exit)) r) ⌝ }
+{
+    let mut taken = begun;
+    let mut left = PIECES;
+    while left > 0 {
+        if taken.bad {
+            return told(name, taken, front, sheet);
+        }
+        let next = read_all(fd, piece);
+        if next.failed {
+            fail(name);
+            return failed();
+        }
+        let end = next.length;
+        taken = sheet_text::take(&piece[..end], taken, front, sheet);
+        if end < piece.len() {
+            return told(name, taken, front, sheet);
+        }
+        left -= 1;
+    }
+    complain(b"planner: the text is too long to be counted\n");
+    failed()
+}
+
+// Reads a text, of which the first piece was read into the sheet's run, where it makes room for what the text stands for.
+fn read_text(fd: i32, name: &[u8], sheet: &mut [u8], n: usize) -> Given
+    requires { ⌜ (room ≡ length (now sheet)) × (n ≤ length (now sheet)) ⌝ }
+    ensures { λ r. ⌜ r .length ≤ length (now (sheet .entry)) ⌝ }
+    ensures { λ r. ⌜ Made (take n (now (sheet .entry))) (now (sheet .exit)) r ⌝ }
+{
+    let mut piece = io::large_buffer();
+    let end = put_word(&mut piece, 0, &sheet[..n]);
+    let mut front = sheet_text::line_buffer();
+    let taken = sheet_text::take(&piece[..end], sheet_text::start(), &mut front, sheet);
+    if n < sheet.len() {
+        return told(name, taken, &front, sheet);
+    }
+    read_on(fd, name, taken, &mut piece, &mut front, sheet)
+}
+
+// Reads a sheet, as much as decides its report, or says why it cannot. What begins with one of the words of texts and a comma is a text, and so is all
+// that is asked for as one.
+pub(crate) fn read_sheet(fd: i32, name: &[u8], sheet: &mut [u8], as_text: bool) -> Given
+    requires { ⌜ room ≡ length (now sheet) ⌝ }
+    ensures { λ r. ⌜ r .length ≤ length (now (sheet .entry)) ⌝ }
+    ensures { λ r. ⌜ GivenAs as_text (now (sheet .exit)) r ⌝ }
 {
     let input = read_all(fd, sheet);
     if input.failed {
         fail(name);
+        return failed();
     }
-    input
+    let length = input.length;
+    let kind = sheet_line::kind_in(&sheet[..length]);
+    if as_text | (kind != 0) {
+        return read_text(fd, name, sheet, length);
+    }
+    slips::of_bytes(name, &sheet[..length]);
+    Given {
+        length,
+        line: 0,
+        failed: false,
+    }
 }

@@ -3,9 +3,11 @@
 // says last, on descriptor 3.
 mod along;
 mod beside;
+mod exchange;
 mod help;
 mod input;
 mod output;
+mod slips;
 mod words;
 
 use input::open;
@@ -31,33 +33,48 @@ fn write_report(s: &[u8]) -> u8 {
 
 // Plans what can be read; bytes behind a full buffer change no report.
 fn plan(fd: i32, name: &[u8]) -> u8 {
-    let mut sheet = report_sheet::sheet_buffer();
-    let input = read_sheet(fd, name, &mut sheet);
-    if input.failed {
+    let mut sheet = sheet_text::sheet_buffer();
+    let given = read_sheet(fd, name, &mut sheet, false);
+    if given.failed {
         return FAILED;
     }
-    let n = input.length;
+    if given.line > 0 {
+        return output::bad_line(given.line);
+    }
+    let n = given.length;
     write_report(&sheet[..n])
 }
 
-fn plan_file(name: &[u8]) -> u8 {
+// Does with a sheet what the command of this number is for; no command plans it.
+fn serve(number: usize, fd: i32, name: &[u8]) -> u8 {
+    match number {
+        2 => exchange::exchange(fd, name, false),
+        3 => exchange::exchange(fd, name, true),
+        _ => plan(fd, name),
+    }
+}
+
+fn serve_file(number: usize, name: &[u8]) -> u8 {
     let fd = open(name);
     if fd < 0 {
         return FAILED;
     }
-    let status = plan(fd, name);
+    let status = serve(number, fd, name);
     libc::close(fd);
     status
 }
 
 // Reads the sheet; then the capture is heard.
 fn compare(sheet_fd: i32, sheet_name: &[u8], fd: i32, name: &[u8]) -> u8 {
-    let mut sheet = report_sheet::sheet_buffer();
-    let input = read_sheet(sheet_fd, sheet_name, &mut sheet);
-    if input.failed {
+    let mut sheet = sheet_text::sheet_buffer();
+    let given = read_sheet(sheet_fd, sheet_name, &mut sheet, false);
+    if given.failed {
         return FAILED;
     }
-    let n = input.length;
+    if given.line > 0 {
+        return output::bad_line(given.line);
+    }
+    let n = given.length;
     beside::compare(&sheet[..n], fd, name)
 }
 
@@ -79,22 +96,22 @@ fn compare_files(sheet_name: &[u8], name: &[u8]) -> u8 {
 // ---- Words
 
 // No name: the sheet on standard input, unless someone sits there.
-fn by_none() -> u8 {
+fn by_none(number: usize) -> u8 {
     if libc::isatty(STDIN_FILENO) != 0 {
         help::usage();
         complain(b"\nplanner: no sheet: name a file, or - for standard input\n");
         return FAILED;
     }
-    plan(STDIN_FILENO, b"-")
+    serve(number, STDIN_FILENO, b"-")
 }
 
-fn by_one(i: usize) -> u8 {
+fn by_one(number: usize, i: usize) -> u8 {
     let mut name = io::buffer();
     let n = os::arg(i, &mut name);
     if os::errno() != 0 {
         return words::too_long(i);
     }
-    plan_file(&name[..n])
+    serve_file(number, &name[..n])
 }
 
 fn by_two(sheet: usize, capture: usize) -> u8 {
@@ -114,7 +131,7 @@ fn by_two(sheet: usize, capture: usize) -> u8 {
 // One name or two, from word i on: a sheet, or a sheet and a capture.
 fn by_names(i: usize, count: usize) -> u8 {
     if count <= i {
-        return by_none();
+        return by_none(0);
     }
     let last = count - 1;
     if last - i > 1 {
@@ -127,7 +144,7 @@ fn by_names(i: usize, count: usize) -> u8 {
         return FAILED;
     }
     if i == last {
-        by_one(i)
+        by_one(0, i)
     } else {
         by_two(i, last)
     }
@@ -145,14 +162,35 @@ fn by_plain_names(count: usize) -> u8 {
     by_names(1, count)
 }
 
+// The name behind a command that takes one at most.
+fn by_command(number: usize, count: usize) -> u8 {
+    if count <= 2 {
+        return by_none(number);
+    }
+    if count > 3 {
+        complain(
+            b"planner: too many words: --export and --import take one name; planner --help says more\n",
+        );
+        return FAILED;
+    }
+    if words::is_option(2) {
+        return words::unknown(2);
+    }
+    if !words::serves(words::from_standard_input(2)) {
+        return FAILED;
+    }
+    by_one(number, 2)
+}
+
 // What the first word asks for, by its number in the list of commands.
 fn by_words(count: usize) -> u8 {
     let number = words::command(1);
     match number {
         1 => along::plan(count),
-        2 | 3 => unless_cut(help::help(), ACCEPTED),
-        4 => unless_cut(help::version(), ACCEPTED),
-        5 => by_names(2, count),
+        2 | 3 => by_command(number, count),
+        4 | 5 => unless_cut(help::help(), ACCEPTED),
+        6 => unless_cut(help::version(), ACCEPTED),
+        7 => by_names(2, count),
         _ => by_plain_names(count),
     }
 }

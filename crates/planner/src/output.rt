@@ -43,6 +43,13 @@ pub(crate) fn put(text: &[u8]) -> bool {
     io::write_all(STDOUT_FILENO, text)
 }
 
+// Writes a refusal's line.
+pub(crate) fn put_refusal(fd: i32, no: u8, place: usize) -> bool {
+    let mut text = [0u8; 64];
+    let n = report_phrases::put_refusal(&mut text, 0, no, place as u64);
+    put_first(fd, &text, n)
+}
+
 // How a call ends whose report went out whole, or did not.
 pub(crate) fn unless_cut(whole: bool, status: u8) -> u8 {
     if whole {
@@ -56,4 +63,9 @@ pub(crate) fn unless_cut(whole: bool, status: u8) -> u8 {
 // Writes a finished report, the first n bytes of a text, and answers how the call ends.
 pub(crate) fn report(text: &[u8], n: usize, status: u8) -> u8 {
     unless_cut(put_first(STDOUT_FILENO, text, n), status)
+}
+
+// Reports a text that is refused: this line of it is not of the form.
+pub(crate) fn bad_line(line: usize) -> u8 {
+    unless_cut(put_refusal(STDOUT_FILENO, 23, line), REFUSED)
 }

@@ -21,26 +21,26 @@ fn digit(n: u8) -> u8
     if n < 10 { 48 + n } else { 87 + n }
 }
 
-// Whether a terminal may take the byte for something else than a sign to show.
-fn is_strange(byte: u8) -> bool {
-    (byte < 32) | ((byte == 127) | (byte == b'\\'))
+// Whether a terminal may take the byte for something else than a sign to show; those above some number may be signs of a name, and are none of a text.
+fn is_strange(byte: u8, greatest: u8) -> bool {
+    (byte < 32) | (byte == 127) | (byte == b'\\') | (byte > greatest)
 }
 
-fn put_shown(out: &mut [u8], at: usize, byte: u8) -> usize {
-    if is_strange(byte) {
+fn put_shown(out: &mut [u8], at: usize, byte: u8, greatest: u8) -> usize {
+    if is_strange(byte, greatest) {
         return put_word(out, at, &[b'\\', b'x', digit(byte / 16), digit(byte % 16)]);
     }
     put_word(out, at, &[byte])
 }
 
-// The first n bytes of a text on standard error, control bytes by their numbers.
-fn show(text: &[u8], n: usize) {
+// The bytes of a text from a place on to an end, as far as there are, on standard error, strange ones by their numbers.
+pub(crate) fn show(text: &[u8], from: usize, n: usize, greatest: u8) {
     let mut out = [0u8; SHOWN];
     let end = end_of(text.len(), n);
     let mut at: usize = 0;
-    let mut i: usize = 0;
+    let mut i = from;
     while i < end {
-        at = put_shown(&mut out, at, text[i]);
+        at = put_shown(&mut out, at, text[i], greatest);
         i += 1;
     }
     put_first(STDERR_FILENO, &out, at);
@@ -53,8 +53,19 @@ pub(crate) fn fail(name: &[u8]) {
         os::fail(b"standard input");
         return;
     }
-    show(name, name.len());
+    show(name, 0, name.len(), 255);
     os::fail(b"");
+}
+
+// Begins a line that says something of an input.
+pub(crate) fn blame(name: &[u8]) {
+    complain(b"planner: ");
+    if check::same(name, b"-") {
+        complain(b"standard input: ");
+        return;
+    }
+    show(name, 0, name.len(), 255);
+    complain(b": ");
 }
 
 // Word i on standard error; of one that is longer than a file's name can be, the first 60 bytes.
@@ -62,11 +73,11 @@ pub(crate) fn show_word(i: usize) {
     let mut word = io::buffer();
     let n = os::arg(i, &mut word);
     if os::errno() == libc::ENAMETOOLONG {
-        show(&word, 60);
+        show(&word, 0, 60, 255);
         complain(b"..");
         return;
     }
-    show(&word, n);
+    show(&word, 0, n, 255);
 }
 
 // ---- What a word is
@@ -140,7 +151,7 @@ pub(crate) fn unknown(i: usize) -> u8 {
 // ---- Commands
 
 // The place behind the next end of a line.
-fn next_line(list: &[u8], from: usize) -> usize
+pub(crate) fn next_line(list: &[u8], from: usize) -> usize
     requires { ⌜ from < length (now list) ⌝ }
     ensures { λ r. ⌜ (from < r) × (r ≤ length (now (list .entry))) ⌝ }
 {

@@ -18,19 +18,25 @@ read-sheet-requires c κs = search needs
 returns : tie.Need-returns
 returns c = search needs
 
+bad-line-requires : tie.Need-bad-line-requires
+bad-line-requires c κs = search needs
+
+returns-2 : tie.Need-returns-2
+returns-2 c = search needs
+
 array-share-prefix-sheet : tie.Need-array-share-prefix-sheet
 array-share-prefix-sheet c = search needs
 
 slice-aggregate-write-report : tie.Need-slice-aggregate-write-report
 slice-aggregate-write-report c =
-    let read = c .before .before .before .read-sheet in
-    sym (length-take-le _ _ (omega (arith, read .ensures, read .kept .1 .1 .0)))
+    let read = c .before .before .before .before .before .read-sheet in
+    sym (length-take-le _ _ (omega (arith, read .ensures .0, read .kept .1 .1 .0)))
 
 write-report-requires : tie.Need-write-report-requires
 write-report-requires c κs = search needs
 
-returns-2 : tie.Need-returns-2
-returns-2 c = search needs
+returns-3 : tie.Need-returns-3
+returns-3 c = search needs
 
 pub plan-spec : {M : Type 1} → statement M
 plan-spec =
@@ -40,7 +46,9 @@ plan-spec =
     slice-aggregate-read-sheet
     read-sheet-requires
     returns
+    bad-line-requires
+    returns-2
     array-share-prefix-sheet
     slice-aggregate-write-report
     write-report-requires
-    returns-2)
+    returns-3)

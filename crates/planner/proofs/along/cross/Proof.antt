@@ -49,8 +49,8 @@ number-of-requires c κs = search needs
 array-share-prefix-sheet : tie.Need-array-share-prefix-sheet Inv-loop μ-loop
 array-share-prefix-sheet c = search needs
 
-slice-aggregate-over : tie.Need-slice-aggregate-over Inv-loop μ-loop
-slice-aggregate-over c =
+slice-aggregate-go-on : tie.Need-slice-aggregate-go-on Inv-loop μ-loop
+slice-aggregate-go-on c =
     let read = c .before .before .before .before .before .read-sheet in
     sym (length-take-le _ _ (omega (arith, read .ensures, read .kept .1 .0)))
 
@@ -60,8 +60,8 @@ add-sender c = search needs
 sender-requires : tie.Need-sender-requires Inv-loop μ-loop
 sender-requires c κs = search needs
 
-over-requires : tie.Need-over-requires Inv-loop μ-loop
-over-requires c κs = search needs
+go-on-requires : tie.Need-go-on-requires Inv-loop μ-loop
+go-on-requires c κs = search needs
 
 write-report-requires : tie.Need-write-report-requires Inv-loop μ-loop
 write-report-requires c κs = search needs
@@ -102,10 +102,10 @@ cross-spec =
     number-at-requires
     number-of-requires
     array-share-prefix-sheet
-    slice-aggregate-over
+    slice-aggregate-go-on
     add-sender
     sender-requires
-    over-requires
+    go-on-requires
     write-report-requires
     returns-2
     add-j

@@ -8,13 +8,13 @@ use Rattle.planner.proofs.words.show.Statement.{statement}
 use Rattle.planner.proofs.words.show.Tie as tie
 
 abbrev Inv-loop : tie.InvT-loop
-Inv-loop text n out₀ end at₀ i₀ out at i = (i ≤ end) × (end ≤ length text) × (length out ≡ 16384)
+Inv-loop text from n greatest out₀ end at₀ i₀ out at i = (end ≤ length text) × (length out ≡ 16384)
 
 abbrev μ-loop : tie.MeasureT-loop
-μ-loop text n out₀ end at₀ i₀ out at i = end - i
+μ-loop text from n greatest out₀ end at₀ i₀ out at i = end - i
 
 loop-holds : tie.Need-loop-holds Inv-loop μ-loop
-loop-holds c = (omega arith, omega (arith, c .end-of .ensures), length-replicate {0} {A = ℕ} 16384 0)
+loop-holds c = (omega (arith, c .end-of .ensures), length-replicate {0} {A = ℕ} 16384 0)
 
 end-of-requires : tie.Need-end-of-requires Inv-loop μ-loop
 end-of-requires c κs = search needs
