@@ -1,6 +1,6 @@
-"""Write the sample sheets, captures and paths and their listings, or say whether they are current.
+"""Write the sample sheets, their texts, captures and paths and their listings, or say whether they are current.
 
-    make.py            writes every NAME.sheet, NAME.capture and NAME.txt beside this file
+    make.py            writes every NAME.sheet, NAME.csv, NAME.capture and NAME.txt beside this file
     make.py --check    changes nothing; exit status 1 if a file is not current
 
 The expected reports stand here as text, so that a change of the second
@@ -16,7 +16,8 @@ sys.dont_write_bytecode = True
 
 import second_opinion  # noqa: E402
 
-WORDS = {
+# how the listing of a sheet that has no text calls a record
+NAMES = {
     1: "P-NET segment",
     2: "P-NET stream",
     3: "PROFIBUS ring",
@@ -41,6 +42,18 @@ FIELDS = {
 
 FOUR_MASTERS = [(1, 4)] + [(2, y, 203, 100_000, 2_000) for y in (1, 1, 2, 2, 3, 3, 4, 4)]
 LATE_THIRD = (2, 2, 203, 100_000, 1_999)
+
+# Source 004's plant: 5 ms are 384 bp, so its spacings are whole numbers of bp
+MS_100, MS_200, MS_300, MS_500 = 7_680, 15_360, 23_040, 38_400
+
+
+def plant_streams(master, *spacings):
+    """A stream for each spacing; the source gives no deadlines, so D is T."""
+    return [(2, master, 200, spacing, spacing) for spacing in spacings]
+
+
+# Source 004's traffic of Table 3.3, A to F as 1 to 6
+SIX_VARIABLES = [(6, 1, 1_000), (6, 2, 2_000), (6, 3, 3_000), (6, 4, 4_000), (6, 5, 4_000), (6, 6, 6_000)]
 
 # name, what it shows, records, bytes cut off at the end, expected report
 SAMPLES = [
@@ -153,8 +166,8 @@ SAMPLES = [
         "row 5:\n",
     ),
     (
-        "worldfip-e210",
-        "Refused with 12 (the sheet of source 004). Four exchanges fill each row, and\n"
+        "worldfip-five-e210",
+        "Refused with 12 (source 004, Table 6.3). Four exchanges fill each row, and\n"
         "the fifth variable still waits when its period ends.",
         [(5, 210)] + [(6, i, 1_000) for i in (17, 18, 19, 20)] + [(6, 21, 3_000)],
         0,
@@ -166,6 +179,198 @@ SAMPLES = [
         [(1, 2), (2, 1, 203, 100_000, 100_000), (2, 2, 203, 100_000, 100_000)],
         7,
         "refused 1 at byte 14\n",
+    ),
+]
+
+# Real cells, from source 004, to start from one that looks like yours; where its figure is another than ours, the listing says why. Fields as above.
+CELLS = [
+    (
+        "plant-one-segment",
+        "Accepted. A plant of eight masters and 28 streams on one segment (source 004,\n"
+        "Tables 4.3 and 4.10). Every cycle is 200 bp at most, so V is 8 * 247 = 1,976 bp.\n"
+        "\n"
+        "The source gives T in ms and no D, so D is T here. 48 bp last 625 us: 100, 200, 300\n"
+        "and 500 ms are 7,680, 15,360, 23,040 and 38,400 bp, and nothing is rounded, as for\n"
+        "every multiple of 5 ms. Any other T or D is to be rounded down and C up: then\n"
+        "requests come oftener, have less time and take longer than in truth, and what is\n"
+        "accepted so is safe.\n"
+        "\n"
+        "The source's Table 4.4 has V rounded to 25.7 ms first and multiplied then, so each of\n"
+        "its figures is below the bound; here the bound is exact in bp and rounded up in ns:\n"
+        "\n"
+        "M01   5928 bp   77187500 ns    77.1 ms in the source\n"
+        "M02   7904 bp  102916667 ns   102.1 ms, a slip: 4 * 25.7 ms is 102.8 ms, as for M06\n"
+        "M03   5928 bp   77187500 ns    77.1 ms\n"
+        "M04   3952 bp   51458334 ns    51.4 ms\n"
+        "M05   1976 bp   25729167 ns    25.7 ms\n"
+        "M06   7904 bp  102916667 ns   102.8 ms\n"
+        "M07   9880 bp  128645834 ns   128.5 ms\n"
+        "M08  11856 bp  154375000 ns   154.2 ms\n"
+        "\n"
+        "A deadline of 77.1 ms for master 1, which the source's figure would meet, is 5,921 bp\n"
+        "and refused with 8. It has no refined figures for this segment.",
+        [(1, 8)]
+        + plant_streams(1, *[MS_300] * 3)
+        + plant_streams(2, *[MS_200] * 4)
+        + plant_streams(3, *[MS_500] * 3)
+        + plant_streams(4, *[MS_200] * 2)
+        + plant_streams(5, MS_100)
+        + plant_streams(6, *[MS_500] * 4)
+        + plant_streams(7, *[MS_500] * 5)
+        + plant_streams(8, *[MS_500] * 6),
+        0,
+        "P-NET segment\n"
+        "M01 bound 5928 bp 77187500 ns refined 5217 bp 67929688 ns 1 rounds\n"
+        "M02 bound 7904 bp 102916667 ns refined 6482 bp 84401042 ns 2 rounds\n"
+        "M03 bound 5928 bp 77187500 ns refined 5217 bp 67929688 ns 1 rounds\n"
+        "M04 bound 3952 bp 51458334 ns refined 3715 bp 48372396 ns 1 rounds\n"
+        "M05 bound 1976 bp 25729167 ns refined 1976 bp 25729167 ns 1 rounds\n"
+        "M06 bound 7904 bp 102916667 ns refined 6482 bp 84401042 ns 2 rounds\n"
+        "M07 bound 9880 bp 128645834 ns refined 7036 bp 91614584 ns 2 rounds\n"
+        "M08 bound 11856 bp 154375000 ns refined 7353 bp 95742188 ns 2 rounds\n",
+    ),
+    (
+        "plant-segment-a",
+        "Accepted. The plant of plant-one-segment cut into three segments (source 004,\n"
+        "Tables 4.6 and 4.10): this one has masters 1, 2 and 3, and master 3 is this side of\n"
+        "the gateway to plant-segment-b. Times in bp as in plant-one-segment.\n"
+        "\n"
+        "The last two streams of master 3 are relayed: the reply to the stream of master 1 in\n"
+        "path-plant-two-segments, and the request of path-plant-three-segments. Page 02 (Ask 4)\n"
+        "wants the request here; the source counts a reply too, since the gateway takes a turn\n"
+        "to send it. One stream more makes no bound smaller, so the sheet keeps both.\n"
+        "\n"
+        "The source's Tables 4.8 (bound) and 4.11 (refined) have tenths of ms, rounded or, as\n"
+        "38.9 ms, cut; here the figures are exact in bp and rounded up in ns:\n"
+        "\n"
+        "M01  bound 2223 bp 28945313 ns   28.9 ms   refined 2223 bp 28945313 ns   28.9 ms\n"
+        "M02  bound 2964 bp 38593750 ns   38.6 ms   refined 2727 bp 35507813 ns   35.5 ms\n"
+        "M03  bound 3705 bp 48242188 ns   48.2 ms   refined 2994 bp 38984375 ns   38.9 ms\n"
+        "\n"
+        "It counts the requests of other masters by another rule than page 02 (Ask 2), and here\n"
+        "both count one for each stream.",
+        [(1, 3)]
+        + plant_streams(1, *[MS_300] * 3)
+        + plant_streams(2, *[MS_200] * 4)
+        + plant_streams(3, MS_500, MS_500, MS_500, MS_300, MS_500),
+        0,
+        "P-NET segment\n"
+        "M01 bound 2223 bp 28945313 ns refined 2223 bp 28945313 ns 1 rounds\n"
+        "M02 bound 2964 bp 38593750 ns refined 2727 bp 35507813 ns 1 rounds\n"
+        "M03 bound 3705 bp 48242188 ns refined 2994 bp 38984375 ns 1 rounds\n",
+    ),
+    (
+        "plant-segment-b",
+        "Accepted. The middle one of the three segments (see plant-segment-a): the source's\n"
+        "masters 4, 5 and 6 are masters 1, 2 and 3 here. Master 1 is this side of the gateway to\n"
+        "plant-segment-a and master 3 of that to plant-segment-c. The last two streams of\n"
+        "master 1 are relayed, the request of path-plant-two-segments and the reply of\n"
+        "path-plant-three-segments, and so is the last of master 3, the latter's request.\n"
+        "\n"
+        "Beside the source's Tables 4.8 (bound) and 4.11 (refined), rounded to tenths of ms:\n"
+        "\n"
+        "M01  bound 2964 bp 38593750 ns   38.6 ms   refined 2253 bp 29335938 ns   29.3 ms\n"
+        "M02  bound  741 bp  9648438 ns    9.6 ms   refined  741 bp  9648438 ns    9.6 ms\n"
+        "M03  bound 3705 bp 48242188 ns   48.2 ms   refined 2520 bp 32812500 ns   32.8 ms",
+        [(1, 3)]
+        + plant_streams(1, MS_200, MS_200, MS_300, MS_500)
+        + plant_streams(2, MS_100)
+        + plant_streams(3, *[MS_500] * 5),
+        0,
+        "P-NET segment\n"
+        "M01 bound 2964 bp 38593750 ns refined 2253 bp 29335938 ns 1 rounds\n"
+        "M02 bound 741 bp 9648438 ns refined 741 bp 9648438 ns 1 rounds\n"
+        "M03 bound 3705 bp 48242188 ns refined 2520 bp 32812500 ns 1 rounds\n",
+    ),
+    (
+        "plant-segment-c",
+        "Accepted. The last of the three segments (see plant-segment-a): the source's masters 7\n"
+        "and 8 are masters 1 and 2 here, and master 1 is this side of the gateway to\n"
+        "plant-segment-b. Its last stream is relayed, the reply of path-plant-three-segments.\n"
+        "\n"
+        "The source has 38.6 ms for all four figures (Tables 4.8 and 4.11), rounded from\n"
+        "2,964 bp, 38,593,750 ns.",
+        [(1, 2)] + plant_streams(1, *[MS_500] * 6) + plant_streams(2, *[MS_500] * 6),
+        0,
+        "P-NET segment\n"
+        "M01 bound 2964 bp 38593750 ns refined 2964 bp 38593750 ns 1 rounds\n"
+        "M02 bound 2964 bp 38593750 ns refined 2964 bp 38593750 ns 1 rounds\n",
+    ),
+    (
+        "profibus-six-masters",
+        "Accepted. A ring of six masters with 17 streams (source 004, Table 5.7), any\n"
+        "low-priority traffic beside them. The ring runs at 1 Mbit/s, so a bp of it is 1 us: C\n"
+        "and M of 2 ms are 2,000 bp, L of 0.1 ms is 100 bp, and nothing is rounded. Else C, M\n"
+        "and L are to be rounded up and D down: what is accepted so is safe.\n"
+        "\n"
+        "The rule is the source's: (60,000 - 2,000) / 3 - 6 * 2,000 bp, rounded down. It prints\n"
+        "7.33 ms for 7,333 bp (7.333 ms) and says master 4 or 5; the report has the first stream\n"
+        "that fails at 7,334 bp, stream 9, the first of master 4. At this TTR stream 1 needs\n"
+        "40,666 bp; the source has 40.66 ms, from 7.33 ms.\n"
+        "\n"
+        "Under its other rule, for few low-priority messages a turn, the source finds D of 50 and\n"
+        "60 ms too short (70.1 ms at least). Page 01 goes by source 002 and has no such rule.",
+        [(3, 6, 100, 2_000)]
+        + [
+            (4, master, 2_000, deadline)
+            for master, deadlines in (
+                (1, (50_000, 100_000)),
+                (2, (90_000, 80_000, 140_000)),
+                (3, (120_000, 130_000, 110_000)),
+                (4, (60_000, 200_000, 140_000)),
+                (5, (60_000, 100_000, 100_000)),
+                (6, (80_000, 80_000, 100_000)),
+            )
+            for deadline in deadlines
+        ],
+        0,
+        "PROFIBUS ring\nTTR 7333 bp limited by stream 9\n",
+    ),
+    (
+        "worldfip-six-e184",
+        "Accepted. Source 004's traffic of Table 3.3, its A to F as 1 to 6, at 1 Mbit/s: 64 and\n"
+        "80 bits and two turnarounds of 20 us make E = 184 us. A period of 1 ms is 1,000 us, and\n"
+        "nothing is rounded; else E is to be rounded up and a period down.\n"
+        "\n"
+        "The table is the source's Table 6.2, row by row; its microcycle 1 is row 0. Its text has\n"
+        "92 bits where its sum has 80: with 92, E would be 196 us and the table the same.",
+        [(5, 184)] + SIX_VARIABLES,
+        0,
+        "WorldFIP table\n"
+        "microcycle 1000 us 5 slots 12 rows\n"
+        "row 0: 1 2 3 4 5\n"
+        "row 1: 1 6\n"
+        "row 2: 1 2\n"
+        "row 3: 1 3\n"
+        "row 4: 1 2 4 5\n"
+        "row 5: 1\n"
+        "row 6: 1 2 3 6\n"
+        "row 7: 1\n"
+        "row 8: 1 2 4 5\n"
+        "row 9: 1 3\n"
+        "row 10: 1 2\n"
+        "row 11: 1\n",
+    ),
+    (
+        "worldfip-six-e210",
+        "Accepted. The traffic of worldfip-six-e184 at E = 210 us: one slot fewer, and 5 too waits\n"
+        "for row 1. The table is source 004's Table 6.8, row by row; its microcycle 1 is row 0.",
+        [(5, 210)] + SIX_VARIABLES,
+        0,
+        "WorldFIP table\n"
+        "microcycle 1000 us 4 slots 12 rows\n"
+        "row 0: 1 2 3 4\n"
+        "row 1: 1 5 6\n"
+        "row 2: 1 2\n"
+        "row 3: 1 3\n"
+        "row 4: 1 2 4 5\n"
+        "row 5: 1\n"
+        "row 6: 1 2 3 6\n"
+        "row 7: 1\n"
+        "row 8: 1 2 4 5\n"
+        "row 9: 1 3\n"
+        "row 10: 1 2\n"
+        "row 11: 1\n",
     ),
 ]
 
@@ -259,7 +464,7 @@ CAPTURES = [
     ),
 ]
 
-# name, what it shows, segments (a sheet above and the master that sends there), forwarding times and deadline in bp, expected report
+# name, what it shows, segments (a sheet above, named by its text, and the master that sends there), forwarding times and deadline in bp, expected report
 PATHS = [
     (
         "path-two-segments",
@@ -299,6 +504,50 @@ PATHS = [
         100_000,
         "refused 18 at segment 2\n",
     ),
+    (
+        "path-plant-two-segments",
+        "Accepted. Source 004's stream 1 of master 1, which asks a slave of the next segment\n"
+        "(Table 4.5): master 1 of segment a sends, then master 1 of segment b, the gateway. The\n"
+        "source leaves forwarding times out, so 0 bp stands here for yours; it gives no\n"
+        "deadline, and 23,040 bp are the stream's T, 300 ms.\n"
+        "\n"
+        "The source has 115.72 ms. It lets the reply wait for a turn of the gateway too, M03 of\n"
+        "segment a with 3,705 bp; by page 02 (Ask 4) a reply costs the forwarding time alone. With\n"
+        "that wait it would be 8,892 bp, 115,781,250 ns; the source's own sum of rounded turns,\n"
+        "12 * 9.65 ms, is 115.8 ms. If your gateways take a turn to send a reply, add that bound.\n"
+        "Its 97.1 ms are the sum of three refined figures, 7,470 bp, 97,265,625 ns; a path goes by\n"
+        "the bounds.",
+        [("plant-segment-a", 1), ("plant-segment-b", 1)],
+        [0],
+        MS_300,
+        "P-NET path\n"
+        "segment 1 M01 bound 2223 bp\n"
+        "gateway 1 request 0 bp reply 0 bp\n"
+        "segment 2 M01 bound 2964 bp\n"
+        "total 5187 bp 67539063 ns deadline 23040 bp\n",
+    ),
+    (
+        "path-plant-three-segments",
+        "Accepted. Source 004's stream 2 of master 8, which asks a slave of the first segment\n"
+        "(Table 4.5; its text says segment 8, and there is none): master 2 of segment c, then the\n"
+        "gateways, master 3 of segment b and master 3 of segment a. Forwarding times and deadline\n"
+        "(T, 500 ms) as in path-plant-two-segments.\n"
+        "\n"
+        "The source has 212.36 ms, with the reply's waits at M01 of segment b and M01 of segment c,\n"
+        "2,964 bp each, which page 02 does not charge. With them it would be 16,302 bp,\n"
+        "212,265,625 ns; the source's own sum, 12 * 6.43 + 14 * 9.65 ms, is 212.26 ms. Its 178.2 ms\n"
+        "are the sum of five refined figures, 13,695 bp, 178,320,313 ns.",
+        [("plant-segment-c", 2), ("plant-segment-b", 3), ("plant-segment-a", 3)],
+        [0, 0],
+        MS_500,
+        "P-NET path\n"
+        "segment 1 M02 bound 2964 bp\n"
+        "gateway 1 request 0 bp reply 0 bp\n"
+        "segment 2 M03 bound 3705 bp\n"
+        "gateway 2 request 0 bp reply 0 bp\n"
+        "segment 3 M03 bound 3705 bp\n"
+        "total 10374 bp 135078125 ns deadline 38400 bp\n",
+    ),
 ]
 
 
@@ -307,12 +556,12 @@ def record(kind, *numbers):
     return bytes([kind]) + body
 
 
-def listing(name, about, records, cut, report):
-    lines = [name + ".sheet", ""] + about.split("\n") + [""]
+def record_lines(records, cut):
+    lines = []
     place = 0
     for kind, *numbers in records:
         length = len(record(kind, *numbers))
-        line = "byte %d: %s" % (place, WORDS[kind])
+        line = "byte %d: %s" % (place, NAMES[kind])
         if kind % 2 == 0:
             line += " %d" % ((place - len(record(*records[0]))) // length + 1)
         if place + length > sum(len(record(*r)) for r in records) - cut:
@@ -322,7 +571,11 @@ def listing(name, about, records, cut, report):
                 line += ", %s %s%s" % (field, format(number, ","), unit)
         lines.append(line)
         place += length
-    return "\n".join(lines) + "\n\nReport:\n\n" + report
+    return lines
+
+
+def listing(name, about, inside, report):
+    return "\n".join([name + ".sheet", "", about, ""] + inside) + "\n\nReport:\n\n" + report
 
 
 def event(kind, stream, stamp):
@@ -348,14 +601,19 @@ def capture_files(made):
 
 
 def sheet_files():
-    for name, about, records, cut, report in SAMPLES:
+    for name, about, records, cut, report in SAMPLES + CELLS:
         data = b"".join(record(*r) for r in records)
         data = data[: len(data) - cut]
         if second_opinion.report(data) != report.encode("ascii"):
             sys.exit("%s: the second opinion reports otherwise:\n%s"
                      % (name, second_opinion.report(data).decode("ascii")))
+        inside = record_lines(records, cut)
+        text = second_opinion.export_sheet(data)
+        if not isinstance(text, second_opinion.Refusal):
+            inside = ["%s.csv is this sheet as text." % name]
+            yield name + ".csv", text
         yield name + ".sheet", data
-        yield name + ".txt", listing(name, about, records, cut, report).encode("ascii")
+        yield name + ".txt", listing(name, about, inside, report).encode("ascii")
 
 
 def path_files(made):
@@ -365,7 +623,7 @@ def path_files(made):
             sys.exit("%s: the second opinion reports otherwise:\n%s" % (name, told.decode("ascii")))
         command = "planner --path"
         for number, (sheet, master) in zip([deadline] + times, segments):
-            command += " %d bp %s.sheet %d" % (number, sheet, master)
+            command += " %d bp %s.csv %d" % (number, sheet, master)
         yield name + ".txt", (command + "\n\n" + about + "\n\nReport:\n\n" + report).encode("ascii")
 
 
@@ -396,7 +654,7 @@ def main():
         return 0
     stale = [n for n, data in expected.items() if contents(os.path.join(HERE, n)) != data]
     stale += [
-        n for n in sorted(os.listdir(HERE)) if n.endswith((".sheet", ".capture", ".txt")) and n not in expected
+        n for n in sorted(os.listdir(HERE)) if n.endswith((".sheet", ".csv", ".capture", ".txt")) and n not in expected
     ]
     for name in stale:
         print("not current: %s" % name)
