@@ -8,6 +8,7 @@ import random
 
 import second_opinion
 import sheets
+import texts
 from second_opinion import ANSWER, COUNTER, EVENT_LENGTH, REQUEST
 
 # what a program of this project reads at once; any other length is as good a place for a seam
@@ -174,11 +175,16 @@ def any_sheet(rng):
     return data, b"".join(good_events(rng, bounds, rng.randint(0, 40)))
 
 
+def beside_a_text(rng):
+    data, capture = rng.choice([good, kept])(rng)
+    return texts.as_text(rng, data), capture
+
+
 def noise(rng):
     return small_sheet(rng), rng.randbytes(rng.randint(0, 40))
 
 
-FAMILIES = [good, kept, damaged, kept, asked_only, damaged, any_sheet, silent_for_long, damaged, noise]
+FAMILIES = [good, kept, damaged, kept, asked_only, damaged, any_sheet, silent_for_long, damaged, beside_a_text, noise]
 
 
 # ---------------------------------------------------------------- edges
@@ -239,7 +245,7 @@ def edges(rng):
 
 
 def captures(seed, count):
-    """Yield `count` triples of a name, a sheet's bytes and a capture's bytes."""
+    """Yield `count` triples of a name, a sheet, as bytes or as text, and a capture's bytes."""
     rng = random.Random(seed)
     given = 0
     for name, data, capture in edges(rng):

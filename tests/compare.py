@@ -1,8 +1,8 @@
-"""Compare a planner's reports with the second opinion's, byte by byte.
+"""Compare a planner's reports, and what it exports and imports, with the second opinion's, byte by byte.
 
-    compare.py PROGRAM... [--seed S] [--count N] [--captures N] [--paths N] [--jobs J]
+    compare.py PROGRAM... [--seed S] [--count N] [--captures N] [--paths N] [--texts N] [--jobs J]
 
-So many sheets, then so many pairs of a sheet and a capture, then so many paths.
+So many sheets, then so many pairs of a sheet and a capture, then so many paths, then so many texts. Two runs are made on each text.
 
 PROGRAM may be several words, so that a program built for another machine can
 be run under an emulator. Its exit status is held to the second opinion's too.
@@ -23,6 +23,8 @@ import captures  # noqa: E402
 import paths  # noqa: E402
 import second_opinion  # noqa: E402
 import sheets  # noqa: E402
+import texts  # noqa: E402
+from second_opinion import Refusal  # noqa: E402
 
 SECONDS_FOR_A_SHEET = 120
 # below this count a missing outcome says nothing about the generator
@@ -42,10 +44,16 @@ OF_CAPTURES = [
     "no answer in the whole capture",
 ] + [
     "capture refused %d" % number for number in (1, 2, 14, 15, 16)
-]
-OF_PATHS = ["accepted, P-NET path", "sheet of a path refused"] + [
+] + ["refused 23"]
+OF_PATHS = ["accepted, P-NET path", "sheet of a path refused", "text of a path refused 23"] + [
     "path refused %d" % number for number in (4, 17, 18, 19)
 ]
+# a text never stands for a cut record or an unknown kind, and for a ring not before its first record has a word
+OF_TEXTS = ["import accepted, kind 1", "import accepted, kind 5"] + [
+    "import refused %d" % number for number in (1, 3, 4, 5, 6, 7, 23)
+] + [
+    "export accepted, kind 1", "export accepted, kind 5", "export refused 2 for kind 3", "export refused by reading", "export refused 23",
+] + ["report of it: " + one for one in ("accepted, P-NET segment", "accepted, WorldFIP table", "refused 23")]
 
 
 def outcome(report):
@@ -56,7 +64,7 @@ def outcome(report):
         return next(one for one in OF_CAPTURES if lines[-1].startswith(one))
     refused = " ".join(lines[0].split()[:2])
     if " of segment " in lines[0]:
-        return "sheet of a path refused"
+        return "text of a path refused 23" if refused == "refused 23" else "sheet of a path refused"
     if lines[0] == "refused 19" or any(word in lines[0] for word in ("gateway", "deadline", "segment")):
         return "path " + refused
     return "capture " + refused if " capture " in lines[0] else refused
@@ -69,33 +77,40 @@ def shortened(text, most=4000):
     return "%s ... (%d left out) ... %s" % (text[:half], len(text) - 2 * half, text[-half:])
 
 
-def compare_one(task):
-    """The outcome, and a description of the difference if there is one."""
-    words, name, given, data, expected = task
-    trouble = None
+def run(words, data):
+    """What the program wrote, the lines that it said, and its status, or no status where it did not end in time."""
     try:
-        done = subprocess.run(
-            words,
-            input=data,
-            stdout=subprocess.PIPE,
-            stderr=subprocess.PIPE,
-            timeout=SECONDS_FOR_A_SHEET,
-        )
-        output = done.stdout
-        wanted = second_opinion.status(expected.decode("ascii").splitlines())
-        if done.returncode != wanted:
-            trouble = "ended with status %d, not with %d" % (done.returncode, wanted)
+        done = subprocess.run(words, input=data, stdout=subprocess.PIPE, stderr=subprocess.PIPE, timeout=SECONDS_FOR_A_SHEET)
+        return done.stdout, done.stderr.split(b"\n"), done.returncode
     except subprocess.TimeoutExpired as late:
-        output = late.stdout or b""
-        trouble = "did not end within %d seconds" % SECONDS_FOR_A_SHEET
-    if output == expected and trouble is None:
-        return outcome(expected), None
-    return outcome(expected), "\n".join([
+        return late.stdout or b"", [], None
+
+
+def difference_of(words, name, given, data, expected, status, complaint=None):
+    """How the program's run with this on standard input differs from what is expected of it, or nothing."""
+    output, said, ended = run(words, data)
+    troubles = []
+    if ended is None:
+        troubles.append("program did not end within %d seconds" % SECONDS_FOR_A_SHEET)
+    elif ended != status:
+        troubles.append("program ended with status %d, not with %d" % (ended, status))
+    if complaint is not None and complaint not in said:
+        troubles.append("program said %r, not %r" % (shortened(b"\n".join(said)), complaint))
+    if output == expected and not troubles:
+        return None
+    return "\n".join([
         "%s (%d bytes)" % (name, len(given)),
         "hex: %s" % shortened(given.hex()),
         "program: %s" % shortened(output.decode("ascii", "backslashreplace")),
-        "second opinion: %s" % shortened(expected.decode("ascii")),
-    ] + (["program " + trouble] if trouble else []))
+        "second opinion: %s" % shortened(expected.decode("ascii", "backslashreplace")),
+    ] + troubles)
+
+
+def compare_one(task):
+    """The outcome, and a description of the difference if there is one."""
+    words, name, given, data, expected = task
+    status = second_opinion.status(expected.decode("ascii").splitlines())
+    return outcome(expected), difference_of(words, name, given, data, expected, status)
 
 
 def compare_sheet(task):
@@ -139,8 +154,65 @@ def compare_path(task):
         return compare_one((program + words, label, b"", given, expected))
 
 
+FILTERS = {"--import": second_opinion.import_text, "--export": second_opinion.export_given}
+
+
+def outcome_of_filter(command, given, answer):
+    if command == "--import":
+        return "import " + ("refused %d" % answer.number if isinstance(answer, Refusal) else "accepted, kind %d" % answer[0])
+    data = second_opinion.sheet_given(given)
+    sheet = data if isinstance(data, Refusal) else second_opinion.read(data)
+    if isinstance(sheet, Refusal):
+        return "export refused 23" if sheet.number == 23 else "export refused by reading"
+    return "export %s kind %d" % ("refused 2 for" if isinstance(answer, Refusal) else "accepted,", sheet.kind)
+
+
+def compare_filter(words, label, command, given, data, called):
+    """A refusal is said on standard error, with what the input is called, and nothing is written."""
+    answer = FILTERS[command](given)
+    one = outcome_of_filter(command, given, answer)
+    if isinstance(answer, Refusal):
+        said = "planner: %s: %s" % (called, second_opinion.refusal_line(answer))
+        return one, difference_of(words, label, given, data, b"", 1, said.encode("ascii"))
+    return one, difference_of(words, label, given, data, answer, 0)
+
+
+def compare_text(task):
+    """The report of a text, or what a filter makes of it, by a file's name, by `-` or by no word."""
+    program, name, command, given, way = task
+    label = "%s: %s" % (command or "report", name)
+    with tempfile.TemporaryDirectory() as folder:
+        file_name = os.path.join(folder, "a.csv")
+        with open(file_name, "wb") as file:
+            file.write(given)
+        called, names, data = [(file_name, [file_name], b""), ("standard input", ["-"], given), ("standard input", [], given)][way]
+        if command:
+            return compare_filter(program + [command] + names, label, command, given, data, called)
+        one, difference = compare_one((program + names, label, given, data, second_opinion.report(given)))
+        return "report of it: " + one, difference
+
+
+def runs_on(given, turn):
+    """Import, and in turn the report, the export of what is given, or that of the sheet that it stands for, which gives it back."""
+    yield "--import", given
+    sheet = second_opinion.import_text(given)
+    if turn == 0:
+        yield "", given
+    elif turn == 1 or isinstance(sheet, Refusal):
+        yield "--export", given
+    else:
+        assert second_opinion.export_sheet(sheet) == given
+        yield "--export", sheet
+
+
+def runs_on_texts(program, seed, count):
+    for number, (name, given) in enumerate(texts.texts(seed, count)):
+        for command, data in runs_on(given, number % 3):
+            yield program, name, command, data, number // 3 % 3
+
+
 def arguments(words):
-    options = {"--seed": 1, "--count": 3000, "--captures": 1000, "--paths": 1000, "--jobs": os.cpu_count() or 1}
+    options = {"--seed": 1, "--count": 3000, "--captures": 1000, "--paths": 1000, "--texts": 1000, "--jobs": os.cpu_count() or 1}
     program = []
     rest = iter(words)
     for word in rest:
@@ -168,7 +240,7 @@ def compare_all(compare, tasks, count, outcomes, jobs, what):
                 if differing <= 5:
                     print(difference + "\n")
     for one in outcomes:
-        print("%-30s %6d" % (one, met[one]))
+        print("%-38s %6d" % (one, met[one]))
     print("compared %d %s, %d differ" % (sum(met.values()), what, differing))
     rare = [one for one in outcomes if met[one] < LEAST_OF_EACH]
     if count >= COUNT_THAT_MEETS_ALL and rare:
@@ -182,13 +254,15 @@ def main():
     if shutil.which(program[0]) is None:
         sys.exit("no such program: %s" % program[0])
     seed, jobs = options["--seed"], options["--jobs"]
-    count, pairs, ways = options["--count"], options["--captures"], options["--paths"]
+    count, pairs, ways, written = (options[word] for word in ("--count", "--captures", "--paths", "--texts"))
     tasks = ((program, name, data) for name, data in sheets.sheets(seed, count))
     good = compare_all(compare_sheet, tasks, count, OF_SHEETS, jobs, "sheets")
     tasks = ((program, *pair) for pair in captures.captures(seed, pairs))
     good &= compare_all(compare_pair, tasks, pairs, OF_CAPTURES, jobs, "pairs of a sheet and a capture")
     tasks = ((program, *path) for path in paths.paths(seed, ways))
     good &= compare_all(compare_path, tasks, ways, OF_PATHS, jobs, "paths")
+    tasks = runs_on_texts(program, seed, written)
+    good &= compare_all(compare_text, tasks, written, OF_TEXTS, jobs, "runs on texts")
     return 0 if good else 1
 
 

@@ -1,12 +1,13 @@
 """Paths over several segments, for comparing programs: segments, forwarding times and a deadline.
 
-The lines of the vectors come first. Then paths are made good, with a deadline around their cost, and some are damaged.
+The lines of the vectors come first. Then paths are made good, with a deadline around their cost, and some are damaged, or have a sheet as text.
 """
 
 import random
 
 import second_opinion
 import sheets
+import texts
 import vectors
 from second_opinion import BILLION, FORWARDING_LIMIT, Crossed
 
@@ -67,6 +68,12 @@ def other_sheet(rng, segments, times, deadline):
     return segments, times, deadline
 
 
+def text_for_bytes(rng, segments, times, deadline):
+    at = rng.randrange(len(segments))
+    segments[at] = (texts.as_text(rng, segments[at][0]), segments[at][1])
+    return segments, times, deadline
+
+
 def too_many(rng, segments, times, deadline):
     more = 11 - len(times) + rng.randint(0, 3)
     return segments + [small_segment(rng) for _ in range(more)], times + [time(rng) for _ in range(more)], deadline
@@ -76,7 +83,9 @@ def too_few(rng, segments, times, deadline):
     return segments[:1], [], deadline
 
 
-DAMAGES = [slow_gateway, strange_deadline, strange_sender, strange_sender, other_sheet, other_sheet, too_many, too_few]
+DAMAGES = [
+    slow_gateway, strange_deadline, strange_sender, strange_sender, other_sheet, other_sheet, text_for_bytes, text_for_bytes, too_many, too_few,
+]
 
 
 def damaged(rng):
@@ -87,7 +96,16 @@ def damaged(rng):
     return path
 
 
-FAMILIES = [good, good, missed, damaged, damaged, damaged, damaged]
+def refused_twice(rng):
+    """A bad line in one segment's text and a refused sheet in another, in either order: the first of the two is named."""
+    segments, times, deadline = good(rng)
+    bad_line, other = rng.sample(range(len(segments)), 2)
+    segments[bad_line] = (vectors.HEAD_LINE + b"x\n", 1)
+    segments[other] = (rng.choice([b"", b"c", vectors.HEAD_LINE, vectors.sheet(*vectors.TABLE), vectors.sheet(*vectors.FOUR_MASTERS_LATE)]), 1)
+    return segments, times, deadline
+
+
+FAMILIES = [good, good, missed, damaged, damaged, damaged, damaged, refused_twice]
 
 
 def paths(seed, count):

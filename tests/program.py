@@ -16,6 +16,7 @@ sys.path.insert(0, os.path.dirname(os.path.abspath(__file__)))
 sys.dont_write_bytecode = True
 
 import second_opinion  # noqa: E402
+import slips  # noqa: E402
 
 ROOT = pathlib.Path(__file__).resolve().parent.parent
 # the script starts no check: the program is built by whoever runs this
@@ -57,10 +58,15 @@ PHRASES = (
     "0..%d bp" % second_opinion.FORWARDING_LIMIT,
     "1..%d bp" % second_opinion.BILLION,
     "1 to %d gateways" % second_opinion.GATEWAYS_LIMIT,
+    "wherever SHEET stands",
+    "A ring of kind 3 has no text",
+    "dragging counts up, 203 bp becomes 204 bp",
 )
 # those that a program can show: its own room is never short, so 13 is not among them
-REFUSALS = [number for number in range(1, 20) if number != 13]
+REFUSALS = [number for number in range(1, 20) if number != 13] + [23]
 GOOD_SHEET = bytes.fromhex("0101020100cb000003e8000003e8")
+RING_SHEET = bytes.fromhex("03010000012c000001f4" "040100000190000020d0")
+BAD_TEXT = slips.TEXT.replace(b"203 bp", b"203bp")
 # 64 variables in each of 4,096 rows: no pipe holds its report
 TABLE = bytes.fromhex("0500000001") + b"".join(
     b"\x06" + (60_000 + n).to_bytes(2, "big") + (1_000 if n else 4_096_000).to_bytes(4, "big") for n in range(64))
@@ -70,9 +76,7 @@ UNTIMED = ("masters", "master", "identifier")
 
 
 def run(program, words, data=b""):
-    done = subprocess.run(
-        program + words, input=data, stdout=subprocess.PIPE, stderr=subprocess.PIPE, check=False, env=AS_BUILT
-    )
+    done = slips.call(program, words, data, env=AS_BUILT)
     return done.stdout.decode("utf-8"), done.stderr.decode("utf-8"), done.returncode
 
 
@@ -119,7 +123,27 @@ def told_kinds(text):
     return {kind: (length, fields.split(", ")) for kind, (length, fields) in told.items()}
 
 
+def text_help_troubles(text):
+    """The forms of the lines, the example, and the repair for what a spreadsheet saves."""
+    for kind, word in second_opinion.WORDS.items():
+        form = re.compile(r" {3}" + word + "".join(",[A-Z]+" + unit for unit in second_opinion.UNITS[kind]))
+        if sum(bool(form.fullmatch(line)) for line in text.splitlines()) != 1:
+            yield "no form of a line of kind %d" % kind
+    example = "".join(line[3:] + "\n" for line in text.splitlines() if re.match(r" {3}pnet-[a-z]+,\d", line)).encode("ascii")
+    if example.count(b"\n") != 3 or isinstance(second_opinion.import_text(example), second_opinion.Refusal):
+        yield "not a text of three lines: %r" % example
+    spoilt = b"\xef\xbb\xbf" + re.sub(rb"([^,\n]+)", rb'"\1"', example).replace(b",", b";").replace(b"\n", b";;;\r\n") + b";;;;\r\n\r\n"
+    with tempfile.NamedTemporaryFile() as saved:
+        saved.write(spoilt)
+        saved.flush()
+        repair = [line for line in text.splitlines() if line.startswith("   tr -d ")][0].replace("<FILE", '<"$1"')
+        done = slips.call(["sh", "-c", repair, "sh", saved.name], [])
+    if done.stdout != example:
+        yield "the repair makes %r of %r" % (done.stdout, spoilt)
+
+
 def help_troubles(text):
+    yield from text_help_troubles(text)
     for line in text.splitlines():
         if len(line) > COLUMNS:
             yield "a line of more than %d columns: %s" % (COLUMNS, line)
@@ -194,10 +218,114 @@ def word_troubles(program, folder, sheet):
     yield from complaint_troubles(program, [sheet, "x" * 5000], "%s..: longer than" % ("x" * 60))
     yield from complaint_troubles(program, [""], ": ")
     yield from complaint_troubles(program, ["-", "-"], "standard input")
+    closed = ["sh", "-c", '"$@" <&-', "sh"] + program
     for words in ([], ["-"], [sheet, "-"], ["-", sheet], ["--path", "9", "bp", "-", "1"]):
-        closed = ["sh", "-c", '"$@" <&-', "sh"] + program
         yield from complaint_troubles(closed, words, "planner: standard input: Bad file descriptor\n")
     yield from path_troubles(program, sheet, missing)
+    for command in ("--export", "--import"):
+        yield from complaint_troubles(program, [command, missing], "%s: No such file" % missing)
+        yield from complaint_troubles(program, [command, folder], "%s: Is a directory" % folder)
+        yield from complaint_troubles(program, [command, sheet, sheet], "too many words")
+        yield from complaint_troubles(program, [command, "--help"], "unknown option --help; planner --help")
+        yield from complaint_troubles(program, [command, "x" * 5000], "%s..: longer than" % ("x" * 60))
+        for words in ([command], [command, "-"]):
+            yield from complaint_troubles(closed, words, "planner: standard input: Bad file descriptor\n")
+
+
+# ---------------------------------------------------------------- texts
+
+
+def refused_troubles(program, words, told, data=b""):
+    """Nothing is written but what went wrong, on standard error, and 1."""
+    out, err, status = run(program, words, data)
+    named = all(line.startswith("planner: ") for line in err.splitlines())
+    if out or status != 1 or not named or told not in err:
+        yield "%s: wrote %r, said %r and ended with %d, not with %r" % (words, out, err, status, told)
+
+
+def exchange_troubles(program, folder, sheet, text):
+    """Sheets as text and back, by name and on standard input, whole or not at all."""
+    for command, data, name, made in (("--export", GOOD_SHEET, sheet, slips.TEXT), ("--export", slips.TEXT, text, slips.TEXT), ("--import", slips.TEXT, text, GOOD_SHEET)):
+        for words, given in (([command], data), ([command, "-"], data), ([command, name], b"")):
+            done = slips.call(program, words, given, env=AS_BUILT)
+            if (done.stdout, done.stderr, done.returncode) != (made, b"", 0):
+                yield "%s: wrote %r, said %r and ended with %d" % (words, done.stdout, done.stderr, done.returncode)
+    for data in (GOOD_SHEET, TABLE, GOOD_SHEET[:2] + GOOD_SHEET[2:] * 80):
+        name = os.path.join(folder, "any.sheet")
+        with open(name, "wb") as file:
+            file.write(data)
+        back = slips.call(["sh", "-c", 'name=$1; shift; "$@" --export "$name" | "$@" --import', "sh", name] + program, [], env=AS_BUILT)
+        if (back.stdout, back.stderr, back.returncode) != (data, b"", 0):
+            yield "exported and imported: wrote %r, said %r and ended with %d" % (back.stdout, back.stderr, back.returncode)
+    name = "planner: standard input: "
+    for command, data, told in (
+        ("--export", b"", name + "refused 1 at byte 0\n"),
+        ("--export", GOOD_SHEET[:2], name + "refused 6 at byte 2\n"),
+        ("--export", RING_SHEET, name + "refused 2 at byte 0\nplanner: a PROFIBUS ring of kind 3 has no text form\n"),
+        ("--export", BAD_TEXT, name + "refused 23 at line 2\n"),
+        ("--export", BAD_TEXT, name + "line 2, column 18 has 'bp'; "),
+        ("--export", b" " + slips.TEXT, name + "taken for bytes"),
+        ("--import", b"", name + "refused 1 at byte 0\n"),
+        ("--import", b"", name + "byte 0 is where the sheet ends"),
+        ("--import", slips.SEGMENT, name + "refused 6 at byte 2\n"),
+        ("--import", slips.TEXT * 2, name + "byte 14 of the sheet is line 3 of the text\n"),
+        ("--import", BAD_TEXT, name + "refused 23 at line 2\n"),
+        ("--import", b" " + slips.TEXT, name + "refused 23 at line 1\n"),
+        ("--import", b" " + slips.TEXT, slips.AROUND),
+        ("--import", GOOD_SHEET, slips.BYTES),
+    ):
+        yield from refused_troubles(program, [command], told, data)
+
+
+def same_troubles(program, texts, sheets, data=b""):
+    """A text has the report of its sheet."""
+    if run(program, texts, data) != run(program, sheets, data):
+        yield "%s: %r, %s: %r" % (texts, run(program, texts, data), sheets, run(program, sheets, data))
+
+
+def long_troubles(program):
+    """Texts that are longer than any sheet: the first line that is not of the form, however far behind, and no line behind it."""
+    text = slips.SEGMENT + slips.STREAM * 6000
+    for data, report in (
+        (text, "refused 5 at byte 962\n"),
+        (text + slips.STREAM[:-1], "refused 23 at line 6002\n"),
+        (text + b"\n" + text, "refused 23 at line 6002\n"),
+        (slips.SEGMENT + b"pnet-stream,1," + b"2" * 200_000 + b" bp,1000 bp,1000 bp\n" + text, "refused 23 at line 2\n"),
+    ):
+        out, _, status = run(program, [], data)
+        if (out, status) != (report, 1):
+            yield "%d bytes of text: wrote %r and ended with %d, not %r" % (len(data), out, status, report)
+    endless = slips.call(["sh", "-c", '{ echo pnet-segment,1; yes 2>/dev/null; } | "$@"', "sh"] + program, [], env=AS_BUILT, timeout=60)
+    if (endless.stdout, endless.returncode) != (b"refused 23 at line 2\n", 1):
+        yield "a text without end: wrote %r and ended with %d" % (endless.stdout, endless.returncode)
+
+
+def text_troubles(program, folder, sheet):
+    text, bad = os.path.join(folder, "one.csv"), os.path.join(folder, "bad.csv")
+    for name, data in ((text, slips.TEXT), (bad, BAD_TEXT)):
+        with open(name, "wb") as file:
+            file.write(data)
+    yield from slips.troubles(program, folder)
+    yield from exchange_troubles(program, folder, sheet, text)
+    capture = event(16, 1, 0) + event(17, 1, 250)
+    yield from same_troubles(program, [text], [sheet])
+    yield from same_troubles(program, ["--", text], [sheet])
+    yield from same_troubles(program, [text, "-"], [sheet, "-"], capture)
+    path = ["--path", "510", "bp", sheet, "1", "5", "bp", sheet, "1"]
+    for at in (3, 7):
+        yield from same_troubles(program, path[:at] + [text] + path[at + 1 :], path)
+        yield from same_troubles(program, path[:at] + ["-"] + path[at + 1 :], path, slips.TEXT)
+    for words, report, data in (
+        ([bad, sheet], "refused 23 at line 2\n", b""),
+        (["-", sheet], "refused 23 at line 2\n", BAD_TEXT),
+        (path[:3] + [bad] + path[4:], "refused 23 at line 2 of segment 1\n", b""),
+        (path[:7] + [bad] + path[8:], "refused 23 at line 2 of segment 2\n", b""),
+        (path[:7] + ["-"] + path[8:], "refused 23 at line 2 of segment 2\n", BAD_TEXT),
+    ):
+        out, err, status = run(program, words, data)
+        if (out, status) != (report, 1) or ": line 2, column 18 has 'bp'; wanted there: a blank" not in err:
+            yield "%s: wrote %r, said %r and ended with %d" % (words, out, err, status)
+    yield from long_troubles(program)
 
 
 # ---------------------------------------------------------------- statuses
@@ -251,7 +379,7 @@ def cut_troubles(program, sheet):
     with tempfile.NamedTemporaryFile() as table, tempfile.NamedTemporaryFile() as capture:
         table.write(TABLE)
         table.flush()
-        calls = [[sheet], [sheet, capture.name], ["--path", "510", "bp", sheet, "1", "5", "bp", sheet, "1"], ["--path", "1", "bp"], ["--help"], [table.name]]
+        calls = [[sheet], [sheet, capture.name], ["--path", "510", "bp", sheet, "1", "5", "bp", sheet, "1"], ["--path", "1", "bp"], ["--help"], [table.name], ["--export", sheet], ["--export", table.name]]
         for words in calls:
             with open("/dev/full", "wb") as full:
                 done = subprocess.run(program + words, stdout=full, stderr=subprocess.PIPE, check=False, env=AS_BUILT)
@@ -268,14 +396,15 @@ def cut_troubles(program, sheet):
 
 
 def terminal_troubles(program):
-    """No word, and someone at a terminal: the usage, and 2."""
-    controller, terminal = pty.openpty()
-    done = subprocess.run(
-        program, stdin=terminal, stdout=subprocess.PIPE, stderr=subprocess.PIPE, timeout=60, check=False, env=AS_BUILT)
-    os.close(terminal)
-    os.close(controller)
-    if done.stdout or done.returncode != 2 or b"planner SHEET CAPTURE" not in done.stderr or b"no sheet" not in done.stderr:
-        yield "on a terminal: wrote %r, said %r and ended with %d" % (done.stdout, done.stderr, done.returncode)
+    """No name, and someone at a terminal: the usage, and 2."""
+    for words in ([], ["--export"], ["--import"]):
+        controller, terminal = pty.openpty()
+        done = subprocess.run(
+            program + words, stdin=terminal, stdout=subprocess.PIPE, stderr=subprocess.PIPE, timeout=60, check=False, env=AS_BUILT)
+        os.close(terminal)
+        os.close(controller)
+        if done.stdout or done.returncode != 2 or b"planner SHEET CAPTURE" not in done.stderr or b"no sheet" not in done.stderr:
+            yield "%s on a terminal: wrote %r, said %r and ended with %d" % (words, done.stdout, done.stderr, done.returncode)
 
 
 # ---------------------------------------------------------------- the script, and what it installs
@@ -334,6 +463,7 @@ def main(program):
         with open(sheet, "wb") as file:
             file.write(GOOD_SHEET)
         troubles += word_troubles(program, folder, sheet)
+        troubles += text_troubles(program, folder, sheet)
         troubles += status_troubles(program, sheet)
         troubles += cut_troubles(program, sheet)
         troubles += terminal_troubles(program)

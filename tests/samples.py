@@ -1,5 +1,5 @@
-"""Run a planner on every sample sheet, capture and path and compare its report with the one in the listing, and its exit status with
-the second opinion's.
+"""Run a planner on every sample sheet, text, capture and path and compare its report with the one in the listing, and its exit status
+with the second opinion's; and turn each sheet into its text and back.
 
     samples.py PROGRAM...
 """
@@ -16,43 +16,64 @@ import second_opinion  # noqa: E402
 SAMPLES = pathlib.Path(__file__).resolve().parent.parent / "samples"
 
 
-def differs(name, words, expected, data=b""):
+def listed(file):
+    """The first line of a file's listing, and its report."""
+    listing = file.with_suffix(".txt").read_bytes()
+    return listing.split(b"\n", 1)[0].decode("ascii"), listing.split(b"\nReport:\n\n", 1)[1]
+
+
+def differs(words, expected, status, data=b""):
     done = subprocess.run(words, input=data, stdout=subprocess.PIPE, check=False)
-    status = second_opinion.status(expected.decode("ascii").splitlines())
     if (done.stdout, done.returncode) == (expected, status):
         return False
-    print("%s\nexpected %r, status %d\ngot      %r, status %d" % (name, expected, status, done.stdout, done.returncode))
+    print("%s\nexpected %r, status %d\ngot      %r, status %d" % (" ".join(words), expected, status, done.stdout, done.returncode))
     return True
+
+
+def reported(words, expected, data=b""):
+    return differs(words, expected, second_opinion.status(expected.decode("ascii").splitlines()), data)
+
+
+def of_sheet(program, file):
+    """A sheet or a text: by standard input, and by the file's name."""
+    _, expected = listed(file)
+    yield reported(program, expected, file.read_bytes())
+    yield reported(program + [str(file)], expected)
+
+
+def of_text(program, text):
+    """A text is the same sheet: the same reports, its sheet's bytes by import, and its own bytes by export."""
+    yield from of_sheet(program, text)
+    sheet = text.with_suffix(".sheet")
+    yield differs(program + ["--export", str(sheet)], text.read_bytes(), 0)
+    yield differs(program + ["--import", str(text)], sheet.read_bytes(), 0)
+
+
+def of_capture(program, capture):
+    first, expected = listed(capture)
+    beside = SAMPLES / first.split(", beside ")[1]
+    for sheet in (beside, beside.with_suffix(".csv")):
+        yield reported(program + [str(sheet), str(capture)], expected)
+
+
+def of_path(program, path):
+    """The listing's first line is the command as a user in the samples' folder would type it, with texts; the sheets give the same."""
+    first, expected = listed(path)
+    texts = [str(SAMPLES / word) if word.endswith(".csv") else word for word in first.split()[1:]]
+    sheets = [word[: -len(".csv")] + ".sheet" if word.endswith(".csv") else word for word in texts]
+    for words in (texts, sheets):
+        yield reported(program + words, expected)
 
 
 def main(program):
     if not program:
         sys.exit(__doc__)
-    wrong = 0
-    sheets = sorted(SAMPLES.glob("*.sheet"))
-    for sheet in sheets:
-        listing = sheet.with_suffix(".txt").read_bytes()
-        expected = listing.split(b"\nReport:\n\n", 1)[1]
-        # by standard input, and by the file's name
-        for words, data in ((program, sheet.read_bytes()), (program + [str(sheet)], b"")):
-            wrong += differs(sheet.name, words, expected, data)
-    captures = sorted(SAMPLES.glob("*.capture"))
-    for capture in captures:
-        listing = capture.with_suffix(".txt").read_bytes()
-        expected = listing.split(b"\nReport:\n\n", 1)[1]
-        beside = listing.split(b"\n", 1)[0].decode("ascii").split(", beside ")[1]
-        words = program + [str(SAMPLES / beside), str(capture)]
-        wrong += differs(capture.name, words, expected)
-    paths = sorted(SAMPLES.glob("path-*.txt"))
-    for path in paths:
-        listing = path.read_bytes()
-        expected = listing.split(b"\nReport:\n\n", 1)[1]
-        # the listing's first line is the command as a user in the samples' folder would type it
-        typed = listing.split(b"\n", 1)[0].decode("ascii").split()[1:]
-        words = program + [str(SAMPLES / word) if word.endswith(".sheet") else word for word in typed]
-        wrong += differs(path.name, words, expected)
-    found = (len(sheets), len(captures), len(paths))
-    print("%d sample sheets, %d captures, %d paths, %d reports differ" % (found + (wrong,)))
+    found, wrong = [], 0
+    for tried, pattern in ((of_sheet, "*.sheet"), (of_text, "*.csv"), (of_capture, "*.capture"), (of_path, "path-*.txt")):
+        files = sorted(SAMPLES.glob(pattern))
+        found.append(len(files))
+        wrong += sum(sum(tried(program, file)) for file in files)
+    print("%d sample sheets, %d texts, %d captures, %d paths, %d reports differ" % (*found, wrong))
     return 1 if wrong or 0 in found else 0
 
 

@@ -120,7 +120,7 @@ def without_a_program(tree):
     told = "planner: unknown option -\\x1b[2J\\x5c; planner --help lists them\n"
     yield "an unknown word is shown", tree.run("a.sheet", "-\x1b[2J\\") == ("", told, 2)
     out, err, status = on_a_terminal(tree)
-    yield "no word on a terminal", (out, status) == ("", 2) and "planner SHEET" in err and "samples/pnet-two-masters.sheet" in err
+    yield "no word on a terminal", (out, status) == ("", 2) and "planner SHEET" in err and "samples/pnet-two-masters.csv" in err
     out, err, status = tree.run("a.sheet", PLAN_BUILD="never")
     yield "no program and no build", (out, status) == ("", 2) and err.startswith("plan: ")
     with open("/dev/full", "w") as full:

@@ -1,4 +1,4 @@
-"""A second opinion on sheets, captures and paths: pages 01 and 02 written again in plain Python.
+"""A second opinion on sheets, texts, captures and paths: pages 01 and 02 written again in plain Python.
 
 It shares no code with the planner, so that the two can only agree where both
 follow the page. It favours the page's own words over speed: the refined
@@ -6,10 +6,11 @@ figure is worked out by the formula with its minus signs, and the WorldFIP
 table with lists of pending requests.
 
 As a command it reads a sheet from standard input and writes the report; with the names of a sheet and of a
-capture it writes the report of the capture.
+capture it writes the report of the capture. A sheet may be given as text or as bytes.
 """
 
 import math
+import re
 import sys
 from collections import namedtuple
 
@@ -66,6 +67,21 @@ WIDTHS = {
     6: (2, 4),
 }
 FIRST_KINDS = (1, 3, 5)
+# page 02, Ask 14: how the line of a record begins, and what stands behind the number of each field; kind 3 has no line
+WORDS = {
+    1: "pnet-segment",
+    2: "pnet-stream",
+    4: "profibus-stream",
+    5: "worldfip-exchange",
+    6: "worldfip-variable",
+}
+UNITS = {
+    1: ("",),
+    2: ("", " bp", " bp", " bp"),
+    4: ("", " bp", " bp"),
+    5: (" us",),
+    6: ("", " us"),
+}
 
 BILLION = 1_000_000_000
 LATENCY_LIMIT = 100_000
@@ -88,6 +104,10 @@ def fields_of(kind, body):
         fields.append(int.from_bytes(body[at : at + width], "big"))
         at += width
     return tuple(fields)
+
+
+def record_of(kind, fields):
+    return bytes([kind]) + b"".join(number.to_bytes(width, "big") for number, width in zip(fields, WIDTHS[kind]))
 
 
 def in_range(kind, fields, masters=MASTERS_LIMIT, message=MESSAGE_LIMIT):
@@ -206,10 +226,85 @@ def write_record(buffer_length, place, kind, numbers):
         return Refusal(13, 0)
     if end > buffer_length:
         return Refusal(13, end)
-    record = bytes([kind])
-    for number, width in zip(numbers, WIDTHS[kind]):
-        record += number.to_bytes(width, "big")
-    return Written(end, record)
+    return Written(end, record_of(kind, numbers))
+
+
+# ---------------------------------------------------------------- texts
+
+# more than ten digits are too big for any field, however many there are
+NUMBER = "(0|[1-9][0-9]{0,9})"
+FORMS = {
+    kind: re.compile(",".join([word] + [NUMBER + unit for unit in UNITS[kind]]).encode("ascii"))
+    for kind, word in WORDS.items()
+}
+BEGINNINGS = tuple(word.encode("ascii") + b"," for word in WORDS.values())
+
+
+def line_of(kind, fields):
+    cells = [WORDS[kind]] + ["%d%s" % cell for cell in zip(fields, UNITS[kind])]
+    return ",".join(cells).encode("ascii") + b"\n"
+
+
+def export_sheet(data, lent=None):
+    """The sheet as text, one record a line, or the first refusal; `lent` is the length of the lent room."""
+    sheet = read(data)
+    if isinstance(sheet, Refusal):
+        return sheet
+    if sheet.kind not in WORDS:
+        return Refusal(2, 0)
+    text = line_of(sheet.kind, sheet.head) + b"".join(line_of(sheet.kind + 1, stream) for stream in sheet.streams)
+    if lent is not None and lent < len(text):
+        return Refusal(13, len(text))
+    return text
+
+
+def record_of_line(line):
+    """The record's bytes, or nothing where the line, given without its end, is not of the form or a number is too big for its bytes."""
+    for kind, form in FORMS.items():
+        match = form.fullmatch(line)
+        if match:
+            numbers = [int(digits) for digits in match.groups()]
+            held = all(number < 256**width for number, width in zip(numbers, WIDTHS[kind]))
+            return record_of(kind, numbers) if held else None
+    return None
+
+
+def sheet_of(text):
+    """The bytes that a text stands for, whatever reading says of them, or 23 at the first line that stands for no record."""
+    # what is behind the last end of a line is a line without one
+    *lines, unended = text.split(b"\n")
+    records = []
+    for number, line in enumerate(lines, start=1):
+        records.append(record_of_line(line))
+        if records[-1] is None:
+            return Refusal(23, number)
+    if unended:
+        return Refusal(23, len(lines) + 1)
+    return b"".join(records)
+
+
+def import_text(text, lent=None):
+    """The bytes of the sheet that a text stands for, or the first refusal; `lent` is the length of the lent room."""
+    data = sheet_of(text)
+    if isinstance(data, Refusal):
+        return data
+    sheet = read(data)
+    if isinstance(sheet, Refusal):
+        return sheet
+    if lent is not None and lent < len(data):
+        return Refusal(13, len(data))
+    return data
+
+
+def sheet_given(given):
+    """The bytes of a sheet that the program is given as text or as bytes, or 23."""
+    return sheet_of(given) if given.startswith(BEGINNINGS) else given
+
+
+def export_given(given):
+    """What `--export` makes of a sheet that it is given as text or as bytes."""
+    data = sheet_given(given)
+    return data if isinstance(data, Refusal) else export_sheet(data)
 
 
 # ---------------------------------------------------------------- P-NET
@@ -443,9 +538,9 @@ FORWARDING_LIMIT = 1_000_000
 
 
 def first_refused(segments):
-    """The first segment, from 1, whose sheet the planner refuses, with that refusal; or nothing."""
+    """The first segment, from 1, whose sheet the planner refuses, with that refusal; or nothing. In the place of a sheet may stand its text's 23."""
     for number, (data, _) in enumerate(segments, start=1):
-        plan = plan_pnet(data)
+        plan = data if isinstance(data, Refusal) else plan_pnet(data)
         if isinstance(plan, Refusal):
             return number, plan
     return None
@@ -489,11 +584,14 @@ def refusal_line(refusal):
         line += " at stream %d" % place
     elif number == 12:
         line += " at variable %d" % place
+    elif number == 23:
+        line += " at line %d" % place
     return line
 
 
-def report_lines(data):
-    sheet = read(data)
+def report_lines(given):
+    data = sheet_given(given)
+    sheet = data if isinstance(data, Refusal) else read(data)
     if isinstance(sheet, Refusal):
         return [refusal_line(sheet)]
 
@@ -538,14 +636,15 @@ def report_lines(data):
     return lines
 
 
-def report(data):
+def report(given):
     """The program's standard output for this sheet, byte for byte."""
-    return "".join(line + "\n" for line in report_lines(data)).encode("ascii")
+    return "".join(line + "\n" for line in report_lines(given)).encode("ascii")
 
 
-def capture_lines(data, capture):
+def capture_lines(given, capture):
+    data = sheet_given(given)
     # a sheet that is accepted beside an empty capture is refused by nothing but the capture
-    sheet = compare_capture(data, b"")
+    sheet = data if isinstance(data, Refusal) else compare_capture(data, b"")
     if isinstance(sheet, Refusal):
         return [refusal_line(sheet)]
     shown = compare_capture(data, capture)
@@ -590,9 +689,9 @@ def capture_findings(data, capture, shown):
     return found
 
 
-def capture_report(data, capture):
+def capture_report(given, capture):
     """The program's standard output for this sheet and this capture, byte for byte."""
-    return "".join(line + "\n" for line in capture_lines(data, capture)).encode("ascii")
+    return "".join(line + "\n" for line in capture_lines(given, capture)).encode("ascii")
 
 
 def status(lines):
@@ -603,6 +702,7 @@ def status(lines):
 
 
 def path_lines(segments, times, deadline):
+    segments = [(sheet_given(given), master) for given, master in segments]
     refused = first_refused(segments)
     if refused:
         number, refusal = refused

@@ -88,6 +88,10 @@ EIGHTY_EACH = [(1, 10)] + [
     (2, y, 200, 1_000_000, 1_000_000) for y in range(1, 11) for _ in range(80)
 ]
 
+EIGHTY_LINES = b"pnet-segment,10\n" + b"".join(
+    b"pnet-stream,%d,200 bp,1000000 bp,1000000 bp\n" % y for y in range(1, 11) for _ in range(80)
+)
+
 PAGE = [
     ("pnet", sheet(*FOUR_MASTERS),
      "R 2000 2000 2000 2000; W 2000 2000 2000 2000; rounds 1 1 1 1"),
@@ -180,6 +184,192 @@ A:1, 05 00000190 06 0011 000003e8:1 | 0 | 1000 | 3 at 0
 A:1, 05 00000190:1 | 0 | 1000 | 6 at 5
 2*0102 020100cb0000270f0000270f 020200cc0000270f0000270f:1 | 0 | 1002 | total 1002
 """
+
+
+# call, for import the text (- for none, and with Python's escapes), for export the sheet in hex, answer: a text, or a sheet in hex
+TEXTS = r"""
+import | pnet-segment,0\nx\n | 23 at 2
+import | pnet-segment,0\n | 4 at 0
+import | - | 1 at 0
+import | \n | 23 at 1
+export | 03 | 1 at 0
+export | 03 01 00000001 00000001 | 6 at 10
+export | 03 01 00000001 00000001 04 01 00000001 000003e8 | 2 at 0
+import | pnet-segment,2\npnet-jitter-stream,1,9 bp,99 bp,9 bp,0 bp\n | 23 at 2
+import | pnet-segment,33\n | 4 at 0
+import | pnet-segment,256\n | 23 at 1
+import | pnet-segment,2\npnet-stream,1,65535 bp,9 bp,9 bp\n | 4 at 2
+import | pnet-segment,2\npnet-stream,1,65536 bp,9 bp,9 bp\n | 23 at 2
+import | pnet-segment,00\n | 23 at 1
+import | pnet-segment,2\npnet-stream,1,9 bp,999 bp,999 bp | 23 at 2
+import | x\npnet-stream,1,9 bp,999 bp,999 bp | 23 at 1
+export | 0101 020100cb000003e8000003e8 | pnet-segment,1\npnet-stream,1,203 bp,1000 bp,1000 bp\n
+import | pnet-segment,1\npnet-stream,1,203 bp,1000 bp,1000 bp\n | 0101020100cb000003e8000003e8
+export | 05 00000190 06 0000 000003e8 06 ffff 3b9aca00 | worldfip-exchange,400 us\nworldfip-variable,0,1000 us\nworldfip-variable,65535,1000000000 us\n
+import | worldfip-exchange,400 us\nworldfip-variable,0,1000 us\nworldfip-variable,65535,1000000000 us\n | 0500000190060000000003e806ffff3b9aca00
+export | - | 1 at 0
+export | 07 | 2 at 0
+export | 0104 04 | 3 at 2
+export | 0121 | 4 at 0
+export | 03 21 00000001 00000001 | 4 at 0
+export | 0500000190 060011000003e8 060011000003e8 | 7 at 12
+export | 0104 | 6 at 2
+import | pnet-stream,1,203 bp,1000 bp,1000 bp\n | 3 at 0
+import | profibus-stream,1,400 bp,8400 bp\n | 3 at 0
+import | worldfip-variable,17,1000 us\n | 3 at 0
+import | pnet-segment,4\nprofibus-stream,1,400 bp,8400 bp\n | 3 at 2
+import | pnet-segment,4\npnet-stream,1,203 bp,1000 bp,1000 bp\npnet-segment,4\n | 3 at 14
+import | worldfip-exchange,400 us\npnet-stream,1,203 bp,1000 bp,1000 bp\n | 3 at 5
+import | pnet-segment,0\npnet-segment,0\n | 4 at 0
+import | pnet-segment,255\n | 4 at 0
+import | pnet-segment,4\npnet-stream,0,203 bp,1000 bp,1000 bp\n | 4 at 2
+import | pnet-segment,4\npnet-stream,5,203 bp,1000 bp,1000 bp\n | 4 at 2
+import | pnet-segment,4\npnet-stream,1,203 bp,1000 bp,1001 bp\n | 4 at 2
+import | pnet-segment,4\npnet-stream,1,203 bp,4294967295 bp,4294967295 bp\n | 4 at 2
+import | pnet-segment,4\npnet-stream,1,203 bp,4294967296 bp,1000 bp\n | 23 at 2
+import | worldfip-exchange,0 us\n | 4 at 0
+import | worldfip-exchange,4294967295 us\n | 4 at 0
+import | worldfip-exchange,4294967296 us\n | 23 at 1
+import | worldfip-exchange,400 us\nworldfip-variable,65536,1000 us\n | 23 at 2
+import | worldfip-exchange,400 us\nworldfip-variable,17,0 us\n | 4 at 5
+import | pnet-segment,4\n | 6 at 2
+import | worldfip-exchange,400 us\n | 6 at 5
+import | worldfip-exchange,400 us\nworldfip-variable,17,1000 us\nworldfip-variable,17,2000 us\n | 7 at 12
+import | worldfip-exchange,400 us\nworldfip-variable,17,1000 us\nworldfip-variable,17,0 us\n | 4 at 12
+import | \xef\xbb\xbfpnet-segment,1\npnet-stream,1,203 bp,1000 bp,1000 bp\n | 23 at 1
+import | pnet-segment,1\npnet-stream,1,203 bp,1000 bp,1000 bp\n\n | 23 at 3
+import | pnet-segment,1\npnet-stream,1,203 bp,1000 bp,1000 bp\n\x20 | 23 at 3
+import | pnet-segment,1\npnet-stream,1,203 bp,1000 bp,1000 bp\n\0 | 23 at 3
+import | pnet-segment,1\rpnet-stream,1,203 bp,1000 bp,1000 bp\r | 23 at 1
+import | pnet-segment | 23 at 1
+"""
+
+# lines that are not of the form, most of them but for one slip
+HEAD_LINE = b"pnet-segment,2\n"
+GOOD_LINE = b"pnet-stream,1,203 bp,1000 bp,1000 bp\n"
+SLIPS = r"""
+pnet-stream,01,203 bp,1000 bp,1000 bp
+pnet-stream,1,0203 bp,1000 bp,1000 bp
+pnet-stream,1,203 bp,1000 bp,00 bp
+pnet-stream,1,203 bp,1000 bp,0000000000000001 bp
+\x20pnet-stream,1,203 bp,1000 bp,1000 bp
+pnet-stream ,1,203 bp,1000 bp,1000 bp
+pnet-stream, 1,203 bp,1000 bp,1000 bp
+pnet-stream,1 ,203 bp,1000 bp,1000 bp
+pnet-stream,1,203 bp ,1000 bp,1000 bp
+pnet-stream,1,203  bp,1000 bp,1000 bp
+pnet-stream,1,2 03 bp,1000 bp,1000 bp
+pnet-stream,1,203 bp,1000 bp,1000 bp\x20
+pnet-stream,1,203 bp,1000 bp,1000 bp\t
+pnet-stream,1,203\tbp,1000 bp,1000 bp
+pnet-stream\t1\t203 bp\t1000 bp\t1000 bp
+pnet-stream,1,203\xa0bp,1000 bp,1000 bp
+pnet-stream,1,203 bp,1000 bp,1000 bp\r
+pnet-stream,1,203 bp,1000 bp,1000 bp\0
+pnet-stream,1,203 bp,1000 bp,1000
+pnet-stream,1,203,1000 bp,1000 bp
+pnet-stream,1,203,1000,1000
+pnet-stream,1,203 ,1000 bp,1000 bp
+pnet-stream,1,203 us,1000 bp,1000 bp
+pnet-stream,1,203 bp,1000 bp,1000 us
+pnet-stream,1,203 bp,1000 bp,1000 ns
+pnet-stream,1,203 BP,1000 bp,1000 bp
+pnet-stream,1,203 b,1000 bp,1000 bp
+pnet-stream,1,203 bpp,1000 bp,1000 bp
+pnet-stream,1,203bp,1000 bp,1000 bp
+pnet-stream,1,bp 203,1000 bp,1000 bp
+pnet-stream,1 bp,203 bp,1000 bp,1000 bp
+pnet-stream,M01,203 bp,1000 bp,1000 bp
+worldfip-variable,17 us,1000 us
+worldfip-variable,17,1000 bp
+worldfip-variable,17,1000
+worldfip-exchange,400
+worldfip-exchange,400 bp
+profibus-stream,1,400 us,8400 bp
+profibus-stream,1,400 bp,8400
+pnet-segment,4 bp
+"pnet-stream",1,203 bp,1000 bp,1000 bp
+pnet-stream,1,"203 bp",1000 bp,1000 bp
+"pnet-stream,1,203 bp,1000 bp,1000 bp"
+pnet-stream;1;203 bp;1000 bp;1000 bp
+pnet-stream,1;203 bp,1000 bp,1000 bp
+pnet-stream,1,203 bp,1000 bp,1000 bp,
+pnet-stream,1,203 bp,1000 bp,1000 bp,,
+pnet-stream,1,203 bp,1000 bp,1000 bp;
+,pnet-stream,1,203 bp,1000 bp,1000 bp
+pnet-stream,,1,203 bp,1000 bp,1000 bp
+pnet-stream,1,203 bp,1000 bp,1000 bp,0 bp
+pnet-stream,1,203 bp,1000 bp
+pnet-stream,1,203 bp,,1000 bp
+pnet-stream,1,203 bp, bp,1000 bp
+pnet-stream,,203 bp,1000 bp,1000 bp
+pnet-stream,
+pnet-stream
+pnet-segment,
+pnet-segment,1,1
+profibus-stream,1,400 bp,8400 bp,9 bp
+worldfip-variable,17,1000 us,400 us
+PNET-STREAM,1,203 bp,1000 bp,1000 bp
+Pnet-stream,1,203 bp,1000 bp,1000 bp
+pnet_stream,1,203 bp,1000 bp,1000 bp
+pnet-strea,1,203 bp,1000 bp,1000 bp
+pnet-streams,1,203 bp,1000 bp,1000 bp
+pnet-segment,1,203 bp,1000 bp,1000 bp
+2,1,203 bp,1000 bp,1000 bp
+\xef\xbb\xbfpnet-stream,1,203 bp,1000 bp,1000 bp
+pnet-stream,+1,203 bp,1000 bp,1000 bp
+pnet-stream,-1,203 bp,1000 bp,1000 bp
+pnet-stream,1,-0 bp,1000 bp,1000 bp
+pnet-stream,1,203.0 bp,1000 bp,1000 bp
+pnet-stream,1,203 bp,1e3 bp,1000 bp
+pnet-stream,1,0xcb bp,1000 bp,1000 bp
+pnet-stream,1,203 bp,1,000 bp,1000 bp
+pnet-stream,1,203 bp,1_000 bp,1000 bp
+pnet-stream,1,203 bp,1'000 bp,1000 bp
+pnet-stream,\xd9\xa1,203 bp,1000 bp,1000 bp
+pnet-stream,\xef\xbc\x91,203 bp,1000 bp,1000 bp
+pnet-stream,256,203 bp,1000 bp,1000 bp
+pnet-stream,257,203 bp,1000 bp,1000 bp
+pnet-stream,1,65536 bp,1000 bp,1000 bp
+pnet-stream,1,203 bp,1000 bp,4294967296 bp
+pnet-stream,1,203 bp,4294968296 bp,1000 bp
+pnet-stream,1,203 bp,9999999999 bp,1000 bp
+pnet-stream,1,203 bp,18446744073709552616 bp,1000 bp
+pnet-segment,256
+pnet-segment,300
+profibus-stream,256,400 bp,8400 bp
+profibus-stream,1,4294967296 bp,8400 bp
+worldfip-exchange,4294967296 us
+worldfip-variable,65536,1000 us
+worldfip-variable,17,4294967296 us
+profibus-ring,3,300 bp,500 bp
+profibus-ring,3,300 bp
+profibus-message,1,500 bp
+pnet-edition,2
+pnet-jitter-stream,1,203 bp,1000 bp,900 bp,0 bp
+#
+x
+
+"""
+
+
+def unescaped(text):
+    """A text as it stands in a case line."""
+    return b"" if text == "-" else text.encode("ascii").decode("unicode_escape").encode("latin-1")
+
+
+def slips():
+    """Each line that is not of the form, with its end."""
+    for line in SLIPS[1:].split("\n")[:-1]:
+        yield "the line %s" % line, unescaped(line) + b"\n"
+
+
+def text_case(line):
+    """A line's call, its input and its answer."""
+    name, given, expected = [part.strip() for part in line.split("|")]
+    if name == "import":
+        return name, unescaped(given), expected
+    return name, bytes.fromhex(given.replace("-", "")), unescaped(expected).decode("ascii")
 
 
 def repeated(text):
@@ -309,6 +499,58 @@ PROSE = [
      lambda: opinion.path_report([(sheet(*TWO_MASTERS), 1), (sheet(*TWO_MASTERS), 3)], [0], 1), "refused 18 at segment 2\n"),
     ("a deadline that is missed",
      lambda: opinion.path_report([(sheet(*TWO_MASTERS), 1)] * 2, [0], 1_999), "refused 19\n"),
+    ("room for the text",
+     lambda: opinion.export_sheet(sheet((1, 1), (2, 1, 203, 1_000, 1_000)), 52),
+     "pnet-segment,1\npnet-stream,1,203 bp,1000 bp,1000 bp\n"),
+    ("no room for the text", lambda: opinion.export_sheet(sheet((1, 1), (2, 1, 203, 1_000, 1_000)), 51), "13 at 52"),
+    ("2 for kind 3 before 13", lambda: opinion.export_sheet(sheet(*RING), 0), "2 at 0"),
+    ("6 before 13", lambda: opinion.export_sheet(sheet((1, 4)), 0), "6 at 2"),
+    ("room for the sheet", lambda: opinion.import_text(HEAD_LINE + GOOD_LINE, 14).hex(), "0102020100cb000003e8000003e8"),
+    ("no room for the sheet", lambda: opinion.import_text(HEAD_LINE + GOOD_LINE, 13), "13 at 14"),
+    ("6 before 13 on import", lambda: opinion.import_text(HEAD_LINE, 0), "6 at 2"),
+    ("23 before 13 on import", lambda: opinion.import_text(HEAD_LINE + b"x\n", 0), "23 at 2"),
+    ("1 before 13 on import", lambda: opinion.import_text(b"", 0), "1 at 0"),
+    ("the 801st line of a stream", lambda: opinion.import_text(EIGHTY_LINES + GOOD_LINE), "5 at 9602"),
+    ("a bad line behind the 801st stream", lambda: opinion.import_text(EIGHTY_LINES + GOOD_LINE * 200 + b"x\n"), "23 at 1002"),
+    ("an unended line behind the 801st stream",
+     lambda: opinion.import_text(EIGHTY_LINES + GOOD_LINE * 200 + GOOD_LINE[:-1]), "23 at 1002"),
+    ("the 81st line of a master",
+     lambda: opinion.import_text(HEAD_LINE + GOOD_LINE * 81 + b"pnet-segment,2\n"), "5 at 962"),
+    ("the 65th line of a variable",
+     lambda: opinion.import_text(b"worldfip-exchange,1 us\n" + b"".join(b"worldfip-variable,%d,9 us\n" % i for i in (*range(64), 0))),
+     "5 at 453"),
+    ("a line of 10,000 digits", lambda: opinion.import_text(HEAD_LINE + b"pnet-stream,%s,9 bp,9 bp,9 bp\n" % (b"1" * 10_000)), "23 at 2"),
+    ("a line of 10,000 blanks", lambda: opinion.import_text(HEAD_LINE + b" " * 10_000 + b"\n"), "23 at 2"),
+    ("a line of 10,000 commas", lambda: opinion.import_text(b"pnet-segment" + b"," * 10_000 + b"\n"), "23 at 1"),
+    ("10,000 bytes without an end", lambda: opinion.import_text(HEAD_LINE + b"x" * 10_000), "23 at 2"),
+    ("the report of a line not of the form", lambda: opinion.report(HEAD_LINE + GOOD_LINE + b"x\n"), "refused 23 at line 3\n"),
+    ("the report of a text that reading refuses", lambda: opinion.report(HEAD_LINE + HEAD_LINE), "refused 3 at byte 2\n"),
+    ("a word and its comma make a text", lambda: opinion.report(b"worldfip-variable,"), "refused 23 at line 1\n"),
+    ("a word alone makes none", lambda: opinion.report(b"worldfip-variable\n"), "refused 2 at byte 0\n"),
+    ("a word with something before it makes none", lambda: opinion.report(b"\xef\xbb\xbf" + HEAD_LINE + GOOD_LINE), "refused 2 at byte 0\n"),
+    ("the word of a kind that is not there makes none", lambda: opinion.report(b"profibus-ring,3,300 bp\n"), "refused 2 at byte 0\n"),
+    ("a text is exported as itself", lambda: opinion.export_given(HEAD_LINE + GOOD_LINE), (HEAD_LINE + GOOD_LINE).decode("ascii")),
+    ("a text with a bad line is not exported", lambda: opinion.export_given(HEAD_LINE + b"\n"), "23 at 2"),
+    ("bytes are not imported", lambda: opinion.import_text(sheet(*TWO_MASTERS)), "23 at 1"),
+    ("a text beside a capture", lambda: opinion.capture_report(HEAD_LINE + GOOD_LINE, events((16, 1, 5), (17, 1, 9))),
+     "P-NET capture\n"
+     "stream 1 M01 bound 260 bp 3385417 ns largest 4 bp 52084 ns 1 answers 0 above 0 open\n"
+     "every answer within its bound\n"),
+    ("a text's 23 before the capture's refusals",
+     lambda: opinion.capture_report(HEAD_LINE + b"x\n", b"\x02"), "refused 23 at line 2\n"),
+    ("a path of a text and of bytes",
+     lambda: opinion.path_report([(HEAD_LINE + GOOD_LINE, 1), (sheet(*TWO_MASTERS), 2)], [5], 770),
+     "P-NET path\n"
+     "segment 1 M01 bound 260 bp\n"
+     "gateway 1 request 5 bp reply 5 bp\n"
+     "segment 2 M02 bound 500 bp\n"
+     "total 770 bp 10026042 ns deadline 770 bp\n"),
+    ("a bad line in a path",
+     lambda: opinion.path_report([(sheet(*TWO_MASTERS), 1), (HEAD_LINE + GOOD_LINE + b"x\n", 2)], [0], 1),
+     "refused 23 at line 3 of segment 2\n"),
+    ("a bad line in a path, behind a refused sheet",
+     lambda: opinion.path_report([(sheet(*FOUR_MASTERS_LATE), 1), (b"pnet-segment,\n", 2)], [0], 1),
+     "refused 8 at stream 5 of segment 1\n"),
     ("unknown kind to the writer", lambda: opinion.write_record(0, 9, 7, ()), "2 at 9"),
     ("a whole record", lambda: opinion.write_record(14, 2, 2, (32, 1_548, 9, 9)),
      "0220060c0000000900000009 then 14"),
@@ -316,9 +558,15 @@ PROSE = [
 ]
 
 
+def in_hex(answer):
+    return answer.hex() if isinstance(answer, bytes) else answer
+
+
 def call(name, *data):
     return {
         "capture": opinion.compare_capture,
+        "export": opinion.export_sheet,
+        "import": lambda text: in_hex(opinion.import_text(text)),
         "read": opinion.read,
         "pnet": opinion.plan_pnet,
         "profibus": opinion.plan_profibus,
@@ -353,7 +601,22 @@ def vectors():
     for line in PATHS.strip().splitlines():
         *path, expected = path_of(line)
         yield line, lambda p=path: opinion.cross_path(*p), expected
+    yield from of_texts()
     yield from PROSE
+
+
+def of_texts():
+    for line in TEXTS.strip().splitlines():
+        name, given, expected = text_case(line)
+        yield line, lambda n=name, g=given: call(n, g), expected
+    for name, line in slips():
+        yield name, lambda l=line: opinion.import_text(HEAD_LINE + l + GOOD_LINE), "23 at 2"
+    for name, data, expected in PAGE:
+        text = opinion.export_sheet(data)
+        if isinstance(text, bytes):
+            yield "back from " + text.decode("ascii"), lambda t=text: call("import", t), data.hex()
+            if name == "report":
+                yield "report of " + text.decode("ascii"), lambda t=text: opinion.report(t), expected
 
 
 def main():
