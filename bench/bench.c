@@ -1,5 +1,5 @@
 /*
- * The time of one plan, the proved planners beside the plain C ones, on sheets and captures made here; and whether the two answer alike.
+ * The time of one plan, the proved planners beside the plain C ones, on sheets, texts and captures made here; and whether the two answer alike.
  *
  * Both are compiled for x86-64 by the same compiler at -O3 and called in the same process. Each figure is the best of
  * many batches, so that a pause of the machine counts for nothing. No buffer is cleared between plans.
@@ -9,6 +9,7 @@
 int printf(const char *form, ...);
 int snprintf(char *to, size_t n, const char *form, ...);
 void *memcpy(void *to, const void *from, size_t n);
+int memcmp(const void *a, const void *b, size_t n);
 struct timespec {
     long seconds;
     long nanoseconds;
@@ -24,6 +25,9 @@ uint64_t planner_worldfip(const uint8_t *s, size_t n, uint64_t *rows, size_t rn,
 uint64_t planner_capture(const uint8_t *s, size_t n, const uint8_t *c, size_t m, uint64_t *answers, size_t an,
                          uint32_t *largest, size_t ln, uint64_t *above, size_t bn, uint8_t *left, size_t on,
                          uint64_t *place);
+/* and sheets as text: the length of what was written, or a refusal as above */
+uint64_t planner_text_of(const uint8_t *s, size_t n, uint8_t *text, size_t room, uint64_t *place);
+uint64_t planner_sheet_of(const uint8_t *text, size_t n, uint8_t *s, size_t room, uint64_t *place);
 
 static uint8_t sheet[16384];
 static size_t length;
@@ -195,6 +199,52 @@ static int their_capture(void)
                          they_saw.above, 800, they_saw.left, 800, &their_place);
 }
 
+static uint8_t text[80000]; /* what is imported */
+static size_t written;
+/* what the two wrote, and how long it is */
+static struct put {
+    uint8_t bytes[80000];
+    uint32_t length;
+} we_put, they_put;
+
+static int our_text(void)
+{
+    uint64_t answer = planner_text_of(sheet, length, we_put.bytes, sizeof we_put.bytes, &our_place);
+    if (answer >> 32 == 0)
+        we_put.length = (uint32_t)answer;
+    return number_of(answer);
+}
+
+static int their_text(void)
+{
+    their_place = 0;
+    return plain_text_of(sheet, length, they_put.bytes, sizeof they_put.bytes, &they_put.length, &their_place);
+}
+
+static int our_sheet(void)
+{
+    uint64_t answer = planner_sheet_of(text, written, we_put.bytes, sizeof we_put.bytes, &our_place);
+    if (answer >> 32 == 0)
+        we_put.length = (uint32_t)answer;
+    return number_of(answer);
+}
+
+static int their_sheet(void)
+{
+    their_place = 0;
+    return plain_sheet_of(text, written, they_put.bytes, sizeof they_put.bytes, &they_put.length, &their_place);
+}
+
+/* the text of the sheet at hand */
+static void text_of_sheet(void)
+{
+    uint32_t size = 0;
+    uint64_t place;
+
+    plain_text_of(sheet, length, text, sizeof text, &size, &place);
+    written = size;
+}
+
 static double now(void)
 {
     struct timespec t;
@@ -247,7 +297,7 @@ static int agree(void)
         if (we_saw.answers[i] != they_saw.answers[i] || we_saw.largest[i] != they_saw.largest[i] ||
             we_saw.above[i] != they_saw.above[i] || we_saw.left[i] != they_saw.left[i])
             return 0;
-    return 1;
+    return we_put.length == they_put.length && memcmp(we_put.bytes, they_put.bytes, sizeof we_put.bytes) == 0;
 }
 
 static int wrong;
@@ -344,6 +394,18 @@ int main(void)
     worldfip_sheet(64, 4096, 100);
     line("WorldFIP, 64 variables, 4096 rows, 100 slots", our_worldfip, their_worldfip);
 
+    printf("\n%-44s %15s %15s %8s\n", "text", "proved", "plain C", "ratio");
+    for (uint32_t streams = 3; streams <= 800; streams += 797) {
+        char name[64];
+
+        pnet_sheet(streams < 800 ? 2 : 20, streams, 100000);
+        text_of_sheet();
+        snprintf(name, sizeof name, "P-NET, %u streams, written as %u bytes", streams, (uint32_t)written);
+        line(name, our_text, their_text);
+        snprintf(name, sizeof name, "P-NET, %u streams, read from %u bytes", streams, (uint32_t)written);
+        line(name, our_sheet, their_sheet);
+    }
+
     printf("\n%-44s %15s %15s %8s %21s\n", "capture", "proved", "plain C", "ratio", "ns a record");
     pnet_sheet(2, 3, 100000);
     capture_of(3, SHORT);
@@ -372,5 +434,13 @@ int main(void)
     capture_of(3, 300);
     spoiled("a sheet beside a capture", sheet, &length, our_capture, their_capture);
     spoiled("a capture of 300 records", capture, &captured, our_capture, their_capture);
+    pnet_sheet(10, 100, 100000);
+    spoiled("a sheet written as text", sheet, &length, our_text, their_text);
+    pnet_sheet(4, 10, 100000);
+    text_of_sheet();
+    spoiled("a text of 11 lines", text, &written, our_sheet, their_sheet);
+    worldfip_sheet(16, 256, 8);
+    text_of_sheet();
+    spoiled("a text of 17 lines", text, &written, our_sheet, their_sheet);
     return wrong;
 }

@@ -4,7 +4,8 @@
 
 Each generated sheet goes to all three planners, and with some captures to the
 fourth, with lent runs that are long enough, just long enough and one place too
-short. A speed comparison with a planner that answers something else, or that
+short; and each is written as text, and each generated text read as a sheet, in
+the same way. A speed comparison with a planner that answers something else, or that
 spoils lent memory, would mean nothing.
 """
 
@@ -22,6 +23,7 @@ sys.dont_write_bytecode = True
 
 import second_opinion as opinion  # noqa: E402
 import sheets  # noqa: E402
+import texts  # noqa: E402
 
 MARK8 = 0xA5
 MARK32 = 0xA5A5A5A5
@@ -128,6 +130,23 @@ def expected_capture(data, capture, lengths):
     return (0, MARK64), runs
 
 
+def ask_exchange(exchange, data, length):
+    """The answer of one that writes bytes into a lent run, and the run with two marked places behind it."""
+    run = (ctypes.c_uint8 * (length + 2))(*[MARK8] * (length + 2))
+    written = ctypes.c_uint32(MARK32)
+    place = ctypes.c_uint64(MARK64)
+    number = exchange(data, size(len(data)), run, size(length), ctypes.byref(written), ctypes.byref(place))
+    return (number, place.value), written.value, bytes(run)
+
+
+def expected_exchange(exchange, data, length):
+    made = exchange(data, length)
+    run = bytes([MARK8]) * (length + 2)
+    if isinstance(made, opinion.Refusal):
+        return tuple(made), MARK32, run
+    return (0, MARK64), len(made), made + run[len(made) :]
+
+
 # ---------------------------------------------------------------- what is asked
 
 
@@ -209,7 +228,24 @@ def worldfip_lengths(data):
         yield 0
 
 
+def exchange_lengths(exchange, data):
+    yield 80_000
+    made = exchange(data)
+    if not isinstance(made, opinion.Refusal):
+        yield len(made)
+        yield len(made) - 1
+
+
+def exchange_differences(library, data):
+    """As the sheet that it may be, and as the text that it may be."""
+    for plain, exchange in ((library.plain_text_of, opinion.export_sheet), (library.plain_sheet_of, opinion.import_text)):
+        for length in exchange_lengths(exchange, data):
+            if ask_exchange(plain, data, length) != expected_exchange(exchange, data, length):
+                yield "%s, run of %d" % (exchange.__name__, length)
+
+
 def differences(library, rng, data):
+    yield from exchange_differences(library, data)
     for lengths in pnet_lengths(data):
         if ask_pnet(library, data, lengths) != expected_pnet(data, lengths):
             yield "P-NET planner, runs of %d, %d and %d" % lengths
@@ -244,7 +280,13 @@ def main():
             if found:
                 differing += 1
                 print("%s: %s\n  %s" % (name, "; ".join(found), data[:2000].hex()))
-    print("compared %d sheets, %d differ" % (compared, differing))
+        for name, data in texts.texts(options["--seed"], options["--count"] // 2):
+            compared += 1
+            found = list(exchange_differences(library, data))
+            if found:
+                differing += 1
+                print("%s: %s\n  %r" % (name, "; ".join(found), data[:2000]))
+    print("compared %d sheets and texts, %d differ" % (compared, differing))
     return 1 if differing else 0
 
 

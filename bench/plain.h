@@ -16,5 +16,9 @@ int plain_worldfip(const uint8_t *s, size_t n, uint64_t *rows, size_t rn, uint32
 int plain_capture(const uint8_t *s, size_t n, const uint8_t *c, size_t m, uint64_t *answers,
                   size_t an, uint32_t *largest, size_t ln, uint64_t *above, size_t bn,
                   uint8_t *left, size_t on, uint64_t *place);
+int plain_text_of(const uint8_t *s, size_t n, uint8_t *text, size_t room, uint32_t *length,
+                  uint64_t *place);
+int plain_sheet_of(const uint8_t *text, size_t n, uint8_t *s, size_t room, uint32_t *length,
+                   uint64_t *place);
 
 #endif

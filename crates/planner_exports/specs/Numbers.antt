@@ -1,4 +1,4 @@
--- A planner's answer as two numbers: a figure where the sheet is accepted, else 2^32 and the refusal's number; and a place. Assumes nothing.
+-- A planner's answer, and that of export and import, as two numbers: a figure where the sheet is accepted, else 2^32 and the refusal's number; and a place. Assumes nothing.
 use Prim.Native.Nat.{ℕ, _+_}
 use Rattle.pnet_plan.specs.declared.answer.Plan as pnet
 use Rattle.pnet_plan.specs.declared.answer.Plan.the-variants as pnetPlan
@@ -6,6 +6,8 @@ use Rattle.profibus_plan.specs.declared.answer.Plan as ring
 use Rattle.profibus_plan.specs.declared.answer.Plan.the-variants as ringPlan
 use Rattle.worldfip_plan.specs.declared.answer.Plan as fip
 use Rattle.worldfip_plan.specs.declared.answer.Plan.the-variants as fipPlan
+use Rattle.sheet_write.specs.declared.Put.{Put}
+use Rattle.sheet_write.specs.declared.Put.the-variants as put
 
 abbrev pub pnetNumber : pnet.Plan → ℕ
 pnetNumber (pnetPlan.Accepted masters streams) = masters
@@ -23,6 +25,11 @@ abbrev pub captureNumber : pnet.Plan → ℕ
 captureNumber (pnetPlan.Accepted masters streams) = streams
 captureNumber (pnetPlan.Refused no' place) = 4294967296 + no'
 
+-- of a text or a sheet that was written, its length
+abbrev pub putNumber : Put → ℕ
+putNumber (put.Next n) = n
+putNumber (put.Refused no' place) = 4294967296 + no'
+
 -- ---- The place: the refusal's, else 0, or the stream that limits a ring; beside a capture it is pnetPlace too
 
 abbrev pub pnetPlace : pnet.Plan → ℕ
@@ -36,3 +43,7 @@ profibusPlace (ringPlan.Refused no' place) = place
 abbrev pub worldfipPlace : fip.Plan → ℕ
 worldfipPlace (fipPlan.Accepted microcycle slots rows) = 0
 worldfipPlace (fipPlan.Refused no' place) = place
+
+abbrev pub putPlace : Put → ℕ
+putPlace (put.Next n) = 0
+putPlace (put.Refused no' place) = place

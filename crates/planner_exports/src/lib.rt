@@ -1,6 +1,6 @@
-// The planners under plain names, for programs in other languages to link. Each answers one number, a figure where the sheet is
-// accepted, else 2^32 and the refusal's number; and a place, in a cell that is lent for it and always set: the refusal's, else 0, or the
-// stream that limits a ring.
+// The planners, and sheets as text, under plain names, for programs in other languages to link. Each answers one number, a figure where
+// the sheet is accepted, else 2^32 and the refusal's number; and a place, in a cell that is lent for it and always set: the refusal's,
+// else 0, or the stream that limits a ring.
 ghost use mathlib.Core.Path.{_≡_};
 ghost use lib.ListN.{length};
 ghost use Rattle.sheet_read.specs.Whole.{reading};
@@ -13,6 +13,8 @@ ghost use Rattle.capture_compare.specs.Compared.{compared, answeredOf, largestO
 ghost use Rattle.pnet_bounds.specs.Bounded.{streamRun};
 ghost use Rattle.planner_exports.specs.Numbers.{pnetNumber, profibusNumber, worldfipNumber, captureNumber};
 ghost use Rattle.planner_exports.specs.Numbers.{pnetPlace, profibusPlace, worldfipPlace};
+ghost use Rattle.sheet_text.specs.Answers.{exportAnswer, exportBytes, importAnswer, importBytes};
+ghost use Rattle.planner_exports.specs.Numbers.{putNumber, putPlace};
 
 const REFUSED: u64 = 4294967296;
 
@@ -106,5 +108,31 @@ pub extern "C" fn planner_capture(
             streams,
         } => told(streams as u64, 0, place),
         pnet_plan::Plan::Refused { no, place: at } => told(REFUSED + no as u64, at, place),
+    }
+}
+
+// The length of a sheet's text, which goes to the run.
+#[no_mangle]
+pub extern "C" fn planner_text_of(s: &[u8], text: &mut [u8], place: &mut u64) -> u64
+    ensures { λ r. ⌜ r ≡ putNumber (exportAnswer (length (now (text .entry))) (now (s .entry))) ⌝ }
+    ensures { λ _. ⌜ now (place .exit) ≡ putPlace (exportAnswer (length (now (text .entry))) (now (s .entry))) ⌝ }
+    ensures { λ _. ⌜ now (text .exit) ≡ exportBytes (now (text .entry)) (now (s .entry)) ⌝ }
+{
+    match sheet_text::export(s, text) {
+        sheet_write::Put::Next(n) => told(n as u64, 0, place),
+        sheet_write::Put::Refused { no, place: at } => told(REFUSED + no as u64, at, place),
+    }
+}
+
+// The length of the sheet that a text stands for, which goes to the run.
+#[no_mangle]
+pub extern "C" fn planner_sheet_of(text: &[u8], s: &mut [u8], place: &mut u64) -> u64
+    ensures { λ r. ⌜ r ≡ putNumber (importAnswer (length (now (s .entry))) (now (text .entry))) ⌝ }
+    ensures { λ _. ⌜ now (place .exit) ≡ putPlace (importAnswer (length (now (s .entry))) (now (text .entry))) ⌝ }
+    ensures { λ _. ⌜ now (s .exit) ≡ importBytes (now (s .entry)) (now (text .entry)) ⌝ }
+{
+    match sheet_text::import(text, s) {
+        sheet_write::Put::Next(n) => told(n as u64, 0, place),
+        sheet_write::Put::Refused { no, place: at } => told(REFUSED + no as u64, at, place),
     }
 }

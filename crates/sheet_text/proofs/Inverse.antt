@@ -192,12 +192,12 @@ module _ (t s : List ℕ) (S : Sheet) (f : StandsFor t s) (e : reading s ≡ Rea
 
 -- ---- When export and import answer a length
 
-record Exportable (s : List ℕ) (room n : ℕ) : Type 0 where
-  sheet : Sheet
-  reads : reading s ≡ Read sheet
-  worded : hasWord (sheet .head .kind) ≡ true
-  is-length : n ≡ length (sheetText sheet)
-  fits : n ≤ room
+pub record Exportable (s : List ℕ) (room n : ℕ) : Type 0 where
+  pub sheet : Sheet
+  pub reads : reading s ≡ Read sheet
+  pub worded : hasWord (sheet .head .kind) ≡ true
+  pub is-length : n ≡ length (sheetText sheet)
+  pub fits : n ≤ room
 
 module _ (room : ℕ) (s : List ℕ) (n : ℕ) where
   export-if : Exportable s room n → exportAnswer room s ≡ put.Next n
@@ -207,7 +207,7 @@ module _ (room : ℕ) (s : List ℕ) (n : ℕ) where
       let v : verdict (exportChecks room (x .sheet)) ≡ Passed = passed-if (and (ap not (x .worded)) (and (le-ltb _ _ fits) no-check)) in
       rw (x .reads, v) (ap put.Next (sym (x .is-length)))
 
-  export-then : exportAnswer room s ≡ put.Next n → Exportable s room n
+  pub export-then : exportAnswer room s ≡ put.Next n → Exportable s room n
   unfolding exportAnswer exportChecks
   export-then e = by (reading s) refl e
     where
@@ -230,13 +230,13 @@ export-front old s n x =
     let v : verdict (exportChecks (length old) (x .sheet)) ≡ Passed = passed-if (and (ap not (x .worded)) (and (le-ltb _ _ fits) no-check)) in
     rw (x .reads, v) (take-at t (drop (length t) old) n (sym (x .is-length)))
 
-record Importable (t : List ℕ) (room n : ℕ) : Type 0 where
-  bytes : List ℕ
-  sheet : Sheet
-  stands : StandsFor t bytes
-  reads : reading bytes ≡ Read sheet
-  is-length : n ≡ length bytes
-  fits : n ≤ room
+pub record Importable (t : List ℕ) (room n : ℕ) : Type 0 where
+  pub bytes : List ℕ
+  pub sheet : Sheet
+  pub stands : StandsFor t bytes
+  pub reads : reading bytes ≡ Read sheet
+  pub is-length : n ≡ length bytes
+  pub fits : n ≤ room
 
 module _ (room : ℕ) (t : List ℕ) (n : ℕ) where
   import-if : Importable t room n → importAnswer room t ≡ put.Next n
@@ -247,7 +247,7 @@ module _ (room : ℕ) (t : List ℕ) (n : ℕ) where
       let v : verdict (check 13 (ltb room m) m ∷ []) ≡ Passed = passed-if (and (le-ltb _ _ fits) no-check) in
       rw (means-if (x .stands), x .reads, v) (ap put.Next (sym (x .is-length)))
 
-  import-then : importAnswer room t ≡ put.Next n → Importable t room n
+  pub import-then : importAnswer room t ≡ put.Next n → Importable t room n
   unfolding importAnswer
   import-then e = by (meaning t) refl e
     where

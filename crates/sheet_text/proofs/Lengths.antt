@@ -1,4 +1,4 @@
--- Page 02, 'Ask 14': how long the text of an accepted sheet is at most. Assumes nothing.
+-- Page 02, 'Ask 14': how long the text of an accepted sheet is at most, and what export and import answer. Assumes nothing.
 use Prim.Native.Nat.{ℕ, suc, _*_, _^_, _≤_, _<_}
 use mathlib.Core.Path.{_≡_, refl, ap}
 use mathlib.Core.List.{List, [], _∷_}
@@ -13,17 +13,19 @@ use Rattle.sheet_record.specs.Widths.{widthAt}
 use Rattle.sheet_record.proofs.Tables.{width-at-most}
 use Rattle.sheet_record.proofs.Fits.{Fit, in-range-fits}
 use Rattle.sheet_record.proofs.Fits.Fit.{none, over, more}
+use Rattle.sheet_write.specs.declared.Put.the-variants as put
 use Rattle.sheet_write.specs.Writing.{greatest}
 use Rattle.sheet_read.specs.Sheets.{Sheet, mostInAll}
 use Rattle.sheet_read.specs.Records.{recordsIn}
 use Rattle.sheet_read.specs.Whole.{reading}
 use Rattle.sheet_read.specs.Whole.Outcome.{Read}
 use Rattle.sheet_read.proofs.Known.{reading-read}
+use Rattle.sheet_read.proofs.Lengths.{length-at-most, longest-sheet-is}
 use Rattle.sheet_line.specs.Lines.{lineText}
 use Rattle.sheet_line.proofs.Lines.{Small, line-most}
 use Rattle.sheet_text.specs.Texts.{textOf}
-use Rattle.sheet_text.specs.Answers.{sheetText, most-text}
-use Rattle.sheet_text.proofs.Inverse.{records-are, ranged-at}
+use Rattle.sheet_text.specs.Answers.{sheetText, most-text, exportAnswer, importAnswer}
+use Rattle.sheet_text.proofs.Inverse.{records-are, ranged-at, export-then, import-then}
 
 pub most-text-is : most-text ≡ 76896
 unfolding most-text mostInAll
@@ -63,3 +65,14 @@ text-at-most s S e =
       reading-read s S e .few,
       most-text-is,
     )
+
+-- the lengths that are answered: no one takes them for a refusal behind 2^32 (planner_exports)
+pub written-at-most : (room : ℕ) (s : List ℕ) (n : ℕ) → exportAnswer room s ≡ put.Next n → n ≤ 76896
+written-at-most room s n e =
+    let x = export-then room s n e in
+    omega (arith, x .is-length, text-at-most s (x .sheet) (x .reads), most-text-is)
+
+pub read-at-most : (room : ℕ) (t : List ℕ) (n : ℕ) → importAnswer room t ≡ put.Next n → n ≤ 9602
+read-at-most room t n e =
+    let x = import-then room t n e in
+    omega (arith, x .is-length, length-at-most (x .bytes) (x .sheet) (x .reads), longest-sheet-is)
