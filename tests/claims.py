@@ -34,10 +34,15 @@ def files_of(crate, name):
     return list(CRATES.glob("%s/*/%s.antt" % (crate, name)))
 
 
+def names_cited(text):
+    """Each crate with what is cited of it: behind its name and a colon, up to the next crate, a semicolon or the item's end."""
+    crates = "|".join(path.name for path in CRATES.iterdir())
+    items = re.sub(r"\n +(?!- )", " ", text)
+    return re.findall(r"(?<![\w`:])(%s): ((?:(?!(?<![\w`:])(?:%s): )[^|;\n])*)" % (crates, crates), items)
+
+
 def missing_names(text):
-    for crate, names in re.findall(r"(?:^|[|;])\s*([a-z_]+): ([^|;]*)", text, re.M):
-        if not (CRATES / crate).is_dir():
-            continue
+    for crate, names in names_cited(text):
         files = []
         for part in re.split(r"[,;] ", names):
             word = part.strip().split(" ")[0].rstrip(".")
