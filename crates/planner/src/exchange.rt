@@ -5,8 +5,8 @@ use crate::output;
 use crate::output::ACCEPTED;
 use crate::output::FAILED;
 use crate::output::REFUSED;
-use crate::output::complain;
-use crate::words::blame;
+use planner_complaints::blame;
+use planner_complaints::complain;
 use sheet_read::Reading;
 use sheet_write::Put;
 

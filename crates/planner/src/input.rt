@@ -1,8 +1,8 @@
 // Opening a file, reading until a buffer is full, and a sheet, which may be given as bytes or as a text.
-use crate::output::complain;
-use crate::output::end_of;
-use crate::slips;
 use crate::words::fail;
+use planner_complaints::complain;
+use planner_complaints::end_of;
+use planner_complaints::slips;
 use sheet_text::Ended;
 use sheet_text::Taken;
 use text::put_word;

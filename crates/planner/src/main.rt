@@ -7,7 +7,6 @@ mod exchange;
 mod help;
 mod input;
 mod output;
-mod slips;
 mod words;
 
 use input::open;
@@ -16,8 +15,8 @@ use libc::STDIN_FILENO;
 use output::ACCEPTED;
 use output::FAILED;
 use output::REFUSED;
-use output::complain;
 use output::unless_cut;
+use planner_complaints::complain;
 use report_sheet::Reported;
 
 // ---- Reports

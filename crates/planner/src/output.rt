@@ -1,9 +1,8 @@
-// What the program writes: a finished text to standard output, complaints to standard error, and how it ended to descriptor 3, as one
-// byte, from which whoever started the program makes an exit status.
-use libc::STDERR_FILENO;
+// What the program writes: a finished text to standard output, and how it ended to descriptor 3, as one byte, from which whoever started the
+// program makes an exit status.
 use libc::STDOUT_FILENO;
-ghost use mathlib.Core.Path.{_≡_};
-ghost use Prim.Native.Nat.{min};
+use planner_complaints::complain;
+use planner_complaints::end_of;
 
 // How a call of the program ends, as the digit that it says.
 pub(crate) const ACCEPTED: u8 = b'0';
@@ -20,17 +19,6 @@ const STATUS_FILENO: i32 = 3;
 pub(crate) fn end(status: u8) {
     let said = [status];
     io::write_all(STATUS_FILENO, &said);
-}
-
-pub(crate) fn complain(words: &[u8]) {
-    io::write_all(STDERR_FILENO, words);
-}
-
-// How many bytes of a text are written, of which the first n are finished.
-pub(crate) fn end_of(length: usize, n: usize) -> usize
-    ensures { λ r. ⌜ r ≡ min n length ⌝ }
-{
-    if n < length { n } else { length }
 }
 
 // Writes the first n bytes of a text, or all where it has fewer, and answers whether all of them went out.

@@ -1,50 +1,10 @@
 // The words that the program was called with, and complaints that show them.
 use crate::help::COMMANDS;
 use crate::output::FAILED;
-use crate::output::complain;
-use crate::output::end_of;
-use crate::output::put_first;
-use libc::STDERR_FILENO;
-use text::put_word;
+use planner_complaints::complain;
+use planner_complaints::show;
 ghost use Prim.Native.Nat.{_≤_, _<_};
 ghost use lib.ListN.{length};
-
-// Four bytes show one, and a word has 4,096 at most.
-const SHOWN: usize = 16_384;
-
-// ---- Showing a word
-
-// A digit of base sixteen.
-fn digit(n: u8) -> u8
-    requires { ⌜ n < 16 ⌝ }
-{
-    if n < 10 { 48 + n } else { 87 + n }
-}
-
-// Whether a terminal may take the byte for something else than a sign to show; those above some number may be signs of a name, and are none of a text.
-fn is_strange(byte: u8, greatest: u8) -> bool {
-    (byte < 32) | (byte == 127) | (byte == b'\\') | (byte > greatest)
-}
-
-fn put_shown(out: &mut [u8], at: usize, byte: u8, greatest: u8) -> usize {
-    if is_strange(byte, greatest) {
-        return put_word(out, at, &[b'\\', b'x', digit(byte / 16), digit(byte % 16)]);
-    }
-    put_word(out, at, &[byte])
-}
-
-// The bytes of a text from a place on to an end, as far as there are, on standard error, strange ones by their numbers.
-pub(crate) fn show(text: &[u8], from: usize, n: usize, greatest: u8) {
-    let mut out = [0u8; SHOWN];
-    let end = end_of(text.len(), n);
-    let mut at: usize = 0;
-    let mut i = from;
-    while i < end {
-        at = put_shown(&mut out, at, text[i], greatest);
-        i += 1;
-    }
-    put_first(STDERR_FILENO, &out, at);
-}
 
 // Says of which input a call failed, and why; `-` is standard input.
 pub(crate) fn fail(name: &[u8]) {
@@ -55,17 +15,6 @@ pub(crate) fn fail(name: &[u8]) {
     }
     show(name, 0, name.len(), 255);
     os::fail(b"");
-}
-
-// Begins a line that says something of an input.
-pub(crate) fn blame(name: &[u8]) {
-    complain(b"planner: ");
-    if check::same(name, b"-") {
-        complain(b"standard input: ");
-        return;
-    }
-    show(name, 0, name.len(), 255);
-    complain(b": ");
 }
 
 // Word i on standard error; of one that is longer than a file's name can be, the first 60 bytes.

@@ -1,8 +1,8 @@
--- `planner::slips::line_of_byte` goes from record to record, each of a byte at least. Assumes nothing.
+-- `planner_complaints::slips::line_of_byte` goes from record to record, each of a byte at least. Assumes nothing.
 use Prim.Native.Nat.{_-_, _≤_}
 use borrow.Author.Needs.{needs}
-use Rattle.planner.proofs.slips.line_of_byte.Statement.{statement}
-use Rattle.planner.proofs.slips.line_of_byte.Tie as tie
+use Rattle.planner_complaints.proofs.slips.line_of_byte.Statement.{statement}
+use Rattle.planner_complaints.proofs.slips.line_of_byte.Tie as tie
 
 abbrev Inv-loop : tie.InvT-loop
 Inv-loop s place line₀ at₀ line at = at ≤ place

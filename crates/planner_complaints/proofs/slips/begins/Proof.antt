@@ -1,10 +1,10 @@
--- `planner::slips::begins` looks within the line. Assumes nothing.
+-- `planner_complaints::slips::begins` looks within the line. Assumes nothing.
 use mathlib.Core.Path.{sym}
 use native.Mathlib.Omega.{arith}
 use lib.Seq.{length-take-le}
 use borrow.Author.Needs.{needs}
-use Rattle.planner.proofs.slips.begins.Statement.{statement}
-use Rattle.planner.proofs.slips.begins.Tie as tie
+use Rattle.planner_complaints.proofs.slips.begins.Statement.{statement}
+use Rattle.planner_complaints.proofs.slips.begins.Tie as tie
 
 returns : tie.Need-returns
 returns c = search needs

@@ -1,24 +1,21 @@
--- `planner::slips::all_shown` looks at one byte after the other. Assumes nothing.
+-- `planner_complaints::slips::behind_commas` looks at one byte after the other. Assumes nothing.
 use Prim.Native.Nat.{_-_, _≤_}
 use lib.ListN.{length}
 use borrow.Author.Needs.{needs}
-use Rattle.planner.proofs.slips.all_shown.Statement.{statement}
-use Rattle.planner.proofs.slips.all_shown.Tie as tie
+use Rattle.planner_complaints.proofs.slips.behind_commas.Statement.{statement}
+use Rattle.planner_complaints.proofs.slips.behind_commas.Tie as tie
 
 abbrev Inv-loop : tie.InvT-loop
-Inv-loop line i₀ i = i ≤ length line
+Inv-loop line from i₀ i = from ≤ i
 
 abbrev μ-loop : tie.MeasureT-loop
-μ-loop line i₀ i = length line - i
+μ-loop line from i₀ i = length line - i
 
 loop-holds : tie.Need-loop-holds Inv-loop μ-loop
 loop-holds c = search needs
 
-shared-slice-read-is-shown : tie.Need-shared-slice-read-is-shown Inv-loop μ-loop
-shared-slice-read-is-shown c = search needs
-
-is-shown-requires : tie.Need-is-shown-requires Inv-loop μ-loop
-is-shown-requires c κs = search needs
+shared-slice-read-if1 : tie.Need-shared-slice-read-if1 Inv-loop μ-loop
+shared-slice-read-if1 c = search needs
 
 returns : tie.Need-returns Inv-loop μ-loop
 returns c = search needs
@@ -35,15 +32,14 @@ loop-again c = search needs
 returns-2 : tie.Need-returns-2 Inv-loop μ-loop
 returns-2 c = search needs
 
-pub all-shown-spec : {M : Type 1} → statement M
-all-shown-spec =
+pub behind-commas-spec : {M : Type 1} → statement M
+behind-commas-spec =
     tie.close
     (tie.spec
     Inv-loop
     μ-loop
     loop-holds
-    shared-slice-read-is-shown
-    is-shown-requires
+    shared-slice-read-if1
     returns
     add-i
     loop-less

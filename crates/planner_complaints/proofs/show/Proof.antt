@@ -1,11 +1,12 @@
--- `planner::words::show` goes over a name byte by byte. Assumes nothing.
+-- `planner_complaints::show` goes over a name byte by byte. Assumes nothing.
 use Prim.Native.Nat.{ℕ, _-_, _≤_}
-use mathlib.Core.Path.{_≡_}
+use mathlib.Core.Path.{_≡_, sym}
 use native.Mathlib.Omega.{arith}
 use lib.ListN.{length, length-replicate}
+use lib.Seq.{length-take-le}
 use borrow.Author.Needs.{needs}
-use Rattle.planner.proofs.words.show.Statement.{statement}
-use Rattle.planner.proofs.words.show.Tie as tie
+use Rattle.planner_complaints.proofs.show.Statement.{statement}
+use Rattle.planner_complaints.proofs.show.Tie as tie
 
 abbrev Inv-loop : tie.InvT-loop
 Inv-loop text from n greatest out₀ end at₀ i₀ out at i = (end ≤ length text) × (length out ≡ 16384)
@@ -37,11 +38,17 @@ loop-less c = search needs
 loop-again : tie.Need-loop-again Inv-loop μ-loop
 loop-again c = search needs
 
-slice-aggregate-put-first : tie.Need-slice-aggregate-put-first Inv-loop μ-loop
-slice-aggregate-put-first c = search needs
+end-of-requires-2 : tie.Need-end-of-requires-2 Inv-loop μ-loop
+end-of-requires-2 c κs = search needs
 
-put-first-requires : tie.Need-put-first-requires Inv-loop μ-loop
-put-first-requires c κs = search needs
+array-share-prefix-out : tie.Need-array-share-prefix-out Inv-loop μ-loop
+array-share-prefix-out c = omega (arith, c .end-of2 .ensures, c .before .before .loop .inv .1)
+
+slice-aggregate-complain : tie.Need-slice-aggregate-complain Inv-loop μ-loop
+slice-aggregate-complain c = sym (length-take-le _ _ (omega (arith, c .before .end-of2 .ensures, c .before .before .before .loop .inv .1)))
+
+complain-requires : tie.Need-complain-requires Inv-loop μ-loop
+complain-requires c κs = search needs
 
 returns : tie.Need-returns Inv-loop μ-loop
 returns c = search needs
@@ -60,6 +67,8 @@ show-spec =
     add-i
     loop-less
     loop-again
-    slice-aggregate-put-first
-    put-first-requires
+    end-of-requires-2
+    array-share-prefix-out
+    slice-aggregate-complain
+    complain-requires
     returns)

@@ -1,10 +1,10 @@
--- `planner::slips::of_bytes` looks at the front of the sheet alone. Assumes nothing.
+-- `planner_complaints::slips::of_bytes` looks at the front of the sheet alone. Assumes nothing.
 use mathlib.Core.Path.{sym}
 use native.Mathlib.Omega.{arith}
 use lib.Seq.{length-take-le}
 use borrow.Author.Needs.{needs}
-use Rattle.planner.proofs.slips.of_bytes.Statement.{statement}
-use Rattle.planner.proofs.slips.of_bytes.Tie as tie
+use Rattle.planner_complaints.proofs.slips.of_bytes.Statement.{statement}
+use Rattle.planner_complaints.proofs.slips.of_bytes.Tie as tie
 
 byte-at-requires : tie.Need-byte-at-requires
 byte-at-requires c κs = search needs

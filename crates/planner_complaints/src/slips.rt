@@ -1,10 +1,9 @@
 // What is wrong with a text that was given as a sheet, for whoever wrote it: where a line stops being that of a record, what stands there, what was wanted,
 // and the likeliest slip. It goes to standard error beside the report, which it does not change.
-use crate::output::complain;
-use crate::output::end_of;
-use crate::words::blame;
-use crate::words::next_line;
-use crate::words::show;
+use crate::blame;
+use crate::complain;
+use crate::end_of;
+use crate::show;
 use libc::STDERR_FILENO;
 use sheet_line::LINE;
 use sheet_line::guess;
@@ -105,16 +104,11 @@ const BYTES: usize = 14;
 const DIGITS: usize = 15;
 
 // Where line k of a list begins.
-fn start_of(list: &[u8], k: usize) -> usize
-    ensures { λ r. ⌜ r ≤ length (now (list .entry)) ⌝ }
-{
+fn start_of(list: &[u8], k: usize) -> usize {
     let mut at: usize = 0;
     let mut i: usize = 1;
     while i < k {
-        if list.len() <= at {
-            return at;
-        }
-        at = next_line(list, at);
+        at = one_more(find(list, at, b'\n'));
         i += 1;
     }
     at
@@ -123,8 +117,8 @@ fn start_of(list: &[u8], k: usize) -> usize
 // Line k of a list, with its end.
 fn say(list: &[u8], k: usize) {
     let start = start_of(list, k);
-    if start < list.len() {
-        let end = next_line(list, start);
+    let end = end_of(list.len(), one_more(find(list, start, b'\n')));
+    if start < end {
         complain(&list[start..end]);
     }
 }
@@ -546,7 +540,7 @@ fn tell_slip(name: &[u8], number: usize, line: &[u8], kind: u8) {
 }
 
 // Says of a line, by its number, why it is not of the form; of a long one its front is enough.
-pub(crate) fn of_line(name: &[u8], number: usize, line: &[u8]) {
+pub fn of_line(name: &[u8], number: usize, line: &[u8]) {
     let kind = kind_in(line);
     if kind == 0 {
         tell_word(name, number, line);
@@ -590,7 +584,7 @@ fn tell_byte(name: &[u8], s: &[u8], place: usize) {
 }
 
 // Says of the sheet that a text stands for, if its reading is refused, which line that is.
-pub(crate) fn of_sheet(name: &[u8], s: &[u8]) {
+pub fn of_sheet(name: &[u8], s: &[u8]) {
     match sheet_read::read(s) {
         Reading::Refused { no: _, place } => tell_byte(name, s, place),
         Reading::Accepted {
@@ -635,7 +629,7 @@ fn tell_first(name: &[u8], line: &[u8]) {
 }
 
 // The same of a sheet that was taken for bytes and begins with no record.
-pub(crate) fn of_bytes(name: &[u8], s: &[u8]) {
+pub fn of_bytes(name: &[u8], s: &[u8]) {
     if known(byte_at(s, 0)) {
         return;
     }

@@ -1,24 +1,27 @@
--- `planner::slips::start_of` goes from line to line. Assumes nothing.
+-- `planner_complaints::slips::behind_digits` looks at one byte after the other. Assumes nothing.
 use Prim.Native.Nat.{_-_, _≤_}
 use lib.ListN.{length}
 use borrow.Author.Needs.{needs}
-use Rattle.planner.proofs.slips.start_of.Statement.{statement}
-use Rattle.planner.proofs.slips.start_of.Tie as tie
+use Rattle.planner_complaints.proofs.slips.behind_digits.Statement.{statement}
+use Rattle.planner_complaints.proofs.slips.behind_digits.Tie as tie
 
 abbrev Inv-loop : tie.InvT-loop
-Inv-loop list k at₀ i₀ at i = at ≤ length list
+Inv-loop line from i₀ i = from ≤ i
 
 abbrev μ-loop : tie.MeasureT-loop
-μ-loop list k at₀ i₀ at i = k - i
+μ-loop line from i₀ i = length line - i
 
 loop-holds : tie.Need-loop-holds Inv-loop μ-loop
 loop-holds c = search needs
 
+shared-slice-read-is-digit : tie.Need-shared-slice-read-is-digit Inv-loop μ-loop
+shared-slice-read-is-digit c = search needs
+
+is-digit-requires : tie.Need-is-digit-requires Inv-loop μ-loop
+is-digit-requires c κs = search needs
+
 returns : tie.Need-returns Inv-loop μ-loop
 returns c = search needs
-
-next-line-requires : tie.Need-next-line-requires Inv-loop μ-loop
-next-line-requires c κs = search needs
 
 add-i : tie.Need-add-i Inv-loop μ-loop
 add-i c = search needs
@@ -32,15 +35,16 @@ loop-again c = search needs
 returns-2 : tie.Need-returns-2 Inv-loop μ-loop
 returns-2 c = search needs
 
-pub start-of-spec : {M : Type 1} → statement M
-start-of-spec =
+pub behind-digits-spec : {M : Type 1} → statement M
+behind-digits-spec =
     tie.close
     (tie.spec
     Inv-loop
     μ-loop
     loop-holds
+    shared-slice-read-is-digit
+    is-digit-requires
     returns
-    next-line-requires
     add-i
     loop-less
     loop-again
