@@ -1,8 +1,13 @@
 // What the program says on standard error of its inputs: bytes that are shown so that no terminal takes them for something else, and what is wrong with a
 // text (`slips`). Nothing here answers anything or changes anything that is lent, but for `end_of`.
+mod advice;
+mod place;
+mod scan;
 pub mod slips;
 
 use libc::STDERR_FILENO;
+use scan::find;
+use scan::one_more;
 use text::put_word;
 ghost use mathlib.Core.Path.{_≡_};
 ghost use Prim.Native.Nat.{_<_, min};
@@ -63,4 +68,26 @@ pub fn blame(name: &[u8]) {
     }
     show(name, 0, name.len(), 255);
     complain(b": ");
+}
+
+// ---- Lists of words, a line for each number from 1 on
+
+// Where line k of a list begins.
+pub(crate) fn start_of(list: &[u8], k: usize) -> usize {
+    let mut at: usize = 0;
+    let mut i: usize = 1;
+    while i < k {
+        at = one_more(find(list, at, b'\n'));
+        i += 1;
+    }
+    at
+}
+
+// Line k of a list, with its end.
+pub(crate) fn say(list: &[u8], k: usize) {
+    let start = start_of(list, k);
+    let end = end_of(list.len(), one_more(find(list, start, b'\n')));
+    if start < end {
+        complain(&list[start..end]);
+    }
 }

@@ -1,20 +1,28 @@
 // What is wrong with a text that was given as a sheet, for whoever wrote it: where a line stops being that of a record, what stands there, what was wanted,
 // and the likeliest slip. It goes to standard error beside the report, which it does not change.
+use crate::advice::advice_on_slip;
+use crate::advice::advice_on_word;
+use crate::advice::advise;
 use crate::blame;
 use crate::complain;
 use crate::end_of;
+use crate::place::cell_at;
+use crate::place::greatest;
+use crate::place::slip_in;
+use crate::say;
+use crate::scan::byte_at;
+use crate::scan::find;
+use crate::scan::is_blank;
+use crate::scan::is_digit;
+use crate::scan::one_more;
 use crate::show;
 use libc::STDERR_FILENO;
 use sheet_line::LINE;
-use sheet_line::guess;
+use sheet_line::begins;
 use sheet_line::kind_in;
-use sheet_line::put_line;
 use sheet_read::Reading;
-use sheet_record::Record;
 use sheet_record::known;
 use sheet_record::record_at;
-ghost use Prim.Native.Nat.{_≤_};
-ghost use lib.ListN.{length};
 
 // ---- Lists of words, a line for each number from 1 on
 
@@ -53,301 +61,6 @@ const CELL: usize = 6;
 const END: usize = 7;
 
 const WORD: usize = 8;
-
-// How the likeliest slips are mended.
-const ADVICE: [u8; 908] =
-    *b"a line ends with LF alone: save with LF line ends, or: tr -d '\\r' < TEXT
-one blank stands between a number and its unit, as in 203 bp
-each time has its unit: bp on P-NET and PROFIBUS, us on WorldFIP
-a cell has no quotation marks: save without them, or: tr -d '\"' < TEXT
-commas stand between cells, no semicolons and no tabs: sed 's/[;\\t]/,/g' TEXT
-a byte order mark is no part of a text: sed '1s/^\\xef\\xbb\\xbf//' TEXT
-no comma follows the last cell; spreadsheets pad rows with them: sed 's/,*$//' TEXT
-a text has no empty line: sed 's/,*$//; /^$/d' TEXT
-a number has no zero in front
-the last line has no end: a newline is missing behind it
-no blank stands before or behind a cell
-words have small letters only
-a PROFIBUS ring of kind 3 has no text form: give that sheet as bytes
-this begins as the bytes of a sheet do, and a text was wanted
-a number is decimal digits alone: no sign, no point, no separator
-";
-
-const CR: usize = 1;
-
-const ONE_BLANK: usize = 2;
-
-const UNIT: usize = 3;
-
-const QUOTES: usize = 4;
-
-const SEPARATORS: usize = 5;
-
-const MARK: usize = 6;
-
-const PADDED: usize = 7;
-
-const EMPTY: usize = 8;
-
-const ZERO: usize = 9;
-
-const UNENDED: usize = 10;
-
-const NO_BLANK: usize = 11;
-
-const SMALL: usize = 12;
-
-const RING: usize = 13;
-
-const BYTES: usize = 14;
-
-const DIGITS: usize = 15;
-
-// Where line k of a list begins.
-fn start_of(list: &[u8], k: usize) -> usize {
-    let mut at: usize = 0;
-    let mut i: usize = 1;
-    while i < k {
-        at = one_more(find(list, at, b'\n'));
-        i += 1;
-    }
-    at
-}
-
-// Line k of a list, with its end.
-fn say(list: &[u8], k: usize) {
-    let start = start_of(list, k);
-    let end = end_of(list.len(), one_more(find(list, start, b'\n')));
-    if start < end {
-        complain(&list[start..end]);
-    }
-}
-
-// ---- The bytes of a line
-
-fn one_more(n: usize) -> usize {
-    if n < 18_446_744_073_709_551_615 {
-        return n + 1;
-    }
-    n
-}
-
-// The byte at a place, 0 where there is none.
-fn byte_at(line: &[u8], at: usize) -> u8 {
-    if at < line.len() { line[at] } else { 0 }
-}
-
-fn is_digit(byte: u8) -> bool {
-    (b'0' <= byte) & (byte <= b'9')
-}
-
-fn is_letter(byte: u8) -> bool {
-    (b'a' <= byte) & (byte <= b'z')
-}
-
-fn is_blank(byte: u8) -> bool {
-    (byte == b' ') | (byte == b'\t')
-}
-
-fn begins(line: &[u8], word: &[u8]) -> bool {
-    let n = word.len();
-    if line.len() < n {
-        return false;
-    }
-    check::same(&line[..n], word)
-}
-
-// The first place from one on where a byte stands, the end if it stands nowhere.
-fn find(line: &[u8], from: usize, byte: u8) -> usize
-    ensures { λ r. ⌜ from ≤ r ⌝ }
-{
-    let mut i = from;
-    while i < line.len() {
-        if line[i] == byte {
-            return i;
-        }
-        i += 1;
-    }
-    i
-}
-
-// The first place from one on where no comma stands.
-fn behind_commas(line: &[u8], from: usize) -> usize {
-    let mut i = from;
-    while i < line.len() {
-        if line[i] != b',' {
-            return i;
-        }
-        i += 1;
-    }
-    i
-}
-
-// The first place from one on where no digit stands.
-fn behind_digits(line: &[u8], from: usize) -> usize
-    ensures { λ r. ⌜ from ≤ r ⌝ }
-{
-    let mut i = from;
-    while i < line.len() {
-        if !is_digit(line[i]) {
-            return i;
-        }
-        i += 1;
-    }
-    i
-}
-
-// There is nothing from a place on but commas.
-fn is_padding(line: &[u8], from: usize) -> bool {
-    let behind = byte_at(line, behind_commas(line, from));
-    (behind == b'\n') | (behind == b'\r') | (behind == 0)
-}
-
-// The first place where two lines differ, or the end of the one that the other goes on behind.
-fn first_difference(a: &[u8], b: &[u8]) -> usize {
-    let mut i: usize = 0;
-    while i < a.len() {
-        if b.len() <= i {
-            return i;
-        }
-        if a[i] != b[i] {
-            return i;
-        }
-        i += 1;
-    }
-    i
-}
-
-// ---- Where the slip is
-
-// The place where a line stops being the one that it can be; the byte that is wanted there, 0 where a number is too big for its field; and whether a
-// number is cut off there, or missing.
-struct Slip {
-    at: usize,
-    wanted: u8,
-    in_number: bool,
-}
-
-// A cell's number, 0 for the word, and the place of its first byte.
-struct Cell {
-    number: usize,
-    start: usize,
-}
-
-// The cell that a place is in.
-fn cell_at(line: &[u8], at: usize) -> Cell {
-    let mut number: usize = 0;
-    let mut start: usize = 0;
-    while start < at {
-        let comma = find(line, start, b',');
-        if at <= comma {
-            return Cell { number, start };
-        }
-        start = comma + 1;
-        number += 1;
-    }
-    Cell { number, start }
-}
-
-// In a line that is a record's own and still not of the form, the first cell with a number too big: of P-NET streams the second, if not the first.
-fn big_cell(line: &[u8], taken: Record) -> usize {
-    let first = one_more(find(line, 0, b','));
-    if (taken.kind == 2) & (taken.a <= 255) {
-        return one_more(find(line, first, b','));
-    }
-    first
-}
-
-// The byte that follows the number of a cell.
-fn behind_number(kind: u8, cell: usize) -> u8 {
-    match kind {
-        1 => b'\n',
-        5 => b' ',
-        _ => { if cell == 1 { b',' } else { b' ' } }
-    }
-}
-
-// The unit of a cell's number, if it has one: masters and identifiers stand first and have none.
-fn say_unit(kind: u8, cell: usize) {
-    if (cell == 1) & (kind != 5) {
-        return;
-    }
-    if kind < 5 {
-        complain(b" bp");
-        return;
-    }
-    complain(b" us");
-}
-
-// A zero stands in front of another digit.
-fn is_zero_led(line: &[u8], start: usize) -> bool {
-    (byte_at(line, start) == b'0') & is_digit(byte_at(line, one_more(start)))
-}
-
-// Where the number of a cell is not the one that all its digits say: none stand in front, or a zero does, or they are too many, or something stands
-// between them.
-fn slip_in_number(line: &[u8], kind: u8, cell: Cell) -> Slip {
-    let start = cell.start;
-    let end = behind_digits(line, start);
-    if (end == start) | is_zero_led(line, start) {
-        return Slip {
-            at: start,
-            wanted: b'0',
-            in_number: true,
-        };
-    }
-    if end - start >= 10 {
-        return Slip {
-            at: start,
-            wanted: 0,
-            in_number: true,
-        };
-    }
-    Slip {
-        at: end,
-        wanted: behind_number(kind, cell.number),
-        in_number: true,
-    }
-}
-
-// A line that begins with a word is held against the line of the only record that it can be that of.
-fn slip_in(line: &[u8], kind: u8) -> Slip {
-    let taken = guess(line);
-    let mut own = [0u8; LINE];
-    let n = put_line(&mut own, 0, taken);
-    let at = first_difference(line, &own);
-    if at == n {
-        return Slip {
-            at: big_cell(line, taken),
-            wanted: 0,
-            in_number: true,
-        };
-    }
-    let wanted = byte_at(&own, at);
-    if is_digit(wanted) | is_digit(byte_at(line, at)) {
-        return slip_in_number(line, kind, cell_at(line, at));
-    }
-    Slip {
-        at,
-        wanted,
-        in_number: false,
-    }
-}
-
-// The greatest number that a cell's field holds.
-fn greatest(kind: u8, cell: usize) -> u64 {
-    if (cell == 2) & (kind == 2) {
-        return 65_535;
-    }
-    if cell != 1 {
-        return 4_294_967_295;
-    }
-    match kind {
-        5 => 4_294_967_295,
-        6 => 65_535,
-        _ => 255,
-    }
-}
 
 // ---- What is wrong
 
@@ -409,99 +122,16 @@ fn tell_form(kind: u8) {
     say(&FORMS, kind as usize);
 }
 
-fn advise(k: usize) {
-    if k > 0 {
-        complain(b"planner: ");
-        say(&ADVICE, k);
+// The unit of a cell's number, if it has one: masters and identifiers stand first and have none.
+fn say_unit(kind: u8, cell: usize) {
+    if (cell == 1) & (kind != 5) {
+        return;
     }
-}
-
-// ---- The likeliest slip, by its number in the list, 0 for none
-
-// At the front of a line that does not begin with a word and a comma.
-fn advice_on_word(line: &[u8]) -> usize {
-    let first = byte_at(line, 0);
-    if begins(line, b"\xef\xbb\xbf") {
-        return MARK;
+    if kind < 5 {
+        complain(b" bp");
+        return;
     }
-    if first == b'"' {
-        return QUOTES;
-    }
-    if is_padding(line, 0) {
-        return EMPTY;
-    }
-    if is_blank(first) {
-        return NO_BLANK;
-    }
-    if known(first) {
-        return BYTES;
-    }
-    advice_on_letters(line, first)
-}
-
-fn advice_on_letters(line: &[u8], first: u8) -> usize {
-    if begins(line, b"profibus-ring") {
-        return RING;
-    }
-    let comma = find(line, 0, b',');
-    if (find(line, 0, b';') < comma) | (find(line, 0, b'\t') < comma) {
-        return SEPARATORS;
-    }
-    if (b'A' <= first) & (first <= b'Z') {
-        return SMALL;
-    }
-    0
-}
-
-fn is_unit(wanted: u8) -> bool {
-    (wanted == b' ') | is_letter(wanted)
-}
-
-// Where a cell or the line ends.
-fn advice_on_end(line: &[u8], slip: Slip) -> usize {
-    if is_unit(slip.wanted) {
-        return UNIT;
-    }
-    if (slip.wanted == b'\n') & is_padding(line, slip.at) {
-        return PADDED;
-    }
-    0
-}
-
-// Where neither ends.
-fn advice_on_cell(slip: Slip, byte: u8) -> usize {
-    let wanted = slip.wanted;
-    if is_blank(byte) {
-        return if is_unit(wanted) { ONE_BLANK } else { NO_BLANK };
-    }
-    if (wanted == b' ') & is_letter(byte) {
-        return ONE_BLANK;
-    }
-    if slip.in_number {
-        return DIGITS;
-    }
-    if is_unit(wanted) {
-        return UNIT;
-    }
-    0
-}
-
-fn advice_on_slip(line: &[u8], slip: Slip) -> usize {
-    let at = slip.at;
-    if line.len() <= at {
-        return UNENDED;
-    }
-    let byte = line[at];
-    if is_digit(byte) {
-        return ZERO;
-    }
-    match byte {
-        b'\r' => CR,
-        b'"' => QUOTES,
-        b';' => SEPARATORS,
-        b',' | b'\n' => advice_on_end(line, slip),
-        _ => advice_on_cell(slip, byte),
-    }
+    complain(b" us");
 }
 
 // ---- A line that is not of the form

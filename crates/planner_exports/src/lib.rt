@@ -111,6 +111,17 @@ pub extern "C" fn planner_capture(
     }
 }
 
+// What writing answered, as a number and a place.
+fn put_told(answer: sheet_write::Put, place: &mut u64) -> u64
+    ensures { λ r. ⌜ r ≡ putNumber answer ⌝ }
+    ensures { λ _. ⌜ now (place .exit) ≡ putPlace answer ⌝ }
+{
+    match answer {
+        sheet_write::Put::Next(n) => told(n as u64, 0, place),
+        sheet_write::Put::Refused { no, place: at } => told(REFUSED + no as u64, at, place),
+    }
+}
+
 // The length of a sheet's text, which goes to the run.
 #[no_mangle]
 pub extern "C" fn planner_text_of(s: &[u8], text: &mut [u8], place: &mut u64) -> u64
@@ -118,10 +129,7 @@ pub extern "C" fn planner_text_of(s: &[u8], text: &mut [u8], place: &mut u64) ->
     ensures { λ _. ⌜ now (place .exit) ≡ putPlace (exportAnswer (length (now (text .entry))) (now (s .entry))) ⌝ }
     ensures { λ _. ⌜ now (text .exit) ≡ exportBytes (now (text .entry)) (now (s .entry)) ⌝ }
 {
-    match sheet_text::export(s, text) {
-        sheet_write::Put::Next(n) => told(n as u64, 0, place),
-        sheet_write::Put::Refused { no, place: at } => told(REFUSED + no as u64, at, place),
-    }
+    put_told(sheet_text::export(s, text), place)
 }
 
 // The length of the sheet that a text stands for, which goes to the run.
@@ -131,8 +139,5 @@ pub extern "C" fn planner_sheet_of(text: &[u8], s: &mut [u8], place: &mut u64) -
     ensures { λ _. ⌜ now (place .exit) ≡ putPlace (importAnswer (length (now (s .entry))) (now (text .entry))) ⌝ }
     ensures { λ _. ⌜ now (s .exit) ≡ importBytes (now (s .entry)) (now (text .entry)) ⌝ }
 {
-    match sheet_text::import(text, s) {
-        sheet_write::Put::Next(n) => told(n as u64, 0, place),
-        sheet_write::Put::Refused { no, place: at } => told(REFUSED + no as u64, at, place),
-    }
+    put_told(sheet_text::import(text, s), place)
 }

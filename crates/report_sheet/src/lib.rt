@@ -11,7 +11,6 @@ ghost use mathlib.Core.Path.{_≡_};
 ghost use mathlib.Core.Bool.{false};
 ghost use Prim.Native.Nat.{_≤_};
 ghost use lib.ListN.{length};
-ghost use Rattle.sheet_read.specs.Lengths.{enough};
 ghost use Rattle.sheet_read.specs.Whole.{reading};
 ghost use Rattle.profibus_plan.specs.Planned.{planOf as ringPlan};
 ghost use Rattle.pnet_plan.specs.Planned.{planned, planOf as segmentPlan};
@@ -22,9 +21,6 @@ ghost use Rattle.report_sheet.specs.Arrays.{masterAt, segmentText};
 ghost use Rattle.report_sheet.specs.Stored.{Reports};
 ghost use Rattle.report_sheet.specs.Whole.{mostText, segmentReport, segmentAccepts, ringReport, ringAccepts, rowAt, tableText, tableReport, tableAccepts, firstBus, reportOf, accepts, answerOf, runOf};
 
-// The first bytes of a sheet decide its report: a buffer of so many serves, however long the sheet is.
-pub const ENOUGH: usize = 9_614;
-
 // No report is longer.
 pub const MOST_TEXT: usize = 1_613_930;
 
@@ -34,13 +30,6 @@ pub enum Reported {
     Accepted(usize),
     Refused(usize),
     NoRoom,
-}
-
-// Room for what decides a report.
-pub fn sheet_buffer() -> [u8; ENOUGH]
-    ensures { λ r. ⌜ Zeros enough r ⌝ }
-{
-    [0; ENOUGH]
 }
 
 // Room for every report.

@@ -8,14 +8,14 @@ use native.Mathlib.Omega.{arith}
 use borrow.Author.Tests.{leb-true, eq-eqb, ne-eqb}
 use lib.Dec.{leb, ltb, eqb, leb·suc-suc}
 use lib.ListN.{length, length-append}
-use Rattle.text.specs.Text.{word, decimal, counted}
+use Rattle.text.specs.Text.{word, decimal, item, counted, texts}
 use Rattle.text.proofs.Lengths.{decimal-most}
 use Rattle.sheet_record.specs.declared.Record.{Record}
 use Rattle.sheet_record.specs.Kinds as table
 use Rattle.sheet_record.specs.Kinds.{Field, kinds, lineOf, fieldsOf, known, numbers}
 use Rattle.sheet_record.specs.Kinds.Unit.{no-unit, bp, us}
 use Rattle.sheet_record.proofs.Tables.{unknown, at-every-line}
-use Rattle.sheet_line.specs.Lines.{unitText, cells, wordOf, hasWord, lineText, inBytes, sayable}
+use Rattle.sheet_line.specs.Lines.{unitText, cells, wordOf, hasWord, lineText, others, lineBy, inBytes, sayable}
 
 -- ---- Which kinds have a word
 
@@ -60,32 +60,38 @@ below-next x n = leb·suc-suc x n
 
 -- ---- The pieces that the code stores, kind by kind
 
+-- past its last number a record has none
+pub past-others : (r : Record) (j : ℕ) → 4 ≤ j → 0 ≡ item (others r) j
+past-others r zero h = absurd (omega arith)
+past-others r (suc zero) h = absurd (omega arith)
+past-others r (suc (suc zero)) h = absurd (omega arith)
+past-others r (suc (suc (suc zero))) h = absurd (omega arith)
+past-others r (suc (suc (suc (suc j)))) h = refl
+
 -- a record's line is that of its kind
 line-of-kind : (k : ℕ) (r : Record) → r .kind ≡ k → lineText r ≡ cond (hasWord k) (wordOf k ++ (cells (fieldsOf k) (numbers r) ++ word "\n")) []
 unfolding lineText
 line-of-kind k r e = ap (λ (n : ℕ). cond (hasWord n) (wordOf n ++ (cells (fieldsOf n) (numbers r) ++ word "\n")) []) e
 
 module _ (r : Record) where
-  pub segment-pieces : r .kind ≡ 1 → lineText r ≡ counted (word "pnet-segment,") (r .a) (word "\n")
-  unfolding counted hasWord wordOf cells fieldsOf lineOf kinds
+  pub segment-pieces : r .kind ≡ 1 → lineText r ≡ lineBy (word "pnet-segment,") r 0 []
+  unfolding lineBy counted texts hasWord wordOf cells fieldsOf lineOf kinds
   segment-pieces e = line-of-kind 1 r e ∙ simp append-assoc
 
-  pub stream-pieces : r .kind ≡ 2 → lineText r
-      ≡ counted (word "pnet-stream,") (r .a) (word ",") ++ (counted [] (r .b) (word " bp,") ++ (counted [] (r .c) (word " bp,") ++ counted [] (r .d) (word " bp\n")))
-  unfolding counted hasWord wordOf cells fieldsOf lineOf kinds
+  pub stream-pieces : r .kind ≡ 2 → lineText r ≡ lineBy (word "pnet-stream,") r 3 (word " bp")
+  unfolding lineBy counted texts hasWord wordOf cells fieldsOf lineOf kinds
   stream-pieces e = line-of-kind 2 r e ∙ simp append-assoc
 
-  pub ring-stream-pieces : r .kind ≡ 4 → lineText r
-      ≡ counted (word "profibus-stream,") (r .a) (word ",") ++ (counted [] (r .b) (word " bp,") ++ counted [] (r .c) (word " bp\n"))
-  unfolding counted hasWord wordOf cells fieldsOf lineOf kinds
+  pub ring-stream-pieces : r .kind ≡ 4 → lineText r ≡ lineBy (word "profibus-stream,") r 2 (word " bp")
+  unfolding lineBy counted texts hasWord wordOf cells fieldsOf lineOf kinds
   ring-stream-pieces e = line-of-kind 4 r e ∙ simp append-assoc
 
   pub exchange-pieces : r .kind ≡ 5 → lineText r ≡ counted (word "worldfip-exchange,") (r .a) (word " us\n")
   unfolding counted hasWord wordOf cells fieldsOf lineOf kinds
   exchange-pieces e = line-of-kind 5 r e ∙ simp append-assoc
 
-  pub variable-pieces : r .kind ≡ 6 → lineText r ≡ counted (word "worldfip-variable,") (r .a) (word ",") ++ counted [] (r .b) (word " us\n")
-  unfolding counted hasWord wordOf cells fieldsOf lineOf kinds
+  pub variable-pieces : r .kind ≡ 6 → lineText r ≡ lineBy (word "worldfip-variable,") r 1 (word " us")
+  unfolding lineBy counted texts hasWord wordOf cells fieldsOf lineOf kinds
   variable-pieces e = line-of-kind 6 r e ∙ simp append-assoc
 
   pub no-line : hasWord (r .kind) ≡ false → lineText r ≡ []

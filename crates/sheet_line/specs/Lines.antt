@@ -5,7 +5,7 @@ use mathlib.Core.List.{List, [], _∷_}
 use mathlib.Core.Bool.{Bool, true, cond, not, _&&_}
 use lib.ListN.{length}
 use lib.Dec.{ltb, eqb}
-use Rattle.text.specs.Text.{word, decimal, _·_}
+use Rattle.text.specs.Text.{word, decimal, item, counted, texts, _·_}
 use Rattle.sheet_record.specs.declared.Record.{Record}
 use Rattle.sheet_record.specs.Kinds.{Unit, Field, lineOf, fieldsOf, numbers}
 use Rattle.sheet_record.specs.Kinds.Unit.{no-unit, bp, us}
@@ -55,3 +55,14 @@ sayable r = hasWord (r .kind) && inBytes (fieldsOf (r .kind)) (numbers r)
 pub record Says (line : List ℕ) (r : Record) : Type 0 where
   pub can-be : sayable r ≡ true
   pub is-line : line ≡ lineText r
+
+-- ---- Words of inner contracts
+
+-- a record's numbers behind the first
+abbrev pub others : Record → List ℕ
+others r = r .b ∷ r .c ∷ r .d ∷ r .e ∷ []
+
+-- the line of a record whose first number has no unit, and n others the unit u, behind a word w with its comma
+unfoldable pub lineBy : List ℕ → Record → ℕ → List ℕ → List ℕ
+unfolding counted texts
+lineBy w r n u = counted w (r .a) [] · texts (λ j. counted (word ",") (item (others r) j) u) n · word "\n"

@@ -4,9 +4,9 @@ use text::put_counted;
 ghost use mathlib.Core.Path.{_≡_};
 ghost use Prim.Native.Nat.{_≤_};
 ghost use lib.ListN.{length, drop};
-ghost use Rattle.text.specs.Text.{Wrote};
+ghost use Rattle.text.specs.Text.{item, Wrote};
 ghost use Rattle.sheet_line.specs.Lines;
-ghost use Rattle.sheet_line.specs.Lines.{hasWord, lineText};
+ghost use Rattle.sheet_line.specs.Lines.{hasWord, lineText, others, lineBy};
 ghost use Rattle.sheet_line.specs.Said;
 ghost use Rattle.sheet_line.specs.Said.{kindIn, numberAt, behindComma, recordIn};
 
@@ -22,31 +22,30 @@ pub fn has_word(kind: u8) -> bool
     (kind != 3) & sheet_record::known(kind)
 }
 
-fn put_stream(out: &mut [u8], at: usize, r: Record) -> usize
-    requires { ⌜ r .kind ≡ 2 ⌝ }
-    ensures { λ next. ⌜ Wrote (now (out .entry)) at (lineText r) (now (out .exit)) next ⌝ }
+// Number j of a record, counted from 0, behind its first.
+fn other(r: Record, j: usize) -> u32
+    ensures { λ x. ⌜ x ≡ item (others r) j ⌝ }
 {
-    let cycle = put_counted(out, at, b"pnet-stream,", r.a as u64, b",");
-    let spacing = put_counted(out, cycle, b"", r.b as u64, b" bp,");
-    let deadline = put_counted(out, spacing, b"", r.c as u64, b" bp,");
-    put_counted(out, deadline, b"", r.d as u64, b" bp\n")
+    match j {
+        0 => r.b,
+        1 => r.c,
+        2 => r.d,
+        3 => r.e,
+        _ => 0,
+    }
 }
 
-fn put_ring_stream(out: &mut [u8], at: usize, r: Record) -> usize
-    requires { ⌜ r .kind ≡ 4 ⌝ }
-    ensures { λ next. ⌜ Wrote (now (out .entry)) at (lineText r) (now (out .exit)) next ⌝ }
+// The line of a record whose first number has no unit, and n others this one, behind a word with its comma.
+fn put_cells(out: &mut [u8], at: usize, name: &[u8], r: Record, n: usize, unit: &[u8]) -> usize
+    ensures { λ next. ⌜ Wrote (now (out .entry)) at (lineBy (now (name .entry)) r n (now (unit .entry))) (now (out .exit)) next ⌝ }
 {
-    let cycle = put_counted(out, at, b"profibus-stream,", r.a as u64, b",");
-    let deadline = put_counted(out, cycle, b"", r.b as u64, b" bp,");
-    put_counted(out, deadline, b"", r.c as u64, b" bp\n")
-}
-
-fn put_variable(out: &mut [u8], at: usize, r: Record) -> usize
-    requires { ⌜ r .kind ≡ 6 ⌝ }
-    ensures { λ next. ⌜ Wrote (now (out .entry)) at (lineText r) (now (out .exit)) next ⌝ }
-{
-    let period = put_counted(out, at, b"worldfip-variable,", r.a as u64, b",");
-    put_counted(out, period, b"", r.b as u64, b" us\n")
+    let mut next = put_counted(out, at, name, r.a as u64, b"");
+    let mut j: usize = 0;
+    while j < n {
+        next = put_counted(out, next, b",", other(r, j) as u64, unit);
+        j += 1;
+    }
+    text::put_word(out, next, b"\n")
 }
 
 // Writes the line of a record from a place on, and answers the place just after it. What does not fit is left out; a record whose kind has no word has no line.
@@ -55,11 +54,11 @@ pub fn put_line(out: &mut [u8], at: usize, r: Record) -> usize
 {
     let kind = r.kind;
     match kind {
-        1 => put_counted(out, at, b"pnet-segment,", r.a as u64, b"\n"),
-        2 => put_stream(out, at, r),
-        4 => put_ring_stream(out, at, r),
+        1 => put_cells(out, at, b"pnet-segment,", r, 0, b""),
+        2 => put_cells(out, at, b"pnet-stream,", r, 3, b" bp"),
+        4 => put_cells(out, at, b"profibus-stream,", r, 2, b" bp"),
         5 => put_counted(out, at, b"worldfip-exchange,", r.a as u64, b" us\n"),
-        6 => put_variable(out, at, r),
+        6 => put_cells(out, at, b"worldfip-variable,", r, 1, b" us"),
         _ => text::put_word(out, at, b""),
     }
 }
@@ -67,7 +66,7 @@ pub fn put_line(out: &mut [u8], at: usize, r: Record) -> usize
 // ---- Reading
 
 // These bytes stand at the front of a line.
-fn begins(line: &[u8], word: &[u8]) -> bool
+pub fn begins(line: &[u8], word: &[u8]) -> bool
     ensures { λ r. ⌜ r ≡ Said.begins (now (word .entry)) (now (line .entry)) ⌝ }
 {
     if line.len() < word.len() {
@@ -155,7 +154,7 @@ pub fn guess(line: &[u8]) -> Record
 }
 
 // A line can say this record: its kind has a word, and each number is in the bytes of its field. All tests are made at once.
-pub fn sayable(r: Record) -> bool
+fn sayable(r: Record) -> bool
     ensures { λ ok. ⌜ ok ≡ Lines.sayable r ⌝ }
 {
     let kind = r.kind;

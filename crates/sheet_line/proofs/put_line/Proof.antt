@@ -1,9 +1,36 @@
 -- `sheet_line::put_line` stores the line of a record, by its kind. Assumes nothing.
 use borrow.Author.Needs.{needs}
 use native.Mathlib.Omega.{arith}
-use Rattle.sheet_line.proofs.Lines.{no-word, segment-pieces, exchange-pieces, no-line}
+use Rattle.sheet_line.proofs.Lines.{no-word, segment-pieces, stream-pieces, ring-stream-pieces, exchange-pieces, variable-pieces, no-line}
 use Rattle.sheet_line.proofs.put_line.Statement.{statement}
 use Rattle.sheet_line.proofs.put_line.Tie as tie
+
+slice-aggregate-put-cells : tie.Need-slice-aggregate-put-cells
+slice-aggregate-put-cells c = search needs
+
+slice-aggregate-put-cells-2 : tie.Need-slice-aggregate-put-cells-2
+slice-aggregate-put-cells-2 c = search needs
+
+put-cells-requires : tie.Need-put-cells-requires
+put-cells-requires c κs = search needs
+
+slice-aggregate-put-cells-3 : tie.Need-slice-aggregate-put-cells-3
+slice-aggregate-put-cells-3 c = search needs
+
+slice-aggregate-put-cells-4 : tie.Need-slice-aggregate-put-cells-4
+slice-aggregate-put-cells-4 c = search needs
+
+put-cells-requires-2 : tie.Need-put-cells-requires-2
+put-cells-requires-2 c κs = search needs
+
+slice-aggregate-put-cells-5 : tie.Need-slice-aggregate-put-cells-5
+slice-aggregate-put-cells-5 c = search needs
+
+slice-aggregate-put-cells-6 : tie.Need-slice-aggregate-put-cells-6
+slice-aggregate-put-cells-6 c = search needs
+
+put-cells-requires-3 : tie.Need-put-cells-requires-3
+put-cells-requires-3 c κs = search needs
 
 slice-aggregate-put-counted : tie.Need-slice-aggregate-put-counted
 slice-aggregate-put-counted c = search needs
@@ -17,26 +44,14 @@ slice-aggregate-put-counted-2 c = search needs
 put-counted-requires : tie.Need-put-counted-requires
 put-counted-requires c κs = search needs
 
-put-stream-requires : tie.Need-put-stream-requires
-put-stream-requires c κs = search needs
+slice-aggregate-put-cells-7 : tie.Need-slice-aggregate-put-cells-7
+slice-aggregate-put-cells-7 c = search needs
 
-put-ring-stream-requires : tie.Need-put-ring-stream-requires
-put-ring-stream-requires c κs = search needs
+slice-aggregate-put-cells-8 : tie.Need-slice-aggregate-put-cells-8
+slice-aggregate-put-cells-8 c = search needs
 
-slice-aggregate-put-counted-3 : tie.Need-slice-aggregate-put-counted-3
-slice-aggregate-put-counted-3 c = search needs
-
-cast-put-counted-2 : tie.Need-cast-put-counted-2
-cast-put-counted-2 c = search needs
-
-slice-aggregate-put-counted-4 : tie.Need-slice-aggregate-put-counted-4
-slice-aggregate-put-counted-4 c = search needs
-
-put-counted-requires-2 : tie.Need-put-counted-requires-2
-put-counted-requires-2 c κs = search needs
-
-put-variable-requires : tie.Need-put-variable-requires
-put-variable-requires c κs = search needs
+put-cells-requires-4 : tie.Need-put-cells-requires-4
+put-cells-requires-4 c κs = search needs
 
 slice-aggregate-put-word : tie.Need-slice-aggregate-put-word
 slice-aggregate-put-word c = search needs
@@ -49,20 +64,24 @@ same-length c = search needs
 
 returns : tie.Need-returns
 returns c =
-    let m = c .before .before .before .before .before .before .before in
-    rw (segment-pieces (m .before .before .args .r) (m .match .keys1)) (c .before .before .put-counted .ensures)
+    let m = c .before .before .before .before .before .before in
+    rw (segment-pieces (m .before .before .args .r) (m .match .keys1)) (c .before .before .put-cells .ensures)
 
 same-length-2 : tie.Need-same-length-2
 same-length-2 c = search needs
 
 returns-2 : tie.Need-returns-2
-returns-2 c = search needs
+returns-2 c =
+    let m = c .before .before .before .before .before .before in
+    rw (stream-pieces (m .before .before .args .r) (m .match .keys2)) (c .before .before .put-cells2 .ensures)
 
 same-length-3 : tie.Need-same-length-3
 same-length-3 c = search needs
 
 returns-3 : tie.Need-returns-3
-returns-3 c = search needs
+returns-3 c =
+    let m = c .before .before .before .before .before .before in
+    rw (ring-stream-pieces (m .before .before .args .r) (m .match .keys3)) (c .before .before .put-cells3 .ensures)
 
 same-length-4 : tie.Need-same-length-4
 same-length-4 c = search needs
@@ -70,13 +89,15 @@ same-length-4 c = search needs
 returns-4 : tie.Need-returns-4
 returns-4 c =
     let m = c .before .before .before .before .before .before .before in
-    rw (exchange-pieces (m .before .before .args .r) (m .match .keys4)) (c .before .before .put-counted2 .ensures)
+    rw (exchange-pieces (m .before .before .args .r) (m .match .keys4)) (c .before .before .put-counted .ensures)
 
 same-length-5 : tie.Need-same-length-5
 same-length-5 c = search needs
 
 returns-5 : tie.Need-returns-5
-returns-5 c = search needs
+returns-5 c =
+    let m = c .before .before .before .before .before .before in
+    rw (variable-pieces (m .before .before .args .r) (m .match .keys5)) (c .before .before .put-cells4 .ensures)
 
 same-length-6 : tie.Need-same-length-6
 same-length-6 c = search needs
@@ -89,7 +110,4 @@ returns-6 c =
 pub put-line-spec : {M : Type 1} → statement M
 put-line-spec =
     tie.close
-    (tie.spec slice-aggregate-put-counted cast-put-counted slice-aggregate-put-counted-2 put-counted-requires put-stream-requires put-ring-stream-requires
-    slice-aggregate-put-counted-3 cast-put-counted-2 slice-aggregate-put-counted-4 put-counted-requires-2 put-variable-requires slice-aggregate-put-word
-    put-word-requires same-length returns same-length-2 returns-2 same-length-3 returns-3 same-length-4 returns-4 same-length-5 returns-5 same-length-6
-    returns-6)
+    (tie.spec slice-aggregate-put-cells slice-aggregate-put-cells-2 put-cells-requires slice-aggregate-put-cells-3 slice-aggregate-put-cells-4 put-cells-requires-2 slice-aggregate-put-cells-5 slice-aggregate-put-cells-6 put-cells-requires-3 slice-aggregate-put-counted cast-put-counted slice-aggregate-put-counted-2 put-counted-requires slice-aggregate-put-cells-7 slice-aggregate-put-cells-8 put-cells-requires-4 slice-aggregate-put-word put-word-requires same-length returns same-length-2 returns-2 same-length-3 returns-3 same-length-4 returns-4 same-length-5 returns-5 same-length-6 returns-6)

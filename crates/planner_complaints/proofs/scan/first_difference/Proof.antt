@@ -1,9 +1,9 @@
--- `planner_complaints::slips::first_difference` looks at one byte after the other. Assumes nothing.
+-- `planner_complaints::scan::first_difference` looks at one byte after the other. Assumes nothing.
 use Prim.Native.Nat.{_-_, _≤_}
 use lib.ListN.{length}
 use borrow.Author.Needs.{needs}
-use Rattle.planner_complaints.proofs.slips.first_difference.Statement.{statement}
-use Rattle.planner_complaints.proofs.slips.first_difference.Tie as tie
+use Rattle.planner_complaints.proofs.scan.first_difference.Statement.{statement}
+use Rattle.planner_complaints.proofs.scan.first_difference.Tie as tie
 
 abbrev Inv-loop : tie.InvT-loop
 Inv-loop a b i₀ i = i ≤ length a

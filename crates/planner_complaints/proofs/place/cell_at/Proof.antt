@@ -1,8 +1,8 @@
--- `planner_complaints::slips::cell_at` goes from comma to comma. Assumes nothing.
+-- `planner_complaints::place::cell_at` goes from comma to comma. Assumes nothing.
 use Prim.Native.Nat.{_-_, _≤_}
 use borrow.Author.Needs.{needs}
-use Rattle.planner_complaints.proofs.slips.cell_at.Statement.{statement}
-use Rattle.planner_complaints.proofs.slips.cell_at.Tie as tie
+use Rattle.planner_complaints.proofs.place.cell_at.Statement.{statement}
+use Rattle.planner_complaints.proofs.place.cell_at.Tie as tie
 
 abbrev Inv-loop : tie.InvT-loop
 Inv-loop line at number₀ start₀ number start = number ≤ start

@@ -1,9 +1,9 @@
--- `planner_complaints::slips::behind_commas` looks at one byte after the other. Assumes nothing.
+-- `planner_complaints::scan::behind_commas` looks at one byte after the other. Assumes nothing.
 use Prim.Native.Nat.{_-_, _≤_}
 use lib.ListN.{length}
 use borrow.Author.Needs.{needs}
-use Rattle.planner_complaints.proofs.slips.behind_commas.Statement.{statement}
-use Rattle.planner_complaints.proofs.slips.behind_commas.Tie as tie
+use Rattle.planner_complaints.proofs.scan.behind_commas.Statement.{statement}
+use Rattle.planner_complaints.proofs.scan.behind_commas.Tie as tie
 
 abbrev Inv-loop : tie.InvT-loop
 Inv-loop line from i₀ i = from ≤ i

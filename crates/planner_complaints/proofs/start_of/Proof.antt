@@ -1,8 +1,8 @@
--- `planner_complaints::slips::start_of` goes from line to line. Assumes nothing.
+-- `planner_complaints::start_of` goes from line to line. Assumes nothing.
 use Prim.Native.Nat.{_-_}
 use borrow.Author.Needs.{needs}
-use Rattle.planner_complaints.proofs.slips.start_of.Statement.{statement}
-use Rattle.planner_complaints.proofs.slips.start_of.Tie as tie
+use Rattle.planner_complaints.proofs.start_of.Statement.{statement}
+use Rattle.planner_complaints.proofs.start_of.Tie as tie
 
 abbrev Inv-loop : tie.InvT-loop
 Inv-loop list k at₀ i₀ at i = Unit {0}
