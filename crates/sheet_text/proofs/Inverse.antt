@@ -39,7 +39,7 @@ use Rattle.sheet_line.proofs.Guessed.{has-word, in-bytes}
 use Rattle.sheet_line.proofs.Laws.{ranged-sayable}
 use Rattle.sheet_text.specs.Texts.{Meaning, textOf, meaning}
 use Rattle.sheet_text.specs.Texts.Meaning.{Stands, Bad}
-use Rattle.sheet_text.specs.Answers.{sheetText, textBy, sheetBy, exportChecks, exportVerdict, exportAnswer, exportBytes, copyVerdict, importVerdict, importAnswer, importBytes}
+use Rattle.sheet_text.specs.Answers.{sheetText, textBy, sheetBy, exportChecks, exportVerdict, exportAnswer, exportBytes, copyVerdict, importVerdict, importAnswer, importBytes, Exports, Imports}
 use Rattle.sheet_text.specs.Refusals.{AllSayable, StandsFor}
 use Rattle.sheet_text.specs.Refusals.AllSayable.{none, more}
 use Rattle.sheet_text.proofs.Meaning.{means-then, means-if}
@@ -289,16 +289,6 @@ unfolding hasWord
 no-head-word k w e = true≢false (sym w ∙ ap hasWord e)
 
 -- ---- The laws of the two calls
-
--- export of the sheet s into the run `old` answers how long its text t is, and t then stands at the front of the run
-pub record Exports (old s t : List ℕ) : Type 0 where
-  pub answer : exportAnswer (length old) s ≡ put.Next (length t)
-  pub text : take (length t) (exportBytes old s) ≡ t
-
--- import of the text t into the run `old` answers how long the sheet s is, and s then stands at the front of the run
-pub record Imports (old t s : List ℕ) : Type 0 where
-  pub answer : importAnswer (length old) t ≡ put.Next (length s)
-  pub sheet : take (length s) (importBytes old t) ≡ s
 
 -- every sheet that reads without refusal and is not of kind 3 is exported, into a run that holds its text
 pub exported : (old s : List ℕ) (S : Sheet) → reading s ≡ Read S → (S .head .kind ≡ 3 → ⊥) → length (sheetText S) ≤ length old → Exports old s (sheetText S)

@@ -3,12 +3,14 @@
 -- with the sheet's length. Assumes nothing.
 use Prim.Native.Nat.{ℕ, suc, _*_}
 use mathlib.Core.List.{List, [], _∷_, _++_}
+use mathlib.Core.Path.{_≡_}
 use mathlib.Core.Bool.{not}
-use lib.ListN.{length, drop}
+use lib.ListN.{length, take, drop}
 use lib.Dec.{ltb}
 use Rattle.common.specs.Checks.{Check, check, Verdict, verdict}
 use Rattle.common.specs.Checks.Verdict.{Refused}
 use Rattle.sheet_write.specs.declared.Put.{Put}
+use Rattle.sheet_write.specs.declared.Put.the-variants as put
 use Rattle.sheet_write.specs.Writing.{putBy, pastedBy}
 use Rattle.sheet_record.specs.Kinds.{pnet}
 use Rattle.sheet_read.specs.Sheets.{Sheet, mostInAll}
@@ -90,3 +92,15 @@ copyAnswer room s = putBy (copyVerdict room (length s) (reading s)) (length s)
 unfoldable pub copyBytes : List ℕ → List ℕ → List ℕ
 unfolding verdict reading
 copyBytes old s = pastedBy (copyVerdict (length old) (length s) (reading s)) (over s old) old
+
+-- ---- What it is that the two are inverse
+
+-- export of the sheet s into the run `old` answers how long its text t is, and t then stands at the front of the run
+pub record Exports (old s t : List ℕ) : Type 0 where
+  pub answer : exportAnswer (length old) s ≡ put.Next (length t)
+  pub text : take (length t) (exportBytes old s) ≡ t
+
+-- import of the text t into the run `old` answers how long the sheet s is, and s then stands at the front of the run
+pub record Imports (old t s : List ℕ) : Type 0 where
+  pub answer : importAnswer (length old) t ≡ put.Next (length s)
+  pub sheet : take (length s) (importBytes old t) ≡ s
