@@ -29,7 +29,8 @@ stream-ranged g r its e =
       spacing-from = w .spacing .least;
       spacing-to = w .spacing .most;
       deadline-from = w .deadline .least;
-      deadline-to = w .deadline .most;
+      deadline-to = omega (arith, w .deadline .most, w .no-e);
+      jitter-to = omega (arith, w .spacing .least, w .no-e);
     }
 
 -- s is what reading counted

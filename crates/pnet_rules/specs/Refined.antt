@@ -1,4 +1,4 @@
--- Page 01, 'P-NET bounds', the refined figure, with the count of page 02, Ask 2: W and its rounds. Assumes nothing.
+-- Page 01, 'P-NET bounds', the refined figure, with the count of page 02, Asks 2 and 7: W and its rounds. Assumes nothing.
 use Prim.Native.Nat.{ℕ, zero, suc, _+_, _-_, _*_, min}
 use mathlib.Core.Bool.{Bool, cond}
 use lib.Dec.{eqb}
@@ -38,11 +38,11 @@ mostRounds S k = 1 + (S .masters - 1) * count S k
 
 -- ---- The planner's count and charge
 
--- a(y): the sum over y's streams of (W + R(y))/T rounded up, R by the charge h. Page 01 has W/T. Page 02, Ask 2, adds R(y), since a
--- request of y may have waited that long when the window opens; it stands over page 01.
+-- a(y): the sum over y's streams of (W + R(y) + J)/T rounded up, R by the charge h. Page 01 has W/T. Page 02 stands over it: Ask 2 adds R(y),
+-- since a request of y may have waited that long when the window opens; Ask 7 adds J, since its nominal time may lie that far back.
 unfoldable pub askedBy : (ℕ → ℕ) → Segment → ℕ → ℕ → ℕ
 unfolding upto owns up boundBy
-askedBy h S y w = upto (λ i. when (owns S y i) (up (w + boundBy h S y) (S .stream i .spacing))) (S .number)
+askedBy h S y w = upto (λ i. when (owns S y i) (up (w + boundBy h S y + S .stream i .jitter) (S .stream i .spacing))) (S .number)
 
 -- the right side for W of master k
 unfoldable pub right : Segment → ℕ → ℕ → ℕ

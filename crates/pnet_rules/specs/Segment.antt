@@ -1,4 +1,4 @@
--- Page 01, 'P-NET bounds': s, H, V, R, and what passes. V is a reserved word of the prover, so it is called `turn` here: the
+-- Page 01, 'P-NET bounds': s, H, V, R, and what passes; page 02, Ask 7, adds J to a stream. V is a reserved word of the prover, so it is called `turn` here: the
 -- longest turn of the token. Assumes nothing.
 use Prim.Native.Nat.{ℕ, _+_, _-_, _*_}
 use mathlib.Core.List.{List}
@@ -14,10 +14,11 @@ use Rattle.sheet_read.specs.Sheets.{Sheet, mastersOf}
 
 pub record Stream : Type 0 where
   pub master : ℕ
-  -- longest cycle C, spacing T and deadline D, in bp
+  -- longest cycle C, spacing T, deadline D and release jitter J, in bp
   pub cycle : ℕ
   pub spacing : ℕ
   pub deadline : ℕ
+  pub jitter : ℕ
 
 -- masters 1..masters, streams 1..number
 pub record Segment : Type 0 where
@@ -25,9 +26,9 @@ pub record Segment : Type 0 where
   pub number : ℕ
   pub stream : ℕ → Stream
 
--- the fields of a P-NET stream's record
+-- the fields of a P-NET stream's record; kind 2 has no fifth, so its J is 0
 abbrev pub streamOf : Record → Stream
-streamOf r = record { master = r .a; cycle = r .b; spacing = r .c; deadline = r .d }
+streamOf r = record { master = r .a; cycle = r .b; spacing = r .c; deadline = r .d; jitter = r .e }
 
 -- stream i of a list of records, counted from 1
 unfoldable pub streamAt : List Record → ℕ → Stream

@@ -1,4 +1,4 @@
--- Demand 3 of the page and what it rests on: spacing that is kept, a request that is answered within a figure, an accepted
+-- Demand 3 of the page and what it rests on: spacing that is kept (page 02, Ask 7), a request that is answered within a figure, an accepted
 -- segment. Assumes nothing.
 use Prim.Native.Nat.{ℕ, _+_, _≤_, _<_}
 use mathlib.Core.Path.{_≡_}
@@ -11,15 +11,25 @@ use Rattle.pnet_run.specs.Run.{Belongs, Request, request, Answer, answer
 
 -- ---- Spacing
 
--- the arrivals of stream i are at least d apart; the latest is first
+-- 'each arrival is 0 to J after a nominal time of its own, and a stream's nominal times are at least T apart' (page 02, Ask 7), for the requests of
+-- stream i among those that came. A nominal time may lie before the run's start; so each is told by the instant J behind it, a plain number:
+-- an arrival is at that instant of its own or up to J before it. `due` has these instants, in the order of the requests; nothing is said
+-- of their own order
+pub data Kept (T J i : ℕ) : List Request → List ℕ → Type 0 where
+  quiet : Kept T J i [] []
+  other : {r : Request} {came : List Request} {due : List ℕ} → r .of ≢ i → Kept T J i came due → Kept T J i (r ∷ came) due
+  asks : {r : Request} {came : List Request} {due : List ℕ} (u : ℕ) → r .of ≡ i → r .since ≤ u → u ≤ r .since + J
+      → ((v : ℕ) → List·Memᴰ v due → (u + T ≤ v) ⊎ (v + T ≤ u)) → Kept T J i came due → Kept T J i (r ∷ came) (u ∷ due)
+
+-- each stream of master k keeps its spacing
+abbrev pub Spaced : Segment → ℕ → List Request → Type 0
+Spaced S k came = (i : ℕ) → Belongs S k i → (due : List ℕ) × Kept (S .stream i .spacing) (S .stream i .jitter) i came due
+
+-- the arrivals of stream i are at least d apart; the latest is first. So it is with d = T where J is 0 (proofs/Spacing)
 pub data Apart (d i : ℕ) : List Request → Type 0 where
   none : Apart d i []
   and : {r : Request} {came : List Request} → (r .of ≡ i → (a : ℕ) → List·Memᴰ (request i a) came → a + d ≤ r .since)
       → Apart d i came → Apart d i (r ∷ came)
-
--- each stream of master k keeps its spacing
-abbrev pub Spaced : Segment → ℕ → List Request → Type 0
-Spaced S k came = (i : ℕ) → Belongs S k i → Apart (S .stream i .spacing) i came
 
 -- ---- Answered within a figure
 

@@ -14,7 +14,7 @@ segmentBy n owner cycle =
     record {
       masters = n;
       number = length owner;
-      stream = λ i. record { master = getD owner (i - 1) 0; cycle = getD cycle (i - 1) 0; spacing = 0; deadline = 0 };
+      stream = λ i. record { master = getD owner (i - 1) 0; cycle = getD cycle (i - 1) 0; spacing = 0; deadline = 0; jitter = 0 };
     }
 
 -- there is a run to this instant, with the token at this master, in which each stream has asked once, at 0, and the requests that
