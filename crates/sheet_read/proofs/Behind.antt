@@ -18,8 +18,8 @@ use Rattle.sheet_record.specs.declared.Record.{Record}
 use Rattle.sheet_record.specs.declared.Met.{Met}
 use Rattle.sheet_record.specs.Kinds.{known, sizeOf, decode, inRange, whole, metAt, busOf, isFirst, isStreamOf, streamMet}
 use Rattle.sheet_record.proofs.Records.{stream-same}
-use Rattle.sheet_record.proofs.Parts.{first-kinds, first-bus, pnet-streams, ring-streams}
-use Rattle.sheet_record.proofs.Ranges.{segment-ranges, pnet-stream-ranges, ring-ranges, ring-stream-ranges}
+use Rattle.sheet_record.proofs.Parts.{first-kinds, first-bus, ring-streams}
+use Rattle.sheet_record.proofs.Ranges.{segment-ranges, pnet-master, ring-ranges, ring-stream-ranges}
 use Rattle.sheet_read.specs.Sheets.{Sheet, sheetOf, busIn, given, fits, mostInAll, hasMasters, countOf, overLimit, metBefore}
 use Rattle.sheet_read.specs.Whole.{placeOf, recordsOf, before, firstStream, judge, ended, reading, told, streamsOfMaster, longestOfMaster, byMaster, countsTold, longestsTold, Outcome}
 use Rattle.sheet_read.specs.Whole.Outcome.{Read, Not}
@@ -45,8 +45,7 @@ master-counted h r f i its j other = split (first-kinds (h .kind) f)
 
     split : h .kind ≡ 1 ⊎ h .kind ≡ 3 ⊎ h .kind ≡ 5 → r .a ≤ 32
     split (inl e) =
-        let k = eqb-true (r .kind) 2 (sym (pnet-streams (r .kind)) ∙ bus 1 e) in
-        omega (arith, pnet-stream-ranges (limits-of h) r j k .master .most, segment-ranges no-limits h i e .masters .most)
+        omega (arith, pnet-master (limits-of h) r j (bus 1 e) .most, segment-ranges no-limits h i e .masters .most)
     split (inr (inl e)) =
         let k = eqb-true (r .kind) 4 (sym (ring-streams (r .kind)) ∙ bus 3 e) in
         omega (arith, ring-stream-ranges (limits-of h) r j k .master .most, ring-ranges no-limits h i e .masters .most)
@@ -71,12 +70,6 @@ begun s head first b =
       is-head = b .is-head;
       keeps = rw (behind-first s (passes-then s 0 (b .passed)) .1) (keeps-none (busOf (head .kind)));
     }
-
--- its bus is one of the three
-pub first-bus-kinds : {s : List ℕ} {head : Record} {first bus : ℕ} → Begun s head first → bus ≡ busOf (head .kind) → bus ≡ 1 ⊎ bus ≡ 3 ⊎ bus ≡ 5
-first-bus-kinds {s} {head} b e =
-    let f : isFirst (head .kind) ≡ true = rw (b .is-head) (first-passes s (passes-then s 0 (b .passed))) in
-    rw (e ∙ first-bus (head .kind) f) (first-kinds (head .kind) f)
 
 own-passed : (a b c d : Bool) → ownNo a b c d ≡ 0 → (a ≡ true) × (b ≡ true) × (c ≡ true) × (d ≡ true)
 unfolding ownNo
@@ -173,29 +166,29 @@ module _ {s : List ℕ} {head : Record} {counts longests ids : List ℕ} {n at :
   bus-is = ap (λ (r : Record). busOf (r .kind)) (head-at s n ∙ sym (b .is-head))
 
 -- what the reader holds while it goes: the bus, the limits that the first record sets, and the state
-pub record Reads (s : List ℕ) (head : Record) (bus wanted : ℕ) (g : Given) (counts longests ids : List ℕ) (n at : ℕ) : Type 0 where
+pub record Reads (s : List ℕ) (head : Record) (bus : ℕ) (g : Given) (counts longests ids : List ℕ) (n at : ℕ) : Type 0 where
   pub is-bus : bus ≡ busOf (head .kind)
-  pub is-wanted : (k : ℕ) → isStreamOf bus k ≡ eqb k wanted
   pub is-given : g ≡ limits-of head
   pub behind : Behind s head counts longests ids n at
 
 -- the bus is one of the three
-pub bus-kinds : {s : List ℕ} {head : Record} {bus wanted : ℕ} {g : Given} {counts longests ids : List ℕ} {n at : ℕ} → Reads s head bus wanted g counts longests ids n at
+pub bus-kinds : {s : List ℕ} {head : Record} {bus : ℕ} {g : Given} {counts longests ids : List ℕ} {n at : ℕ} → Reads s head bus g counts longests ids n at
     → bus ≡ 1 ⊎ bus ≡ 3 ⊎ bus ≡ 5
 bus-kinds {head = head} r =
     let f = head-first (r .behind) in
     rw (r .is-bus ∙ first-bus (head .kind) f) (first-kinds (head .kind) f)
 
 -- the reader comes to a record: what it meets, whether that is right and in range, and the refusal of it by itself
-pub record Meets (s : List ℕ) (head : Record) (counts longests ids : List ℕ) (n at bus wanted : ℕ) (g : Given) (met : Met) (ranged : Bool) (own : ℕ) : Type 0 where
-  pub reads : Reads s head bus wanted g counts longests ids n at
+pub record Meets (s : List ℕ) (head : Record) (counts longests ids : List ℕ) (n at bus : ℕ) (g : Given) (met : Met) (right ranged : Bool) (own : ℕ) : Type 0 where
+  pub reads : Reads s head bus g counts longests ids n at
   pub inside : at < length s
+  pub is-right : right ≡ isStreamOf bus (getD s at 0)
   pub is-met : met ≡ streamMet s at bus
   pub is-ranged : ranged ≡ (isStreamOf bus (met .found .kind) && inRange g (met .found))
-  pub is-own : own ≡ ownNo (known (getD s at 0)) (eqb (getD s at 0) wanted) (not (eqb (met .next) at)) ranged
+  pub is-own : own ≡ ownNo (known (getD s at 0)) right (not (eqb (met .next) at)) ranged
 
-module _ {s : List ℕ} {head : Record} {counts longests ids : List ℕ} {n at bus wanted : ℕ} {g : Given} {met : Met} {ranged : Bool} {own : ℕ}
-    (m : Meets s head counts longests ids n at bus wanted g met ranged own) where
+module _ {s : List ℕ} {head : Record} {counts longests ids : List ℕ} {n at bus : ℕ} {g : Given} {met : Met} {right ranged : Bool} {own : ℕ}
+    (m : Meets s head counts longests ids n at bus g met right ranged own) where
   here : placeOf s (suc n) < length s
   here = rw (m .reads .behind .is-at) at (m .inside)
 
@@ -208,7 +201,7 @@ module _ {s : List ℕ} {head : Record} {counts longests ids : List ℕ} {n at b
   own-is : own ≡ ownAt s (suc n)
   unfolding ownAt
   own-is =
-      rw (m .is-own, ← m .reads .is-wanted (getD s at 0), m .is-ranged, m .is-met, m .reads .is-bus, m .reads .is-given, m .reads .behind .is-at, own-met-of s (placeOf s (suc n)), right-is, head-at s n, m .reads .behind .is-head)
+      rw (m .is-own, m .is-right, m .is-ranged, m .is-met, m .reads .is-bus, m .reads .is-given, m .reads .behind .is-at, own-met-of s (placeOf s (suc n)), right-is, head-at s n, m .reads .behind .is-head)
 
   pub refused-own : (own ≡ 0 → ⊥) → answer.Refused own at ≡ told s (reading s)
   refused-own h =
@@ -309,9 +302,9 @@ module _ {s : List ℕ} {head : Record} {counts longests ids : List ℕ} {n at b
           }
 
       pub reads-more : (counts' longests' ids' : List ℕ) → late ≡ 0 → counts' ≡ countsWith counts (met .found)
-          → longests' ≡ longestsWith longests (met .found) → ids' ≡ idsWith ids n (met .found) → Reads s head bus wanted g counts' longests' ids' (n + 1) (met .next)
+          → longests' ≡ longestsWith longests (met .found) → ids' ≡ idsWith ids n (met .found) → Reads s head bus g counts' longests' ids' (n + 1) (met .next)
       reads-more counts' longests' ids' f ec el ei =
-          record { is-bus = m .reads .is-bus; is-wanted = m .reads .is-wanted; is-given = m .reads .is-given; behind = behind-more counts' longests' ids' f ec el ei }
+          record { is-bus = m .reads .is-bus; is-given = m .reads .is-given; behind = behind-more counts' longests' ids' f ec el ei }
 
 -- ---- The end
 

@@ -1,4 +1,4 @@
--- No accepted sheet is longer than 9,602 bytes, and reading looks at the first 9,614 bytes of any sheet only. Assumes nothing.
+-- No accepted sheet is longer than 12,802 bytes, and reading looks at the first 12,818 bytes of any sheet only. Assumes nothing.
 use mathlib.Core.Path.{_≡_, refl, sym, ap, _∙_}
 use mathlib.Core.Bool.{Bool, true, false, cond}
 use mathlib.Core.List.{List, [], _∷_, _++_}
@@ -15,7 +15,7 @@ use Rattle.common.specs.Checks.Verdict.{Refused}
 use Rattle.sheet_record.specs.declared.Record.{Record}
 use Rattle.sheet_record.specs.Kinds.{kinds, lineOf, fieldsOf, widths, sizeOf, busOf, isFirst, isStreamOf, decode}
 use Rattle.sheet_record.proofs.Tables.{size-at-most}
-use Rattle.sheet_record.proofs.Parts.{first-kinds, first-bus, pnet-streams, ring-streams, variables}
+use Rattle.sheet_record.proofs.Parts.{first-kinds, first-bus, ring-streams, variables}
 use Rattle.sheet_write.proofs.Trips.{decode-take, kind-take}
 use Rattle.sheet_read.specs.Sheets.{Sheet, sheetOf, mostInAll}
 use Rattle.sheet_read.specs.Whole.{placeOf, recordsOf, before, recordChecks, judge, reading, told, Outcome}
@@ -27,15 +27,15 @@ use Rattle.sheet_read.proofs.Known.{place-bound, first-record, streams-
 
 -- ---- The constants
 
-pub longest-record-is : longest-record ≡ 12
+pub longest-record-is : longest-record ≡ 16
 unfolding longest-record greatest kinds sizeOf widths fieldsOf lineOf
 longest-record-is = refl
 
-pub longest-sheet-is : longest-sheet ≡ 9602
+pub longest-sheet-is : longest-sheet ≡ 12802
 unfolding longest-sheet longest-record greatest kinds sizeOf widths fieldsOf lineOf mostInAll
 longest-sheet-is = refl
 
-pub enough-is : enough ≡ 9614
+pub enough-is : enough ≡ 12818
 unfolding enough longest-sheet longest-record greatest kinds sizeOf widths fieldsOf lineOf mostInAll
 enough-is = refl
 
@@ -43,7 +43,7 @@ enough-is = refl
 
 -- how long the streams of a bus are
 unfoldable longest-of : ℕ → ℕ
-longest-of bus = cond (eqb bus 1) 12 (cond (eqb bus 3) 10 7)
+longest-of bus = cond (eqb bus 1) 16 (cond (eqb bus 3) 10 7)
 
 stream-size : (h k : ℕ) → isFirst h ≡ true → isStreamOf (busOf h) k ≡ true → sizeOf k ≤ longest-of h
 unfolding longest-of sizeOf widths fieldsOf lineOf kinds
@@ -53,7 +53,7 @@ stream-size h k f its = split (first-kinds h f)
     of b e = rw (first-bus h f, e) at its
 
     split : h ≡ 1 ⊎ h ≡ 3 ⊎ h ≡ 5 → sizeOf k ≤ longest-of h
-    split (inl e) = rw (e, eqb-true k 2 (sym (pnet-streams k) ∙ of 1 e)) (omega arith)
+    split (inl e) = rw e (omega (arith, size-at-most k))
     split (inr (inl e)) = rw (e, eqb-true k 4 (sym (ring-streams k) ∙ of 3 e)) (omega arith)
     split (inr (inr e)) = rw (e, eqb-true k 6 (sym (variables k) ∙ of 5 e)) (omega arith)
 
@@ -164,7 +164,7 @@ module _ (s : List ℕ) (n : ℕ) (short : n ≤ length s) where
       stops-once (take n s)
       (by-record i m p (cut-upto i u (λ j l. h j (omega arith))) (omega (arith, length-take-le n s short, longest-record-is)) (cut-judge i h ∙ e) refl)
 
--- ---- The first 9,614 bytes are enough
+-- ---- The first 12,818 bytes are enough
 
 -- records that reading comes to stand within them, and so does one more
 all-clear : (s : List ℕ) (i : ℕ) → Upto s i → (short : enough ≤ length s) (j : ℕ) → j ≤ i → Clear s enough short j

@@ -1,7 +1,7 @@
 -- Page 01, 'Numbered refusals' 1..7: reading gives a number with a place exactly if the page's table gives it, and accepts a sheet
 -- exactly if the table gives none. Assumes nothing.
 use mathlib.Core.Path.{_≡_, refl, sym, ap, _∙_}
-use mathlib.Core.Bool.{Bool, true, false, not, _&&_, _||_}
+use mathlib.Core.Bool.{Bool, true, false, not, _&&_, _||_, or-false}
 use mathlib.Core.List.{List}
 use mathlib.Core.Logic.{_⊎_, inl, inr, ⊎-elim, _↔_}
 use Prim.Native.Nat.{ℕ, zero, suc, _+_, _≤_, _<_}
@@ -20,7 +20,7 @@ use Rattle.sheet_read.specs.Sheets.{Sheet, sheetOf, busIn, fits, countOf
 use Rattle.sheet_read.specs.Whole.{placeOf, recordsOf, before, firstStream, recordChecks, judge, ended, reading, Outcome}
 use Rattle.sheet_read.specs.Whole.Outcome.{Read, Not}
 use Rattle.sheet_read.specs.Refusals.{recordAt, streamsBefore, KnownKind, RightKind, Complete, Ranged, InLimits, MetBefore, RefusedWith, Taken, Reached, OnlyFirst, Given}
-use Rattle.sheet_read.specs.Refusals.RightKind.{at-first, behind}
+use Rattle.sheet_read.specs.Refusals.RightKind.{at-first, behind, jittered}
 use Rattle.sheet_read.specs.Refusals.RefusedWith.{unknown, misplaced, cut, out-of-range, one-too-many, met-before}
 use Rattle.sheet_read.specs.Refusals.Given.{empty, at-record, no-stream}
 use Rattle.sheet_read.proofs.Walk.{head-at}
@@ -46,17 +46,21 @@ holds : {b : Bool} {P : Type 0} → (b ≡ false → P) → (P → ⊥) → b �
 holds {b = true} h n = refl
 holds {b = false} h n = absurd (n (h refl))
 
--- the streams of a bus match its first record: 2, 4 and 6 behind 1, 3 and 5
-to-match : (h k : ℕ) → isFirst h ≡ true → isStreamOf (busOf h) k ≡ eqb k (h + 1)
+-- a kind matches a first one: 2, 4 and 6 behind 1, 3 and 5, and 7 behind 1
+abbrev matches : ℕ → ℕ → Bool
+matches h k = eqb k (h + 1) || (eqb h 1 && eqb k 7)
+
+-- the streams of a bus match its first record
+to-match : (h k : ℕ) → isFirst h ≡ true → isStreamOf (busOf h) k ≡ matches h k
 to-match h k f = ap (λ (b : ℕ). isStreamOf b k) (first-bus h f) ∙ split (first-kinds h f)
   where
-    split : h ≡ 1 ⊎ h ≡ 3 ⊎ h ≡ 5 → isStreamOf h k ≡ eqb k (h + 1)
+    split : h ≡ 1 ⊎ h ≡ 3 ⊎ h ≡ 5 → isStreamOf h k ≡ matches h k
     split (inl e) = rw e (pnet-streams k)
-    split (inr (inl e)) = rw e (ring-streams k)
-    split (inr (inr e)) = rw e (variables k)
+    split (inr (inl e)) = rw e (ring-streams k ∙ sym (or-false (eqb k 4)))
+    split (inr (inr e)) = rw e (variables k ∙ sym (or-false (eqb k 6)))
 
 -- a later record matches the first
-fits-later : (s : List ℕ) (i : ℕ) → Upto s (suc i) → fits (before s (suc i)) (recordAt s (suc i) .kind) ≡ eqb (recordAt s (suc i) .kind) (recordAt s 0 .kind + 1)
+fits-later : (s : List ℕ) (i : ℕ) → Upto s (suc i) → fits (before s (suc i)) (recordAt s (suc i) .kind) ≡ matches (recordAt s 0 .kind) (recordAt s (suc i) .kind)
 unfolding placeOf
 fits-later s i u =
     let k = recordAt s (suc i) .kind in
@@ -68,7 +72,7 @@ module _ (s : List ℕ) (i : ℕ) where
   known-then e = let b = known-bounds (recordAt s i .kind) e in record { least = b .0; most = b .1 }
 
   known-if : KnownKind s i → known (recordAt s i .kind) ≡ true
-  known-if k = sym (known-within (recordAt s i .kind)) ∙ rw (le-leb 1 (recordAt s i .kind) (k .least), le-leb (recordAt s i .kind) 6 (k .most))
+  known-if k = sym (known-within (recordAt s i .kind)) ∙ rw (le-leb 1 (recordAt s i .kind) (k .least), le-leb (recordAt s i .kind) 7 (k .most))
 
   limits-then : overLimit (streamsBefore s i) (recordAt s i) ≡ false → InLimits s i
   unfolding overLimit
@@ -88,7 +92,7 @@ module _ (s : List ℕ) (i : ℕ) where
       split true h = lt-leb 80 (countOf (recordAt s i .a) (streamsBefore s i)) (l .of-master h)
       split false h = refl
 
--- the buses of three kinds
+-- the buses of four kinds
 six-bus : busOf 6 ≡ 5
 unfolding busOf lineOf kinds
 six-bus = refl
@@ -101,11 +105,25 @@ two-bus : busOf 2 ≡ 1
 unfolding busOf lineOf kinds
 two-bus = refl
 
+seven-bus : busOf 7 ≡ 1
+unfolding busOf lineOf kinds
+seven-bus = refl
+
 module _ (s : List ℕ) where
   right-then : (i : ℕ) → Upto s i → fits (before s i) (recordAt s i .kind) ≡ true → RightKind s i
   unfolding before recordsOf
   right-then zero u e = at-first (first-kinds (recordAt s 0 .kind) (sym (fits-first (recordAt s 0 .kind)) ∙ e))
-  right-then (suc i) u e = behind (eqb-true (recordAt s (suc i) .kind) (recordAt s 0 .kind + 1) (sym (fits-later s i u) ∙ e))
+  right-then (suc i) u e = by (eqb k (h + 1)) refl (sym (fits-later s i u) ∙ e)
+    where
+      h : ℕ
+      h = recordAt s 0 .kind
+
+      k : ℕ
+      k = recordAt s (suc i) .kind
+
+      by : (b : Bool) → eqb k (h + 1) ≡ b → b || (eqb h 1 && eqb k 7) ≡ true → RightKind s (suc i)
+      by true q t = behind (eqb-true k (h + 1) q)
+      by false q t = let w = both-true (eqb h 1) (eqb k 7) t in jittered (eqb-true h 1 (w .0)) (eqb-true k 7 (w .1))
 
   right-if : (i : ℕ) → Upto s i → RightKind s i → fits (before s i) (recordAt s i .kind) ≡ true
   unfolding before recordsOf
@@ -115,7 +133,8 @@ module _ (s : List ℕ) where
       one (inl q) = rw q
       one (inr (inl q)) = rw q
       one (inr (inr q)) = rw q
-  right-if (suc i) u (behind e) = fits-later s i u ∙ eq-eqb (recordAt s (suc i) .kind) (recordAt s 0 .kind + 1) e
+  right-if (suc i) u (behind e) = fits-later s i u ∙ rw (eq-eqb (recordAt s (suc i) .kind) (recordAt s 0 .kind + 1) e)
+  right-if (suc i) u (jittered f e) = fits-later s i u ∙ rw (f, e)
 
   -- stream j of the streams before record n + 1 is record j + 1
   earlier-stream : (n j : ℕ) → Upto s (suc n) → j < n → getD (streamsBefore s (suc n)) j nothing ≡ recordAt s (suc j)
@@ -132,6 +151,7 @@ module _ (s : List ℕ) where
       split (inl q) = let k : recordAt s (suc n) .kind ≡ 2 = rw q at e in absurd (omega (arith, ap busOf k, two-bus))
       split (inr (inl q)) = let k : recordAt s (suc n) .kind ≡ 4 = rw q at e in absurd (omega (arith, ap busOf k, four-bus))
       split (inr (inr q)) = rw q at e
+  variable-there n u (jittered f e) b = absurd (omega (arith, ap busOf e, seven-bus))
 
   met-then : (i : ℕ) → Upto s i → RightKind s i → metBefore (streamsBefore s i) (recordAt s i) ≡ true → MetBefore s i
   unfolding metBefore before sheetOf recordsOf countOf

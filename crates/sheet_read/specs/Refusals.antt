@@ -1,4 +1,4 @@
--- Page 01, 'Numbered refusals' 1..7, in the page's own words: when a number is given, and at which place. Numbers 1..7 alone come
+-- Page 01, 'Numbered refusals' 1..7, in the page's own words, with page 02, Ask 7: when a number is given, and at which place. Numbers 1..7 alone come
 -- from reading; record i is counted from 0, the first record is record 0. Assumes nothing.
 use Prim.Native.Nat.{ℕ, suc, _+_, _≤_, _<_}
 use mathlib.Core.Path.{_≡_}
@@ -21,15 +21,16 @@ recordAt s i = decode s (placeOf s i)
 abbrev pub streamsBefore : List ℕ → ℕ → List Record
 streamsBefore s i = before s i .streams
 
--- its kind is 1..6
+-- its kind is 1..7
 pub record KnownKind (s : List ℕ) (i : ℕ) : Type 0 where
   pub least : 1 ≤ recordAt s i .kind
-  pub most : recordAt s i .kind ≤ 6
+  pub most : recordAt s i .kind ≤ 7
 
--- its kind is right for its position: the first is 1, 3 or 5, all later ones are 2, 4 or 6 to match
+-- its kind is right for its position: the first is 1, 3 or 5, all later ones are 2, 4 or 6 to match, and 7 may stand where 2 may
 pub data RightKind (s : List ℕ) : ℕ → Type 0 where
   at-first : recordAt s 0 .kind ≡ 1 ⊎ (recordAt s 0 .kind ≡ 3 ⊎ recordAt s 0 .kind ≡ 5) → RightKind s 0
   behind : {i : ℕ} → recordAt s (suc i) .kind ≡ recordAt s 0 .kind + 1 → RightKind s (suc i)
+  jittered : {i : ℕ} → recordAt s 0 .kind ≡ 1 → recordAt s (suc i) .kind ≡ 7 → RightKind s (suc i)
 
 -- the sheet does not end inside it
 pub record Complete (s : List ℕ) (i : ℕ) : Type 0 where

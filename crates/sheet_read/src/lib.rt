@@ -1,12 +1,11 @@
-// Reading a whole sheet, page 01 'Sheet records' and 'Numbered refusals' 1..7.
+// Reading a whole sheet, page 01 'Sheet records' and 'Numbered refusals' 1..7, and page 02 'Ask 7'.
 use sheet_record::Given;
 use sheet_record::Met;
 use sheet_record::Record;
 ghost use mathlib.Core.Path.{_≡_};
 ghost use mathlib.Core.Bool.{_&&_};
 ghost use mathlib.Core.Logic.{_⊎_};
-ghost use Prim.Native.Nat.{ℕ, _≤_, max};
-ghost use lib.Dec.{eqb};
+ghost use Prim.Native.Nat.{_≤_, max};
 ghost use Rattle.sheet_record.specs.Kinds.{pnet, profibus, worldfip, known, isStreamOf, inRange, streamMet};
 ghost use Rattle.sheet_read.specs.Steps;
 ghost use Rattle.sheet_read.specs.Steps.{ownNo, lateNo, countsWith, longestsWith, idsWith, Begun};
@@ -111,15 +110,15 @@ fn keep(counts: &mut [u8; 33], longests: &mut [u32; 33], ids: &mut [u32; 64], n:
     }
 }
 
-// The kind of the streams of a bus.
-fn stream_kind(bus: u8) -> u8
+// A stream of a bus is of this kind.
+fn is_stream(bus: u8, kind: u8) -> bool
     requires { ⌜ bus ≡ pnet ⊎ (bus ≡ profibus ⊎ bus ≡ worldfip) ⌝ }
-    ensures { λ r. ⌜ ((k : ℕ) → isStreamOf bus k ≡ eqb k r) ⌝ }
+    ensures { λ r. ⌜ r ≡ isStreamOf bus kind ⌝ }
 {
     match bus {
-        1 => 2,
-        3 => 4,
-        _ => 6,
+        1 => (kind == 2) | (kind == 7),
+        3 => kind == 4,
+        _ => kind == 6,
     }
 }
 
@@ -135,13 +134,23 @@ fn stream_at(s: &[u8], at: usize, bus: u8) -> Met
     }
 }
 
+// A P-NET stream with every field in its range, with release jitter or without.
+fn pnet_in_range(given: Given, r: Record) -> bool
+    ensures { λ ok. ⌜ ok ≡ (isStreamOf pnet (r .kind) && inRange given r) ⌝ }
+{
+    if r.kind == 7 {
+        return sheet_record::in_range_of(7, given, r);
+    }
+    sheet_record::in_range_of(2, given, r)
+}
+
 // A stream of a bus with every field in its range.
 fn stream_in_range(bus: u8, given: Given, r: Record) -> bool
     requires { ⌜ bus ≡ pnet ⊎ (bus ≡ profibus ⊎ bus ≡ worldfip) ⌝ }
     ensures { λ ok. ⌜ ok ≡ (isStreamOf bus (r .kind) && inRange given r) ⌝ }
 {
     match bus {
-        1 => sheet_record::in_range_of(2, given, r),
+        1 => pnet_in_range(given, r),
         3 => sheet_record::in_range_of(4, given, r),
         _ => sheet_record::in_range_of(6, given, r),
     }
@@ -161,7 +170,6 @@ fn read_streams(
     ensures { λ _. ⌜ now (longest .exit) ≡ longestsTold (reading (now (s .entry))) (now (longest .entry)) ⌝ }
 {
     let bus = sheet_record::bus_of(head.kind);
-    let wanted = stream_kind(bus);
     let given = Given {
         masters: head.a,
         message: head.c,
@@ -173,10 +181,11 @@ fn read_streams(
     let mut at = first;
     while at < s.len() {
         let kind = s[at];
+        let right = is_stream(bus, kind);
         let met = stream_at(s, at, bus);
         let stream = met.found;
         let ranged = stream_in_range(bus, given, stream);
-        let own = own_no(kind, kind == wanted, met.next != at, ranged);
+        let own = own_no(kind, right, met.next != at, ranged);
         if own != 0 {
             return Reading::Refused { no: own, place: at };
         }

@@ -1,6 +1,6 @@
 -- Page 01, 'Sheet records': closed examples, as the definitions compute them. Assumes nothing.
 use mathlib.Core.Path.{_≡_, refl}
-use mathlib.Core.Bool.{false}
+use mathlib.Core.Bool.{true, false}
 use mathlib.Core.List.{[], _∷_, map}
 use Rattle.sheet_record.specs.declared.Given.{Given}
 use Rattle.sheet_record.specs.declared.Met.{Met}
@@ -8,13 +8,13 @@ use Rattle.sheet_record.specs.declared.Record.{Record}
 use Rattle.sheet_record.specs.Numbers.{be, digits}
 use Rattle.sheet_record.specs.Kinds.{kinds, lineOf, fieldsOf, widths, sizeOf, known, fieldAt, decode, body, encode, whole, nothing, metAt, metOf, limit, within, ranged, inRange}
 
--- the six kinds: a byte of kind, and a body of 1, 11, 9, 9, 4, 6
-sizes : map sizeOf (1 ∷ 2 ∷ 3 ∷ 4 ∷ 5 ∷ 6 ∷ []) ≡ 2 ∷ 12 ∷ 10 ∷ 10 ∷ 5 ∷ 7 ∷ []
+-- the seven kinds: a byte of kind, and a body of 1, 11, 9, 9, 4, 6, 15
+sizes : map sizeOf (1 ∷ 2 ∷ 3 ∷ 4 ∷ 5 ∷ 6 ∷ 7 ∷ []) ≡ 2 ∷ 12 ∷ 10 ∷ 10 ∷ 5 ∷ 7 ∷ 16 ∷ []
 unfolding sizeOf widths fieldsOf lineOf kinds
 sizes = refl
 
 -- no other kind is known
-unknown-kinds : map known (0 ∷ 7 ∷ 99 ∷ 255 ∷ []) ≡ false ∷ false ∷ false ∷ false ∷ []
+unknown-kinds : map known (0 ∷ 8 ∷ 99 ∷ 255 ∷ []) ≡ false ∷ false ∷ false ∷ false ∷ []
 unfolding known fieldsOf lineOf kinds
 unknown-kinds = refl
 
@@ -29,6 +29,14 @@ stream-bytes = refl
 stream-decoded : decode (1 ∷ 2 ∷ 2 ∷ 1 ∷ 0 ∷ 203 ∷ 0 ∷ 1 ∷ 134 ∷ 160 ∷ 0 ∷ 1 ∷ 134 ∷ 160 ∷ []) 2 ≡ stream
 unfolding decode fieldAt be fieldsOf lineOf kinds
 stream-decoded = refl
+
+-- one of master 2 that comes up to 900 late: C = 203, T = 1,000, D = 100
+abbrev late : Record
+late = record { kind = 7; a = 2; b = 203; c = 1000; d = 100; e = 900 }
+
+late-bytes : encode late ≡ 7 ∷ 2 ∷ 0 ∷ 203 ∷ 0 ∷ 0 ∷ 3 ∷ 232 ∷ 0 ∷ 0 ∷ 0 ∷ 100 ∷ 0 ∷ 0 ∷ 3 ∷ 132 ∷ []
+unfolding encode body digits fieldsOf lineOf kinds
+late-bytes = refl
 
 -- a segment of two masters, asked for as a segment; as a stream it is nothing, and the place is its own
 abbrev segment : Met
@@ -58,3 +66,20 @@ cycle-beyond = refl
 deadline-beyond : inRange behind (record { kind = 2; a = 1; b = 1548; c = 1000; d = 1001; e = 0 }) ≡ false
 unfolding inRange ranged limit within fieldsOf lineOf kinds
 deadline-beyond = refl
+
+-- D up to T - J: 100 is in range and 101 is not; J up to T - 1, and none above wraps
+late-ranged : inRange behind late ≡ true
+unfolding inRange ranged limit within fieldsOf lineOf kinds
+late-ranged = refl
+
+deadline-beyond-slack : inRange behind (record { kind = 7; a = 2; b = 203; c = 1000; d = 101; e = 900 }) ≡ false
+unfolding inRange ranged limit within fieldsOf lineOf kinds
+deadline-beyond-slack = refl
+
+jitter-beyond : inRange behind (record { kind = 7; a = 2; b = 203; c = 1000; d = 1; e = 1000 }) ≡ false
+unfolding inRange ranged limit within fieldsOf lineOf kinds
+jitter-beyond = refl
+
+jitter-far-beyond : inRange behind (record { kind = 7; a = 2; b = 203; c = 1000; d = 1; e = 4294967295 }) ≡ false
+unfolding inRange ranged limit within fieldsOf lineOf kinds
+jitter-far-beyond = refl

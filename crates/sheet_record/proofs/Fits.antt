@@ -10,7 +10,7 @@ use lib.ListN.{length, getD}
 use Rattle.sheet_record.specs.declared.Given.{Given}
 use Rattle.sheet_record.specs.declared.Record.{Record}
 use Rattle.sheet_record.specs.Kinds.{Field, Limit, kinds, fieldsOf, numbers, limit, within, ranged, inRange}
-use Rattle.sheet_record.specs.Kinds.Limit.{is, masters, message, own, less}
+use Rattle.sheet_record.specs.Kinds.Limit.{is, masters, message, own, under, less}
 use Rattle.sheet_record.proofs.Tables.{both-true, at-every-kind, fields-at-most}
 use Rattle.sheet_record.proofs.Ranges.{within-range}
 
@@ -29,6 +29,7 @@ below other m (is n) = ltb n m
 below other m masters = ltb 32 m
 below other m message = ltb 100000 m
 below other m (own i) = other i
+below other m (under i) = other i
 below other m (less i j) = other i
 
 -- field i's own limit is less than m, and no other field sets it; 0 where there is no field
@@ -52,6 +53,7 @@ module _ (g : Given) (few : g .masters ≤ 32) (short : g .message ≤ 100000) (
   limit-below other m h masters q = omega (arith, ltb-true 32 m q)
   limit-below other m h message q = omega (arith, ltb-true 100000 m q)
   limit-below other m h (own i) q = h i q
+  limit-below other m h (under i) q = omega (arith, h i q)
   limit-below other m h (less i j) q = omega (arith, h i q)
 
   -- a limit that no other field sets

@@ -1,7 +1,7 @@
--- Page 01, 'Sheet records': which kinds stand first and which are the streams of a bus, in the page's words; the table's parts say the same.
+-- Page 01, 'Sheet records', and page 02, Ask 7: which kinds stand first and which are the streams of a bus, in the page's words; the table's parts say the same.
 -- Assumes nothing.
 use mathlib.Core.Path.{_≡_, refl, sym, ap, _∙_}
-use mathlib.Core.Bool.{Bool, true, false, _&&_, _||_}
+use mathlib.Core.Bool.{Bool, true, false, _&&_, _||_, or-false}
 use mathlib.Core.Logic.{_⊎_, inl, inr}
 use Prim.Native.Nat.{ℕ, zero, suc, _≤_}
 use native.Mathlib.Omega.{arith}
@@ -12,20 +12,21 @@ use Rattle.sheet_record.proofs.Tables.{both-true}
 
 -- ---- Kind by kind
 
--- seven more than n, the first number that is past the page's kinds
+-- eight more than n: 8 is the first number that is past the page's kinds
 abbrev past : ℕ → ℕ
-past n = suc (suc (suc (suc (suc (suc (suc n))))))
+past n = suc (suc (suc (suc (suc (suc (suc (suc n)))))))
 
--- what holds of the page's six kinds, of 0 and of every number past them holds of every number
-by-kind : (P : ℕ → Type 0) → P 0 → P 1 → P 2 → P 3 → P 4 → P 5 → P 6 → ((n : ℕ) → P (past n)) → (k : ℕ) → P k
-by-kind P none p q r s t u more zero = none
-by-kind P none p q r s t u more (suc zero) = p
-by-kind P none p q r s t u more (suc (suc zero)) = q
-by-kind P none p q r s t u more (suc (suc (suc zero))) = r
-by-kind P none p q r s t u more (suc (suc (suc (suc zero)))) = s
-by-kind P none p q r s t u more (suc (suc (suc (suc (suc zero))))) = t
-by-kind P none p q r s t u more (suc (suc (suc (suc (suc (suc zero)))))) = u
-by-kind P none p q r s t u more (suc (suc (suc (suc (suc (suc (suc n))))))) = more n
+-- what holds of the page's seven kinds, of 0 and of every number past them holds of every number
+by-kind : (P : ℕ → Type 0) → P 0 → P 1 → P 2 → P 3 → P 4 → P 5 → P 6 → P 7 → ((n : ℕ) → P (past n)) → (k : ℕ) → P k
+by-kind P none p q r s t u v more zero = none
+by-kind P none p q r s t u v more (suc zero) = p
+by-kind P none p q r s t u v more (suc (suc zero)) = q
+by-kind P none p q r s t u v more (suc (suc (suc zero))) = r
+by-kind P none p q r s t u v more (suc (suc (suc (suc zero)))) = s
+by-kind P none p q r s t u v more (suc (suc (suc (suc (suc zero))))) = t
+by-kind P none p q r s t u v more (suc (suc (suc (suc (suc (suc zero)))))) = u
+by-kind P none p q r s t u v more (suc (suc (suc (suc (suc (suc (suc zero))))))) = v
+by-kind P none p q r s t u v more (suc (suc (suc (suc (suc (suc (suc (suc n)))))))) = more n
 
 past-1 : (n : ℕ) → eqb (past n) 1 ≡ false
 past-1 n = ne-eqb (past n) 1 (λ e. omega arith)
@@ -45,11 +46,14 @@ past-5 n = ne-eqb (past n) 5 (λ e. omega arith)
 past-6 : (n : ℕ) → eqb (past n) 6 ≡ false
 past-6 n = ne-eqb (past n) 6 (λ e. omega arith)
 
+past-7 : (n : ℕ) → eqb (past n) 7 ≡ false
+past-7 n = ne-eqb (past n) 7 (λ e. omega arith)
+
 -- ---- What stands first
 
 pub first-is : (k : ℕ) → isFirst k ≡ (eqb k 1 || (eqb k 3 || eqb k 5))
 unfolding isFirst partOf lineOf kinds
-first-is = by-kind (λ k. isFirst k ≡ (eqb k 1 || (eqb k 3 || eqb k 5))) refl refl refl refl refl refl refl (λ n. simp (past-1 n, past-3 n, past-5 n))
+first-is = by-kind (λ k. isFirst k ≡ (eqb k 1 || (eqb k 3 || eqb k 5))) refl refl refl refl refl refl refl refl (λ n. simp (past-1 n, past-3 n, past-5 n))
 
 pub first-kinds : (k : ℕ) → isFirst k ≡ true → k ≡ 1 ⊎ k ≡ 3 ⊎ k ≡ 5
 first-kinds k e = one (eqb k 1) refl (sym (first-is k) ∙ e)
@@ -67,25 +71,39 @@ first-kinds k e = one (eqb k 1) refl (sym (first-is k) ∙ e)
 -- no kind is a setting yet
 pub no-setting : (k : ℕ) → isSetting k ≡ false
 unfolding isSetting partOf lineOf kinds
-no-setting = by-kind (λ k. isSetting k ≡ false) refl refl refl refl refl refl refl (λ n. refl)
+no-setting = by-kind (λ k. isSetting k ≡ false) refl refl refl refl refl refl refl refl (λ n. refl)
 
-pub pnet-streams : (k : ℕ) → isStreamOf 1 k ≡ eqb k 2
+pub pnet-streams : (k : ℕ) → isStreamOf 1 k ≡ (eqb k 2 || eqb k 7)
 unfolding isStreamOf isStream busOf partOf lineOf kinds
-pnet-streams = by-kind (λ k. isStreamOf 1 k ≡ eqb k 2) refl refl refl refl refl refl refl (λ n. sym (past-2 n))
+pnet-streams = by-kind (λ k. isStreamOf 1 k ≡ (eqb k 2 || eqb k 7)) refl refl refl refl refl refl refl refl (λ n. simp (past-2 n, past-7 n))
+
+pub pnet-stream-kinds : (k : ℕ) → isStreamOf 1 k ≡ true → k ≡ 2 ⊎ k ≡ 7
+pnet-stream-kinds k e = split (eqb k 2) refl (sym (pnet-streams k) ∙ e)
+  where
+    split : (b : Bool) → eqb k 2 ≡ b → (b || eqb k 7) ≡ true → k ≡ 2 ⊎ k ≡ 7
+    split true q f = inl (eqb-true k 2 q)
+    split false q f = inr (eqb-true k 7 f)
+
+-- which of the two it is
+pub pnet-with-jitter : (k : ℕ) → k ≡ 7 → isStreamOf 1 k ≡ eqb k 7
+pnet-with-jitter k e = pnet-streams k ∙ rw (ne-eqb k 2 (λ q. omega arith))
+
+pub pnet-without : (k : ℕ) → (k ≡ 7 → ⊥) → isStreamOf 1 k ≡ eqb k 2
+pnet-without k n = pnet-streams k ∙ rw (ne-eqb k 7 n) (or-false (eqb k 2))
 
 pub ring-streams : (k : ℕ) → isStreamOf 3 k ≡ eqb k 4
 unfolding isStreamOf isStream busOf partOf lineOf kinds
-ring-streams = by-kind (λ k. isStreamOf 3 k ≡ eqb k 4) refl refl refl refl refl refl refl (λ n. sym (past-4 n))
+ring-streams = by-kind (λ k. isStreamOf 3 k ≡ eqb k 4) refl refl refl refl refl refl refl refl (λ n. sym (past-4 n))
 
 pub variables : (k : ℕ) → isStreamOf 5 k ≡ eqb k 6
 unfolding isStreamOf isStream busOf partOf lineOf kinds
-variables = by-kind (λ k. isStreamOf 5 k ≡ eqb k 6) refl refl refl refl refl refl refl (λ n. sym (past-6 n))
+variables = by-kind (λ k. isStreamOf 5 k ≡ eqb k 6) refl refl refl refl refl refl refl refl (λ n. sym (past-6 n))
 
 -- a stream is that of one of the three buses
 pub stream-bus : (k : ℕ) → isStream k ≡ true → busOf k ≡ 1 ⊎ busOf k ≡ 3 ⊎ busOf k ≡ 5
 unfolding isStream busOf partOf lineOf kinds
 stream-bus =
-    by-kind (λ k. isStream k ≡ true → busOf k ≡ 1 ⊎ busOf k ≡ 3 ⊎ busOf k ≡ 5) no no (λ e. inl refl) no (λ e. inr (inl refl)) no (λ e. inr (inr refl)) (λ n. no)
+    by-kind (λ k. isStream k ≡ true → busOf k ≡ 1 ⊎ busOf k ≡ 3 ⊎ busOf k ≡ 5) no no (λ e. inl refl) no (λ e. inr (inl refl)) no (λ e. inr (inr refl)) (λ e. inl refl) (λ n. no)
   where
     no : {A : Type 0} → false ≡ true → A
     no e = let z : _≡_ {A = ℕ} 0 1 = cc in absurd (omega arith)
@@ -117,13 +135,18 @@ module _ (k : ℕ) (e : isFirst k ≡ true) where
       split (inr (inr q)) = rw q
 
 -- a number that is no kind has no bus
-pub no-bus : (k : ℕ) → (1 ≤ k → k ≤ 6 → ⊥) → busOf k ≡ 0
+pub no-bus : (k : ℕ) → (1 ≤ k → k ≤ 7 → ⊥) → busOf k ≡ 0
 unfolding busOf lineOf kinds
-no-bus = by-kind (λ k. (1 ≤ k → k ≤ 6 → ⊥) → busOf k ≡ 0) (λ h. refl) (λ h. absurd (h (omega arith) (omega arith))) (λ h. absurd (h (omega arith) (omega arith))) (λ h. absurd (h (omega arith) (omega arith))) (λ h. absurd (h (omega arith) (omega arith))) (λ h. absurd (h (omega arith) (omega arith))) (λ h. absurd (h (omega arith) (omega arith))) (λ n h. refl)
+no-bus = by-kind (λ k. (1 ≤ k → k ≤ 7 → ⊥) → busOf k ≡ 0) (λ h. refl) (λ h. inside 1 h (omega arith) (omega arith)) (λ h. inside 2 h (omega arith) (omega arith))
+    (λ h. inside 3 h (omega arith) (omega arith)) (λ h. inside 4 h (omega arith) (omega arith)) (λ h. inside 5 h (omega arith) (omega arith))
+    (λ h. inside 6 h (omega arith) (omega arith)) (λ h. inside 7 h (omega arith) (omega arith)) (λ n h. refl)
+  where
+    inside : (k : ℕ) → (1 ≤ k → k ≤ 7 → ⊥) → 1 ≤ k → k ≤ 7 → busOf k ≡ 0
+    inside k h lo hi = absurd (h lo hi)
 
 -- ---- What is written
 
 -- all known kinds
 pub written-is : (k : ℕ) → written k ≡ known k
 unfolding written known fieldsOf lineOf kinds
-written-is = by-kind (λ k. written k ≡ known k) refl refl refl refl refl refl refl (λ n. refl)
+written-is = by-kind (λ k. written k ≡ known k) refl refl refl refl refl refl refl refl (λ n. refl)

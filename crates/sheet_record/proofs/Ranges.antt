@@ -1,16 +1,18 @@
--- Page 01, 'Sheet records': what a record in range is, kind by kind, in the page's words. Assumes nothing.
+-- Page 01, 'Sheet records', and page 02, Ask 7: what a record in range is, kind by kind, in the page's words. Assumes nothing.
 use mathlib.Core.Path.{_≡_, refl, ap}
 use mathlib.Core.Bool.{Bool, true, false, _&&_}
 use mathlib.Core.List.{List, [], _∷_}
-use Prim.Native.Nat.{ℕ, _≤_}
+use mathlib.Core.Logic.{_⊎_, inl, inr}
+use Prim.Native.Nat.{ℕ, _-_, _≤_}
 use native.Mathlib.Nat.{le-refl, le-trans}
 use borrow.Author.Tests.{le-leb, leb-true, eqb-true, eq-eqb}
 use lib.Dec.{leb, eqb}
 use Rattle.sheet_record.specs.declared.Given.{Given}
 use Rattle.sheet_record.specs.declared.Record.{Record}
-use Rattle.sheet_record.specs.Kinds.{Field, Limit, kinds, lineOf, fieldsOf, limit, within, ranged, inRange, numbers}
-use Rattle.sheet_record.specs.Kinds.Limit.{is, masters, message, own, less}
+use Rattle.sheet_record.specs.Kinds.{Field, Limit, kinds, lineOf, fieldsOf, isStreamOf, limit, within, ranged, inRange, numbers}
+use Rattle.sheet_record.specs.Kinds.Limit.{is, masters, message, own, under, less}
 use Rattle.sheet_record.proofs.Tables.{both-true}
+use Rattle.sheet_record.proofs.Parts.{pnet-stream-kinds}
 
 -- ---- One field
 
@@ -49,6 +51,7 @@ module _ (g g' : Given) (r : Record) (m : AtMost g g') where
   limit-mono masters = m .masters
   limit-mono message = m .message
   limit-mono (own i) = le-refl (limit g r (own i))
+  limit-mono (under i) = le-refl (limit g r (under i))
   limit-mono (less i j) = le-refl (limit g r (less i j))
 
   ranged-mono : (fs : List Field) (xs : List ℕ) → ranged g r fs xs ≡ true → ranged g' r fs xs ≡ true
@@ -67,7 +70,7 @@ module _ (g g' : Given) (r : Record) (m : AtMost g g') where
   unfolding inRange
   in-range-mono e = ranged-mono (fieldsOf (r .kind)) (numbers r) e
 
--- ---- The six kinds
+-- ---- Kind by kind
 
 -- 1, P-NET segment
 pub record SegmentRanges (r : Record) : Type 0 where
@@ -116,6 +119,14 @@ pub record VariableRanges (r : Record) : Type 0 where
   pub no-c : r .c ≡ 0
   pub no-d : r .d ≡ 0
   pub no-e : r .e ≡ 0
+
+-- 7, P-NET stream with release jitter
+pub record JitterStreamRanges (g : Given) (r : Record) : Type 0 where
+  pub master : Range 1 (r .a) (g .masters)
+  pub cycle : Range 1 (r .b) 1548
+  pub spacing : Range 1 (r .c) 1000000000
+  pub deadline : Range 1 (r .d) (r .c - r .e)
+  pub jitter : Range 0 (r .e) (r .c - 1)
 
 -- the tests of the five fields, one by one
 record Tests (p q s t u : Bool) : Type 0 where
@@ -205,3 +216,23 @@ module _ (g : Given) (r : Record) (e : inRange g r ≡ true) where
         no-d = eqb-true (r .d) 0 (t .for-d);
         no-e = eqb-true (r .e) 0 (t .for-e);
       }
+
+  pub jitter-stream-ranges : r .kind ≡ 7 → JitterStreamRanges g r
+  unfolding inRange ranged limit fieldsOf lineOf kinds
+  jitter-stream-ranges k =
+      let t = tests _ _ _ _ _ (rw k at e) in
+      record {
+        master = within-range 1 (r .a) (g .masters) (t .for-a);
+        cycle = within-range 1 (r .b) 1548 (t .for-b);
+        spacing = within-range 1 (r .c) 1000000000 (t .for-c);
+        deadline = within-range 1 (r .d) (r .c - r .e) (t .for-d);
+        jitter = within-range 0 (r .e) (r .c - 1) (t .for-e);
+      }
+
+  -- the master of a P-NET stream of either kind
+  pub pnet-master : isStreamOf 1 (r .kind) ≡ true → Range 1 (r .a) (g .masters)
+  pnet-master its = by (pnet-stream-kinds (r .kind) its)
+    where
+      by : r .kind ≡ 2 ⊎ r .kind ≡ 7 → Range 1 (r .a) (g .masters)
+      by (inl k) = pnet-stream-ranges k .master
+      by (inr k) = jitter-stream-ranges k .master

@@ -104,7 +104,16 @@ module _ (s : List ℕ) (at bus : ℕ) where
   unfolding streamMet
   stream-other e = rw e
 
-  -- where one kind alone is a stream of the bus, it is met
-  pub stream-kind : (kind : ℕ) → ((k : ℕ) → isStreamOf bus k ≡ eqb k kind) → metOf s at kind ≡ streamMet s at bus
+  -- where nothing stands, neither does a stream
+  pub stream-none : found-at nothing at ≡ metAt s at → found-at nothing at ≡ streamMet s at bus
+  unfolding streamMet
+  stream-none e = either (isStreamOf bus (getD s at 0))
+    where
+      either : (b : Bool) → found-at nothing at ≡ cond b (metAt s at) (found-at nothing at)
+      either true = e
+      either false = refl
+
+  -- where what stands there is a stream of the bus if it is of one kind, and else is none, that kind is met
+  pub stream-kind : (kind : ℕ) → isStreamOf bus (getD s at 0) ≡ eqb (getD s at 0) kind → metOf s at kind ≡ streamMet s at bus
   unfolding streamMet metOf
-  stream-kind kind e = rw (e (getD s at 0))
+  stream-kind kind e = rw e

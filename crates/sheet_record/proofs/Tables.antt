@@ -39,9 +39,9 @@ at-every-kind p none e k = at-every-line (λ l. p (l .fields)) none e k
 
 -- ---- What the tests show
 
-pub size-at-most : (k : ℕ) → sizeOf k ≤ 12
+pub size-at-most : (k : ℕ) → sizeOf k ≤ 16
 unfolding sizeOf widths kinds
-size-at-most k = leb-true (1 + widths (fieldsOf k)) 12 (at-every-kind (λ fs. leb (1 + widths fs) 12) refl refl k)
+size-at-most k = leb-true (1 + widths (fieldsOf k)) 16 (at-every-kind (λ fs. leb (1 + widths fs) 16) refl refl k)
 
 pub fields-at-most : (k : ℕ) → length (fieldsOf k) ≤ 5
 unfolding kinds
@@ -64,8 +64,8 @@ width-at-most k j = narrow-at (fieldsOf k) (at-every-kind narrowLine refl refl k
 
 -- ---- Kinds
 
--- the known kinds are 1..6
-pub known-within : (k : ℕ) → (leb 1 k && leb k 6) ≡ known k
+-- the known kinds are 1..7
+pub known-within : (k : ℕ) → (leb 1 k && leb k 7) ≡ known k
 unfolding known fieldsOf lineOf kinds
 known-within zero = refl
 known-within (suc zero) = refl
@@ -74,23 +74,38 @@ known-within (suc (suc (suc zero))) = refl
 known-within (suc (suc (suc (suc zero)))) = refl
 known-within (suc (suc (suc (suc (suc zero))))) = refl
 known-within (suc (suc (suc (suc (suc (suc zero)))))) = refl
-known-within (suc (suc (suc (suc (suc (suc (suc n))))))) = beyond (suc (suc (suc (suc (suc (suc (suc n))))))) (omega arith)
+known-within (suc (suc (suc (suc (suc (suc (suc zero))))))) = refl
+known-within (suc (suc (suc (suc (suc (suc (suc (suc n)))))))) = beyond (suc (suc (suc (suc (suc (suc (suc (suc n)))))))) (omega arith)
   where
-    beyond : (k : ℕ) → 6 < k → (leb 1 k && leb k 6) ≡ false
-    beyond k h = simp (le-leb 1 k (omega arith), lt-leb k 6 h)
+    beyond : (k : ℕ) → 7 < k → (leb 1 k && leb k 7) ≡ false
+    beyond k h = simp (le-leb 1 k (omega arith), lt-leb k 7 h)
 
-pub known-bounds : (k : ℕ) → known k ≡ true → (1 ≤ k) × (k ≤ 6)
+pub known-bounds : (k : ℕ) → known k ≡ true → (1 ≤ k) × (k ≤ 7)
 known-bounds k e =
-    let b = both-true (leb 1 k) (leb k 6) (known-within k ∙ e) in
-    (leb-true 1 k (b .0), leb-true k 6 (b .1))
+    let b = both-true (leb 1 k) (leb k 7) (known-within k ∙ e) in
+    (leb-true 1 k (b .0), leb-true k 7 (b .1))
 
-pub unknown : (k : ℕ) → (1 ≤ k → k ≤ 6 → ⊥) → known k ≡ false
-unknown k out = sym (known-within k) ∙ outside (leb 1 k) refl (leb k 6) refl
+pub unknown : (k : ℕ) → (1 ≤ k → k ≤ 7 → ⊥) → known k ≡ false
+unknown k out = sym (known-within k) ∙ outside (leb 1 k) refl (leb k 7) refl
   where
-    outside : (a : Bool) → leb 1 k ≡ a → (b : Bool) → leb k 6 ≡ b → a && b ≡ false
-    outside true ea true eb = absurd (out (leb-true 1 k ea) (leb-true k 6 eb))
+    outside : (a : Bool) → leb 1 k ≡ a → (b : Bool) → leb k 7 ≡ b → a && b ≡ false
+    outside true ea true eb = absurd (out (leb-true 1 k ea) (leb-true k 7 eb))
     outside true ea false eb = refl
     outside false ea b eb = refl
+
+-- k is none of 1..n, in the form in which the last arm of a `match` with arms for 1..n knows it
+unfoldable pub NoneOf : ℕ → ℕ → Type 0
+NoneOf zero k = Unit {0}
+NoneOf (suc n) k = NoneOf n k × (k ≡ suc n → ⊥)
+
+-- so it is past that range, or 0
+pub past-all : (n k : ℕ) → NoneOf n k → 1 ≤ k → n < k
+unfolding NoneOf
+past-all zero k none lo = lo
+past-all (suc n) k none lo = omega (arith, past-all n k (none .0) lo, none .1)
+
+pub none-of : (n k : ℕ) → NoneOf n k → 1 ≤ k → k ≤ n → ⊥
+none-of n k none lo hi = omega (arith, past-all n k none lo)
 
 some-false : (fs : List Field) → some fs ≡ false → fs ≡ []
 some-false [] e = refl

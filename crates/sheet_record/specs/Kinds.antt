@@ -1,4 +1,4 @@
--- Page 01, 'Sheet records': the kinds, a line each, and what a record of a kind is. Assumes nothing.
+-- Page 01, 'Sheet records', and page 02, Ask 7: the kinds, a line each, and what a record of a kind is. Assumes nothing.
 use Prim.Native.Nat.{ℕ, zero, suc, _+_, _-_}
 use mathlib.Core.List.{List, [], _∷_, _++_}
 use mathlib.Core.Bool.{Bool, true, false, cond, _&&_}
@@ -27,6 +27,8 @@ pub data Limit : Type 0 where
   message : Limit
   -- field i of the same record, counted from 0
   own : ℕ → Limit
+  -- one less than it
+  under : ℕ → Limit
   -- field i less field j
   less : ℕ → ℕ → Limit
 
@@ -97,6 +99,9 @@ kinds =
     ∷ line worldfip first true "worldfip-exchange" (field 4 1 (is 1000000) us ∷ [])
     -- 6, WorldFIP variable: identifier, period
     ∷ line worldfip stream true "worldfip-variable" (field 2 0 (is 65535) no-unit ∷ field 4 1 (is 1000000000) us ∷ [])
+    -- 7, P-NET stream with release jitter: kind 2, D up to T - J, and J up to T - 1
+    ∷ line pnet stream true "pnet-jitter-stream"
+    (field 1 1 masters no-unit ∷ field 2 1 (is 1548) bp ∷ field 4 1 (is 1000000000) bp ∷ field 4 1 (less 2 4) bp ∷ field 4 0 (under 2) bp ∷ [])
     ∷ []
 
 -- ---- What follows from a kind's line
@@ -250,6 +255,7 @@ limit g r (is n) = n
 limit g r masters = g .masters
 limit g r message = g .message
 limit g r (own i) = getD (numbers r) i 0
+limit g r (under i) = getD (numbers r) i 0 - 1
 limit g r (less i j) = getD (numbers r) i 0 - getD (numbers r) j 0
 
 unfoldable pub within : ℕ → ℕ → ℕ → Bool

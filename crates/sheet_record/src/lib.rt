@@ -1,12 +1,12 @@
-// The record format of a sheet, page 01 'Sheet records': reading one record.
+// The record format of a sheet, page 01 'Sheet records' and page 02 'Ask 7': reading one record.
 ghost use mathlib.Core.Bool.{_&&_};
 ghost use mathlib.Core.Path.{_≡_};
-ghost use Prim.Native.Nat.{_+_, _≤_, _<_, _^_};
+ghost use Prim.Native.Nat.{_+_, _-_, _≤_, _<_, _^_};
 ghost use lib.Dec.{eqb};
 ghost use lib.ListN.{length, getD};
 ghost use Rattle.sheet_record.specs.Numbers.{be};
 ghost use Rattle.sheet_record.specs.Kinds;
-ghost use Rattle.sheet_record.specs.Kinds.{pnet, profibus, worldfip, busOf, isFirst, inRange, metAt, metOf, streamMet, nothing};
+ghost use Rattle.sheet_record.specs.Kinds.{pnet, profibus, worldfip, busOf, isFirst, within, inRange, metAt, metOf, streamMet, nothing};
 ghost use Rattle.sheet_record.specs.Widths.{Wide};
 
 // One record: its kind, and its fields in the order of the page. A field that the kind does not have is 0.
@@ -49,7 +49,7 @@ fn number(s: &[u8], at: usize, w: usize) -> u32
 pub fn known(kind: u8) -> bool
     ensures { λ r. ⌜ r ≡ Kinds.known kind ⌝ }
 {
-    (1 <= kind) & (kind <= 6)
+    (1 <= kind) & (kind <= 7)
 }
 
 // The bus of a kind, by the kind of its first record; 0 where the kind is not known.
@@ -63,6 +63,7 @@ pub fn bus_of(kind: u8) -> u8
         4 => 3,
         5 => 5,
         6 => 5,
+        7 => 1,
         _ => 0,
     }
 }
@@ -136,6 +137,7 @@ pub fn record_of(s: &[u8], at: usize, kind: u8) -> Met
         4 => whole_at(s, at, 1, 4, 4, 0, 0),
         5 => whole_at(s, at, 4, 0, 0, 0, 0),
         6 => whole_at(s, at, 2, 4, 0, 0, 0),
+        7 => whole_at(s, at, 1, 2, 4, 4, 4),
         _ => nothing_at(at),
     }
 }
@@ -151,11 +153,17 @@ pub fn record_at(s: &[u8], at: usize) -> Met
 }
 
 // The P-NET stream at a place and the place just after it; nothing, and the place itself, where none stands whole. All that a planner meets of
-// a sheet behind its first record comes from one function, that of its bus; the kind stands there as a constant, so that one line of
-// `record_of` is left in the planner's loop.
+// a sheet behind its first record comes from one function, that of its bus; the kinds stand there as constants, so that no more than their
+// lines of `record_of` are left in the planner's loop.
 pub fn pnet_stream_at(s: &[u8], at: usize) -> Met
     ensures { λ r. ⌜ r ≡ streamMet (now (s .entry)) at pnet ⌝ }
 {
+    if s.len() <= at {
+        return nothing_at(at);
+    }
+    if s[at] == 7 {
+        return record_of(s, at, 7);
+    }
     record_of(s, at, 2)
 }
 
@@ -171,6 +179,20 @@ pub fn variable_at(s: &[u8], at: usize) -> Met
     ensures { λ r. ⌜ r ≡ streamMet (now (s .entry)) at worldfip ⌝ }
 {
     record_of(s, at, 6)
+}
+
+// a less b, and 0 where b is the greater.
+fn less(a: u32, b: u32) -> u32
+    ensures { λ r. ⌜ r ≡ a - b ⌝ }
+{
+    if b < a { a - b } else { 0 }
+}
+
+// A deadline D in 1..T - J and a release jitter J in 0..T - 1.
+fn fits_behind(t: u32, d: u32, j: u32) -> bool
+    ensures { λ ok. ⌜ ok ≡ (within 1 d (t - j) && within 0 j (t - 1)) ⌝ }
+{
+    (1 <= d) & (d <= less(t, j)) & (j <= less(t, 1))
 }
 
 // A record of a kind with every field in its range, behind what is given. A field that the kind does not have is 0. All tests are made at
@@ -217,6 +239,13 @@ pub fn in_range_of(kind: u8, given: Given, r: Record) -> bool
             & (e == 0),
         5 => (1 <= a) & (a <= 1000000) & (b == 0) & (c == 0) & (d == 0) & (e == 0),
         6 => (a <= 65535) & (1 <= b) & (b <= 1000000000) & (c == 0) & (d == 0) & (e == 0),
+        7 => (1 <= a)
+            & (a <= masters)
+            & (1 <= b)
+            & (b <= 1548)
+            & (1 <= c)
+            & (c <= 1000000000)
+            & fits_behind(c, d, e),
         _ => (a == 0) & (b == 0) & (c == 0) & (d == 0) & (e == 0),
     }
 }

@@ -6,53 +6,54 @@ use native.Mathlib.Omega.{arith}
 use borrow.Author.Needs.{needs}
 use lib.ListN.{length}
 use Rattle.sheet_record.specs.Kinds.{busOf}
-use Rattle.sheet_read.proofs.Behind.{Reads, Behind, bus-kinds, first-bus-kinds, begun, fewer-streams, Meets, master-here, not-late, reads-more, next-later}
+use Rattle.sheet_read.proofs.Behind.{Reads, Behind, bus-kinds, begun, fewer-streams, Meets, master-here, not-late, reads-more, next-later}
 use Rattle.sheet_read.proofs.Behind.{refused-own, refused-late, refused-keeps, ends-empty, ends-accepted, ends-counted, ends-longest, ends-uncounted}
 use Rattle.sheet_read.proofs.read_streams.Statement.{statement}
 use Rattle.sheet_read.proofs.read_streams.Tie as tie
 
 abbrev Inv-loop : tie.InvT-loop
-Inv-loop s head first counted longest bus wanted given counts₀ longests₀ ids₀ n₀ at₀ counts longests ids n at = Reads s head bus wanted given counts longests ids n at
+Inv-loop s head first counted longest bus given counts₀ longests₀ ids₀ n₀ at₀ counts longests ids n at = Reads s head bus given counts longests ids n at
 
 abbrev μ-loop : tie.MeasureT-loop
-μ-loop s head first counted longest bus wanted given counts₀ longests₀ ids₀ n₀ at₀ counts longests ids n at = length s - at
+μ-loop s head first counted longest bus given counts₀ longests₀ ids₀ n₀ at₀ counts longests ids n at = length s - at
 
 bus-of-requires : tie.Need-bus-of-requires Inv-loop μ-loop
 bus-of-requires c κs = search needs
 
-stream-kind-requires : tie.Need-stream-kind-requires Inv-loop μ-loop
-stream-kind-requires c κs = first-bus-kinds (c .before .before .pre) (c .bus-of .ensures)
-
 loop-holds : tie.Need-loop-holds Inv-loop μ-loop
 loop-holds c =
-    let o = c .before .before .before in
-    record { is-bus = c .before .bus-of .ensures; is-wanted = c .stream-kind .ensures; is-given = refl; behind = begun (o .args .s .now) (o .args .head) (o .args .first) (o .pre) }
+    let o = c .before .before in
+    record { is-bus = c .bus-of .ensures; is-given = refl; behind = begun (o .args .s .now) (o .args .head) (o .args .first) (o .pre) }
 
 shared-slice-read-kind : tie.Need-shared-slice-read-kind Inv-loop μ-loop
 shared-slice-read-kind c = search needs
 
+is-stream-requires : tie.Need-is-stream-requires Inv-loop μ-loop
+is-stream-requires c κs = bus-kinds (c .before .before .loop .inv)
+
 stream-at-requires : tie.Need-stream-at-requires Inv-loop μ-loop
-stream-at-requires c κs = bus-kinds (c .before .before .loop .inv)
+stream-at-requires c κs = bus-kinds (c .before .before .before .loop .inv)
 
 stream-in-range-requires : tie.Need-stream-in-range-requires Inv-loop μ-loop
-stream-in-range-requires c κs = bus-kinds (c .before .before .before .before .loop .inv)
+stream-in-range-requires c κs = bus-kinds (c .before .before .before .before .before .loop .inv)
 
 own-no-requires : tie.Need-own-no-requires Inv-loop μ-loop
 own-no-requires c κs = search needs
 
 -- what is met behind the streams so far
 abbrev so-far : tie.After-own-no Inv-loop μ-loop → tie.At-loop Inv-loop μ-loop
-so-far c = c .before .before .before .before .before .before .before
+so-far c = c .before .before .before .before .before .before .before .before
 
 meets : (c : tie.After-own-no Inv-loop μ-loop)
-    → Meets (so-far c .before .before .before .before .args .s .now) (so-far c .before .before .before .before .args .head)
-    (so-far c .loop .counts) (so-far c .loop .longests) (so-far c .loop .ids) (so-far c .loop .n) (so-far c .loop .at) (so-far c .before .before .bus-of .result) (so-far c .before .stream-kind .result)
-    (record { masters = so-far c .before .before .before .before .args .head .a; message = so-far c .before .before .before .before .args .head .c })
-    (c .before .before .before .before .stream-at .result) (c .before .before .stream-in-range .result) (c .own-no .result)
+    → Meets (so-far c .before .before .before .args .s .now) (so-far c .before .before .before .args .head)
+    (so-far c .loop .counts) (so-far c .loop .longests) (so-far c .loop .ids) (so-far c .loop .n) (so-far c .loop .at) (so-far c .before .bus-of .result)
+    (record { masters = so-far c .before .before .before .args .head .a; message = so-far c .before .before .before .args .head .c })
+    (c .before .before .before .before .stream-at .result) (c .before .before .before .before .before .is-stream .result) (c .before .before .stream-in-range .result) (c .own-no .result)
 meets c =
     record {
       reads = so-far c .loop .inv;
-      inside = c .before .before .before .before .before .before .loop-test .taken;
+      inside = c .before .before .before .before .before .before .before .loop-test .taken;
+      is-right = c .before .before .before .before .before .is-stream .ensures;
       is-met = c .before .before .before .before .stream-at .ensures;
       is-ranged = c .before .before .stream-in-range .ensures;
       is-own = c .own-no .ensures;
@@ -83,7 +84,7 @@ keep-requires c κs =
 add-n : tie.Need-add-n Inv-loop μ-loop
 add-n c =
     let l = so-far (c .before .before .before .before .before .before .before .before .before) in
-    omega (arith, fewer-streams (l .loop .inv .behind), meets (c .before .before .before .before .before .before .before .before .before) .inside, l .before .before .before .before .good)
+    omega (arith, fewer-streams (l .loop .inv .behind), meets (c .before .before .before .before .before .before .before .before .before) .inside, l .before .before .before .good)
 
 loop-less : tie.Need-loop-less Inv-loop μ-loop
 loop-less c =
@@ -100,13 +101,13 @@ loop-again c =
 
 returns-3 : tie.Need-returns-3 Inv-loop μ-loop
 returns-3 c =
-    let a = c .before .before .before .before .before .before .args in
+    let a = c .before .before .before .before .before .args in
     let e = ends-empty (c .before .before .loop .inv .behind) (c .before .loop-test .left) (c .if3 .taken) in
     (e, refused-keeps (a .s .now) _ _ _ (a .counted .now) (a .longest .now) e)
 
 returns-4 : tie.Need-returns-4 Inv-loop μ-loop
 returns-4 c =
-    let start = c .before .before .before .before .before .before .before in
+    let start = c .before .before .before .before .before .before in
     let l = c .before .before .before .loop in
     let out = c .before .before .loop-test .left in
     let some = c .before .if3 .left in
@@ -117,7 +118,7 @@ returns-4 c =
 
 returns-5 : tie.Need-returns-5 Inv-loop μ-loop
 returns-5 c =
-    let start = c .before .before .before .before .before .before .before in
+    let start = c .before .before .before .before .before .before in
     let l = c .before .before .before .loop in
     let out = c .before .before .loop-test .left in
     let some = c .before .if3 .left in
@@ -133,9 +134,9 @@ read-streams-spec =
     Inv-loop
     μ-loop
     bus-of-requires
-    stream-kind-requires
     loop-holds
     shared-slice-read-kind
+    is-stream-requires
     stream-at-requires
     stream-in-range-requires
     own-no-requires

@@ -1,11 +1,14 @@
--- `sheet_read::stream_in_range` meets its contract: each arm has the kind of the streams of its bus. Assumes nothing.
+-- `sheet_read::stream_in_range` meets its contract: each arm has the kinds of the streams of its bus. Assumes nothing.
 use mathlib.Core.Path.{_≡_}
 use mathlib.Core.Logic.{⊎-elim}
 use native.Mathlib.Omega.{arith}
 use borrow.Author.Needs.{needs}
-use Rattle.sheet_record.proofs.Parts.{pnet-streams, ring-streams, variables}
+use Rattle.sheet_record.proofs.Parts.{ring-streams, variables}
 use Rattle.sheet_read.proofs.stream_in_range.Statement.{statement}
 use Rattle.sheet_read.proofs.stream_in_range.Tie as tie
+
+pnet-in-range-requires : tie.Need-pnet-in-range-requires
+pnet-in-range-requires c κs = search needs
 
 in-range-of-requires : tie.Need-in-range-of-requires
 in-range-of-requires c κs = search needs
@@ -13,29 +16,26 @@ in-range-of-requires c κs = search needs
 in-range-of-requires-2 : tie.Need-in-range-of-requires-2
 in-range-of-requires-2 c κs = search needs
 
-in-range-of-requires-3 : tie.Need-in-range-of-requires-3
-in-range-of-requires-3 c κs = search needs
-
 returns : tie.Need-returns
-returns c = rw (c .before .match .keys1, pnet-streams (c .before .before .args .r .kind)) (c .in-range-of .ensures)
+returns c = rw (c .before .match .keys1) (c .pnet-in-range .ensures)
 
 returns-2 : tie.Need-returns-2
-returns-2 c = rw (c .before .match .keys2, ring-streams (c .before .before .args .r .kind)) (c .in-range-of2 .ensures)
+returns-2 c = rw (c .before .match .keys2, ring-streams (c .before .before .args .r .kind)) (c .in-range-of .ensures)
 
 returns-3 : tie.Need-returns-3
 returns-3 c =
     let out = c .before .match .rest in
     let five : c .before .before .args .bus ≡ 5 =
     ⊎-elim (λ e. omega (arith, out)) (⊎-elim (λ e. omega (arith, out)) (λ e. e)) (c .before .before .pre) in
-    rw (five, variables (c .before .before .args .r .kind)) (c .in-range-of3 .ensures)
+    rw (five, variables (c .before .before .args .r .kind)) (c .in-range-of2 .ensures)
 
 pub stream-in-range-spec : {M : Type 1} → statement M
 stream-in-range-spec =
     tie.close
     (tie.spec
+    pnet-in-range-requires
     in-range-of-requires
     in-range-of-requires-2
-    in-range-of-requires-3
     returns
     returns-2
     returns-3)

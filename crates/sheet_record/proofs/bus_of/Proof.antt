@@ -1,7 +1,7 @@
 -- `sheet_record::bus_of` meets its contract: the page's kinds one by one, and 0 past them. Assumes nothing.
 use mathlib.Core.Path.{sym}
-use native.Mathlib.Omega.{arith}
 use Rattle.sheet_record.specs.Kinds.{kinds, lineOf, busOf}
+use Rattle.sheet_record.proofs.Tables.{NoneOf, none-of}
 use Rattle.sheet_record.proofs.Parts.{no-bus}
 use Rattle.sheet_record.proofs.bus_of.Statement.{statement}
 use Rattle.sheet_record.proofs.bus_of.Tie as tie
@@ -31,8 +31,13 @@ unfolding busOf lineOf kinds
 returns-6 c = rw (c .match .keys6)
 
 returns-7 : tie.Need-returns-7
-returns-7 c = sym (no-bus (c .before .args .kind) (λ lo hi. omega (arith, c .match .rest)))
+unfolding busOf lineOf kinds
+returns-7 c = rw (c .match .keys7)
+
+returns-8 : tie.Need-returns-8
+unfolding NoneOf
+returns-8 c = sym (no-bus (c .before .args .kind) (none-of 7 (c .before .args .kind) (c .match .rest)))
 
 pub bus-of-spec : {M : Type 1} → statement M
 bus-of-spec =
-    tie.close (tie.spec returns returns-2 returns-3 returns-4 returns-5 returns-6 returns-7)
+    tie.close (tie.spec returns returns-2 returns-3 returns-4 returns-5 returns-6 returns-7 returns-8)

@@ -3,12 +3,13 @@ use mathlib.Core.Path.{_≡_, ap, _∙_}
 use mathlib.Core.Bool.{_&&_, and-assoc, and-true}
 use Prim.Native.Nat.{ℕ}
 use native.Mathlib.Omega.{arith}
+use borrow.Author.Needs.{needs}
 use borrow.Author.Tests.{le-leb, ne-eqb}
 use lib.Dec.{eqb}
 use Rattle.sheet_record.specs.declared.Given.{Given}
 use Rattle.sheet_record.specs.declared.Record.{Record}
 use Rattle.sheet_record.specs.Kinds.{kinds, lineOf, fieldsOf, numbers, limit, within, ranged, inRange}
-use Rattle.sheet_record.proofs.Tables.{unknown, no-fields}
+use Rattle.sheet_record.proofs.Tables.{unknown, no-fields, NoneOf, none-of}
 use Rattle.sheet_record.proofs.Ranges.{of-kind}
 use Rattle.sheet_record.proofs.in_range_of.Statement.{statement}
 use Rattle.sheet_record.proofs.in_range_of.Tie as tie
@@ -35,6 +36,9 @@ judged : (c : tie.Else1) → (eqb (c .before .before .args .r .kind) (c .before 
 judged c =
     let a = c .before .before .args in
     by-fields (a .kind) (a .given) (a .r) (same c)
+
+fits-behind-requires : tie.Need-fits-behind-requires
+fits-behind-requires c κs = search needs
 
 returns-2 : tie.Need-returns-2
 unfolding ranged within limit fieldsOf lineOf kinds
@@ -63,13 +67,17 @@ returns-7 c =
     rw (judged (c .before), c .match .keys6) (simp (l, and-assoc, and-true))
 
 returns-8 : tie.Need-returns-8
-unfolding ranged
-returns-8 c =
+unfolding ranged within limit fieldsOf lineOf kinds
+returns-8 c = rw (judged (c .before .before), c .before .match .keys7, c .fits-behind .ensures) (simp (and-assoc, and-true))
+
+returns-9 : tie.Need-returns-9
+unfolding ranged NoneOf
+returns-9 c =
     let k = c .before .before .before .args .kind in
-    let none = no-fields k (unknown k (λ lo hi. omega (arith, c .match .rest))) in
+    let none = no-fields k (unknown k (none-of 7 k (c .match .rest))) in
     rw (judged (c .before), none) (simp (and-assoc, and-true))
 
 pub in-range-of-spec : {M : Type 1} → statement M
 in-range-of-spec =
     tie.close
-    (tie.spec returns returns-2 returns-3 returns-4 returns-5 returns-6 returns-7 returns-8)
+    (tie.spec returns fits-behind-requires returns-2 returns-3 returns-4 returns-5 returns-6 returns-7 returns-8 returns-9)

@@ -5,7 +5,7 @@ use native.Mathlib.Omega.{arith}
 use Rattle.sheet_record.specs.declared.Met.{Met}
 use Rattle.sheet_record.specs.Kinds.{kinds, lineOf, fieldsOf, known, metAt, metOf}
 use Rattle.sheet_record.specs.Widths.{widthAt}
-use Rattle.sheet_record.proofs.Tables.{wide, unknown}
+use Rattle.sheet_record.proofs.Tables.{wide, unknown, NoneOf, none-of}
 use Rattle.sheet_record.proofs.Records.{met-past, met-unknown, met-same, met-other, met-none}
 use borrow.Author.Needs.{needs}
 use Rattle.sheet_record.proofs.record_of.Statement.{statement}
@@ -65,6 +65,10 @@ whole-at-requires-6 : tie.Need-whole-at-requires-6
 unfolding widthAt fieldsOf lineOf kinds known
 whole-at-requires-6 c κs = (search needs, rw (stands (c .before), c .match .keys6) (wide 6 refl))
 
+whole-at-requires-7 : tie.Need-whole-at-requires-7
+unfolding widthAt fieldsOf lineOf kinds known
+whole-at-requires-7 c κs = (search needs, rw (stands (c .before), c .match .keys7) (wide 7 refl))
+
 nothing-at-requires-3 : tie.Need-nothing-at-requires-3
 nothing-at-requires-3 c κs = search needs
 
@@ -87,11 +91,15 @@ returns-8 : tie.Need-returns-8
 returns-8 c = as-asked (c .before .before) (c .whole-at6 .ensures)
 
 returns-9 : tie.Need-returns-9
-returns-9 c =
+returns-9 c = as-asked (c .before .before) (c .whole-at7 .ensures)
+
+returns-10 : tie.Need-returns-10
+unfolding NoneOf
+returns-10 c =
     let a = c .before .before .before .before .before .before .args in
     let k = getD (a .s .now) (a .at) 0 in
     let e = stands (c .before .before) in
-    let none = met-unknown (a .s .now) (a .at) (unknown k (λ lo hi. omega (arith, e, c .before .match .rest))) in
+    let none = met-unknown (a .s .now) (a .at) (rw e (unknown (a .kind) (none-of 7 (a .kind) (c .before .match .rest)))) in
     c .nothing-at3 .ensures ∙ met-none (a .s .now) (a .at) (a .kind) none
 
 pub record-of-spec : {M : Type 1} → statement M
@@ -109,6 +117,7 @@ record-of-spec =
     whole-at-requires-4
     whole-at-requires-5
     whole-at-requires-6
+    whole-at-requires-7
     nothing-at-requires-3
     returns-3
     returns-4
@@ -116,4 +125,5 @@ record-of-spec =
     returns-6
     returns-7
     returns-8
-    returns-9)
+    returns-9
+    returns-10)

@@ -12,7 +12,7 @@ record-of-requires c κs = search needs
 returns : tie.Need-returns
 returns c =
     let a = c .before .before .args in
-    c .record-of .ensures ∙ stream-kind (a .s .now) (a .at) 3 4 ring-streams
+    c .record-of .ensures ∙ stream-kind (a .s .now) (a .at) 3 4 (ring-streams _)
 
 pub ring-stream-at-spec : {M : Type 1} → statement M
 ring-stream-at-spec = tie.close (tie.spec record-of-requires returns)

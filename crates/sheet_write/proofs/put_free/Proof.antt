@@ -7,7 +7,7 @@ use borrow.Author.Tests.{not-true, not-false}
 use Rattle.sheet_record.specs.Kinds.{kinds, lineOf, fieldsOf, known, written, inRange}
 use Rattle.sheet_record.specs.Widths.{widthAt}
 use Rattle.sheet_write.specs.Writing.{greatest}
-use Rattle.sheet_record.proofs.Tables.{wide, known-bounds}
+use Rattle.sheet_record.proofs.Tables.{wide, known-bounds, NoneOf, past-all}
 use Rattle.sheet_write.proofs.Writing.{unknown-free, written-known}
 use borrow.Author.Needs.{needs}
 use Rattle.sheet_write.proofs.put_free.Statement.{statement}
@@ -47,11 +47,15 @@ put-whole-requires-5 c κs = (put-kind (c .before .before), rw (c .before .match
 
 put-whole-requires-6 : tie.Need-put-whole-requires-6
 unfolding widthAt fieldsOf lineOf kinds known
-put-whole-requires-6 c κs =
+put-whole-requires-6 c κs = (put-kind (c .before .before), rw (c .before .match .keys6) (wide 6 refl))
+
+put-whole-requires-7 : tie.Need-put-whole-requires-7
+unfolding widthAt fieldsOf lineOf kinds known NoneOf
+put-whole-requires-7 c κs =
     let k = c .before .before .before .before .before .args .r .kind in
     let b = known-bounds k (written-known k (put-kind (c .before .before))) in
-    let e : k ≡ 6 = le-antisymm (b .1) (omega arith) in
-    (put-kind (c .before .before), rw e (wide 6 refl))
+    let e : k ≡ 7 = le-antisymm (b .1) (omega (arith, past-all 6 k (c .before .match .rest) (b .0))) in
+    (put-kind (c .before .before), rw e (wide 7 refl))
 
 same-length : tie.Need-same-length
 same-length c = c .before .before .put-whole .kept .0
@@ -89,6 +93,12 @@ same-length-6 c = c .before .before .put-whole6 .kept .0
 returns-7 : tie.Need-returns-7
 returns-7 c = c .before .before .put-whole6 .ensures
 
+same-length-7 : tie.Need-same-length-7
+same-length-7 c = c .before .before .put-whole7 .kept .0
+
+returns-8 : tie.Need-returns-8
+returns-8 c = c .before .before .put-whole7 .ensures
+
 pub put-free-spec : {M : Type 1} → statement M
 put-free-spec =
     tie.close
@@ -101,6 +111,7 @@ put-free-spec =
     put-whole-requires-4
     put-whole-requires-5
     put-whole-requires-6
+    put-whole-requires-7
     same-length
     returns-2
     same-length-2
@@ -112,4 +123,6 @@ put-free-spec =
     same-length-5
     returns-6
     same-length-6
-    returns-7)
+    returns-7
+    same-length-7
+    returns-8)

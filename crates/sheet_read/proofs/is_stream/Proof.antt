@@ -1,0 +1,22 @@
+-- `sheet_read::is_stream` meets its contract, bus by bus. Assumes nothing.
+use mathlib.Core.Path.{_≡_, sym}
+use mathlib.Core.Logic.{⊎-elim}
+use native.Mathlib.Omega.{arith}
+use Rattle.sheet_record.proofs.Parts.{pnet-streams, ring-streams, variables}
+use Rattle.sheet_read.proofs.is_stream.Statement.{statement}
+use Rattle.sheet_read.proofs.is_stream.Tie as tie
+
+returns : tie.Need-returns
+returns c = rw (c .match .keys1) (sym (pnet-streams (c .before .args .kind)))
+
+returns-2 : tie.Need-returns-2
+returns-2 c = rw (c .match .keys2) (sym (ring-streams (c .before .args .kind)))
+
+returns-3 : tie.Need-returns-3
+returns-3 c =
+    let out = c .match .rest in
+    let five : c .before .args .bus ≡ 5 = ⊎-elim (λ e. omega (arith, out)) (⊎-elim (λ e. omega (arith, out)) (λ e. e)) (c .before .pre) in
+    rw five (sym (variables (c .before .args .kind)))
+
+pub is-stream-spec : {M : Type 1} → statement M
+is-stream-spec = tie.close (tie.spec returns returns-2 returns-3)
