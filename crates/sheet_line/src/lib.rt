@@ -59,6 +59,7 @@ pub fn put_line(out: &mut [u8], at: usize, r: Record) -> usize
         4 => put_cells(out, at, b"profibus-stream,", r, 2, b" bp"),
         5 => put_counted(out, at, b"worldfip-exchange,", r.a as u64, b" us\n"),
         6 => put_cells(out, at, b"worldfip-variable,", r, 1, b" us"),
+        7 => put_cells(out, at, b"pnet-jitter-stream,", r, 4, b" bp"),
         _ => text::put_word(out, at, b""),
     }
 }
@@ -100,6 +101,9 @@ pub fn kind_in(line: &[u8]) -> u8
     }
     if begins(line, b"worldfip-variable,") {
         return 6;
+    }
+    if begins(line, b"pnet-jitter-stream,") {
+        return 7;
     }
     0
 }
@@ -169,6 +173,7 @@ fn sayable(r: Record) -> bool
         4 => (a <= 255) & (d == 0) & (e == 0),
         5 => (b == 0) & (c == 0) & (d == 0) & (e == 0),
         6 => (a <= 65535) & (c == 0) & (d == 0) & (e == 0),
+        7 => (a <= 255) & (b <= 65535),
         _ => false,
     }
 }

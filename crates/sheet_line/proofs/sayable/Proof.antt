@@ -6,7 +6,7 @@ use borrow.Author.Tests.{lt-ltb}
 use lib.Dec.{ltb}
 use Rattle.sheet_record.specs.Kinds.{kinds, lineOf, fieldsOf}
 use Rattle.sheet_line.specs.Lines.{wordOf, hasWord, inBytes}
-use Rattle.sheet_line.proofs.Lines.{no-word, judged-by, not-sayable, below-next}
+use Rattle.sheet_line.proofs.Lines.{left-out, judged-by, not-sayable, below-next}
 use Rattle.sheet_line.proofs.sayable.Statement.{statement}
 use Rattle.sheet_line.proofs.sayable.Tie as tie
 
@@ -45,7 +45,16 @@ returns-5 c =
     rw (judged-by 6 r (c .match .keys5), below-next (r .a) 65535, x) (simp (and-assoc, and-true))
 
 returns-6 : tie.Need-returns-6
-returns-6 c = sym (not-sayable (c .before .args .r) (no-word _ (λ lo hi. omega (arith, c .match .rest))))
+unfolding hasWord wordOf inBytes fieldsOf lineOf kinds
+returns-6 c =
+    let r = c .before .args .r in
+    let x : ltb (r .c) 4294967296 ≡ true = lt-ltb (r .c) 4294967296 (omega arith) in
+    let y : ltb (r .d) 4294967296 ≡ true = lt-ltb (r .d) 4294967296 (omega arith) in
+    let z : ltb (r .e) 4294967296 ≡ true = lt-ltb (r .e) 4294967296 (omega arith) in
+    rw (judged-by 7 r (c .match .keys6), below-next (r .a) 255, below-next (r .b) 65535, x, y, z) (simp (and-assoc, and-true))
+
+returns-7 : tie.Need-returns-7
+returns-7 c = sym (not-sayable (c .before .args .r) (left-out _ (c .match .rest)))
 
 pub sayable-spec : {M : Type 1} → statement M
-sayable-spec = tie.close (tie.spec returns returns-2 returns-3 returns-4 returns-5 returns-6)
+sayable-spec = tie.close (tie.spec returns returns-2 returns-3 returns-4 returns-5 returns-6 returns-7)
