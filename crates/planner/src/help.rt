@@ -5,7 +5,7 @@ use crate::output::put;
 use planner_complaints::complain;
 
 // The version of the project.
-const VERSION: [u8; 14] = *b"planner 1.6.0
+const VERSION: [u8; 14] = *b"planner 1.7.0
 ";
 
 // How the program is called, but for its commands.
@@ -71,6 +71,9 @@ kind  body  fields, each with its bytes and its range
             deadline D (4) 1..1000000000 bp
    5     4  WorldFIP: one buffer exchange E (4) 1..1000000 us
    6     6  WorldFIP variable: identifier (2) any, period (4) 1..1000000000 us
+   7    15  P-NET stream with release jitter: master (1) 1..N, longest cycle
+            C (2) 1..1548 bp, spacing T (4) 1..1000000000 bp, deadline
+            D (4) 1..T-J bp, jitter J (4) 0..T-1 bp
 ",
     )
 }
@@ -78,10 +81,14 @@ kind  body  fields, each with its bytes and its range
 fn rules() -> bool {
     put(
         b"
-The first record is 1, 3 or 5; all later ones are 2, 4 or 6 to match. P-NET and
-PROFIBUS: at most 800 streams, at most 80 for one master. WorldFIP: at most 64
-variables, no identifier twice. us are microseconds and ns nanoseconds. bp are
+The first record is 1, 3 or 5; all later ones are 2 or 7, 4 or 6 to match. P-NET
+and PROFIBUS: at most 800 streams, at most 80 for one master. WorldFIP: at most
+64 variables, no identifier twice. us are microseconds and ns nanoseconds. bp are
 bit periods: of P-NET, 48 in 625 us or 6 in 78125 ns; of that ring for PROFIBUS.
+
+A P-NET stream keeps its spacing if each request comes 0 to J after a nominal
+time of its own, and these are at least T apart; without jitter, if its requests
+are at least T apart.
 ",
     )
 }
@@ -97,6 +104,7 @@ one of these words and a comma, and has one record a line:
    profibus-stream,MASTER,CYCLE bp,DEADLINE bp
    worldfip-exchange,EXCHANGE us
    worldfip-variable,IDENTIFIER,PERIOD us
+   pnet-jitter-stream,MASTER,CYCLE bp,SPACING bp,DEADLINE bp,JITTER bp
 
 Numbers are decimal digits with no zero in front; behind each time stands one
 blank and its unit; each line ends with LF, the last one too. --export writes

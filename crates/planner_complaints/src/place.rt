@@ -39,10 +39,15 @@ pub(crate) fn cell_at(line: &[u8], at: usize) -> Cell {
     Cell { number, start }
 }
 
+// Of these kinds the second number, C, has two bytes.
+pub(crate) fn is_pnet_stream(kind: u8) -> bool {
+    (kind == 2) | (kind == 7)
+}
+
 // In a line that is a record's own and still not of the form, the first cell with a number too big: of P-NET streams the second, if not the first.
 pub(crate) fn big_cell(line: &[u8], taken: Record) -> usize {
     let first = one_more(find(line, 0, b','));
-    if (taken.kind == 2) & (taken.a <= 255) {
+    if is_pnet_stream(taken.kind) & (taken.a <= 255) {
         return one_more(find(line, first, b','));
     }
     first
@@ -114,7 +119,7 @@ pub(crate) fn slip_in(line: &[u8], kind: u8) -> Slip {
 
 // The greatest number that a cell's field holds.
 pub(crate) fn greatest(kind: u8, cell: usize) -> u64 {
-    if (cell == 2) & (kind == 2) {
+    if (cell == 2) & is_pnet_stream(kind) {
         return 65_535;
     }
     if cell != 1 {

@@ -27,12 +27,13 @@ use sheet_record::record_at;
 // ---- Lists of words, a line for each number from 1 on
 
 // The form of a line, by its kind. Kind 3 has none.
-const FORMS: [u8; 186] = *b"pnet-segment,MASTERS
+const FORMS: [u8; 254] = *b"pnet-segment,MASTERS
 pnet-stream,MASTER,CYCLE bp,SPACING bp,DEADLINE bp
 
 profibus-stream,MASTER,CYCLE bp,DEADLINE bp
 worldfip-exchange,EXCHANGE us
 worldfip-variable,IDENTIFIER,PERIOD us
+pnet-jitter-stream,MASTER,CYCLE bp,SPACING bp,DEADLINE bp,JITTER bp
 ";
 
 // What can be wanted at a place.
@@ -104,6 +105,11 @@ fn tell_wanted(k: usize) {
     say(&WANTED, k);
 }
 
+// Times of this kind are in us, else in bp.
+fn is_in_us(kind: u8) -> bool {
+    (kind == 5) | (kind == 6)
+}
+
 // Which of the list is wanted in a line of this kind where its own line has this byte.
 fn wanted_by(kind: u8, byte: u8) -> usize {
     if is_digit(byte) {
@@ -112,8 +118,8 @@ fn wanted_by(kind: u8, byte: u8) -> usize {
     match byte {
         b',' => CELL,
         b'\n' => END,
-        b' ' => { if kind < 5 { BLANK_BP } else { BLANK_US } }
-        _ => { if kind < 5 { BP } else { US } }
+        b' ' => { if is_in_us(kind) { BLANK_US } else { BLANK_BP } }
+        _ => { if is_in_us(kind) { US } else { BP } }
     }
 }
 
@@ -127,11 +133,11 @@ fn say_unit(kind: u8, cell: usize) {
     if (cell == 1) & (kind != 5) {
         return;
     }
-    if kind < 5 {
-        complain(b" bp");
+    if is_in_us(kind) {
+        complain(b" us");
         return;
     }
-    complain(b" us");
+    complain(b" bp");
 }
 
 // ---- A line that is not of the form
@@ -140,7 +146,7 @@ fn tell_word(name: &[u8], number: usize, line: &[u8]) {
     show_place(name, number, line, 0);
     tell_wanted(WORD);
     complain(
-        b"planner: pnet-segment, pnet-stream, profibus-stream, worldfip-exchange, worldfip-variable\n",
+        b"planner: pnet-segment, pnet-stream, profibus-stream, worldfip-exchange, worldfip-variable, pnet-jitter-stream\n",
     );
     advise(advice_on_word(line));
 }

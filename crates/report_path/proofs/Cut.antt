@@ -1,4 +1,4 @@
--- A bounded buffer serves for each sheet of a path: bytes behind the first 9,614 change neither the path's report nor whether it is accepted.
+-- A bounded buffer serves for each sheet of a path: bytes behind the first 12,818 change neither the path's report nor whether it is accepted.
 -- Assumes nothing.
 use mathlib.Core.Path.{_≡_, refl, ap, _∙_, fun-ext}
 use mathlib.Core.Bool.{Bool}

@@ -48,9 +48,15 @@ too-big = (refl, refl, refl, refl)
 -- a leading zero, a unit that is missing, one of the wrong kind, the word of a kind that has not landed
 not-of-the-form : (importAnswer 99 (word "pnet-segment,00\n") ≡ put.Refused 23 1) × (importAnswer 99 (word "worldfip-exchange,184\n") ≡ put.Refused 23 1)
     × (importAnswer 99 (word "worldfip-exchange,184 bp\n") ≡ put.Refused 23 1)
-    × (importAnswer 99 (word "pnet-segment,2\npnet-jitter-stream,1,9 bp,99 bp,9 bp,0 bp\n") ≡ put.Refused 23 2)
+    × (importAnswer 99 (word "pnet-segment,2\npnet-edition,2\n") ≡ put.Refused 23 2)
 unfolding exportAnswer exportBytes importAnswer importBytes sheetOf decimal widthOf holds firstOf places
 not-of-the-form = (refl, refl, refl, refl)
+
+-- with release jitter, and with J past T - D
+jittered : (importAnswer 99 (word "pnet-segment,2\npnet-jitter-stream,1,9 bp,99 bp,9 bp,90 bp\n") ≡ put.Next 18)
+    × (importAnswer 99 (word "pnet-segment,2\npnet-jitter-stream,1,9 bp,99 bp,9 bp,91 bp\n") ≡ put.Refused 4 2)
+unfolding exportAnswer exportBytes importAnswer importBytes sheetOf decimal widthOf holds firstOf places
+jittered = (refl, refl)
 
 -- export reads first; a ring of kind 3 has no text
 kind-three : (exportAnswer 99 (3 ∷ []) ≡ put.Refused 1 0) × (exportAnswer 99 (3 ∷ 1 ∷ 0 ∷ 0 ∷ 0 ∷ 1 ∷ 0 ∷ 0 ∷ 0 ∷ 1 ∷ []) ≡ put.Refused 6 10)

@@ -72,7 +72,7 @@ written-at-most room s n e =
     let x = export-then room s n e in
     omega (arith, x .is-length, text-at-most s (x .sheet) (x .reads), most-text-is)
 
-pub read-at-most : (room : ℕ) (t : List ℕ) (n : ℕ) → importAnswer room t ≡ put.Next n → n ≤ 9602
+pub read-at-most : (room : ℕ) (t : List ℕ) (n : ℕ) → importAnswer room t ≡ put.Next n → n ≤ 12802
 read-at-most room t n e =
     let x = import-then room t n e in
     omega (arith, x .is-length, length-at-most (x .bytes) (x .sheet) (x .reads), longest-sheet-is)
