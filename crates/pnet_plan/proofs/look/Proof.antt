@@ -107,7 +107,7 @@ loop-again : tie.Need-loop-again Inv-loop μ-loop
 unfolding up
 loop-again c =
     let l = c .before .before .before .before .before .loop in
-    (search needs, looking-more (l .inv .1) _ (least (c .before .before)) (omega arith) (c .smaller .ensures))
+    (search needs, looking-more (l .inv .1) _ (least (c .before .before)) (omega arith) (omega (arith, c .smaller .ensures)))
 
 returns-2 : tie.Need-returns-2 Inv-loop μ-loop
 returns-2 c =

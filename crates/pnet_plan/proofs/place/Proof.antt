@@ -24,15 +24,15 @@ abbrev Inv-loop : tie.InvT-loop
 Inv-loop s first streams counts turn ends₀ slacks₀ pairs₀ at₀ i₀ ends slacks pairs at i =
     (i ≤ streams)
     × (at ≡ streamPlace s i)
-    × (length pairs ≡ length pairs₀)
-    × ((j : ℕ) → j < i → late (segmentIn s) (j + 1) ≡ false)
     × Grouped (segmentIn s) i ends slacks pairs
+    × ((j : ℕ) → j < i → late (segmentIn s) (j + 1) ≡ false)
+    × (length pairs ≡ length pairs₀)
 
 abbrev μ-loop : tie.MeasureT-loop
 μ-loop s first streams counts turn ends₀ slacks₀ pairs₀ at₀ i₀ ends slacks pairs at i = streams - i
 
 loop-holds : tie.Need-loop-holds Inv-loop μ-loop
-loop-holds c = let p = c .before .before .pre in (search needs, p .0 .0 .starts, search needs, below-none _, p .1 .1)
+loop-holds c = let p = c .before .before .pre in (search needs, p .0 .0 .starts, p .1 .1, below-none _, search needs)
 
 pnet-stream-at-requires : tie.Need-pnet-stream-at-requires Inv-loop μ-loop
 pnet-stream-at-requires c κs = search needs
@@ -51,7 +51,7 @@ master c = its-master (c .before .before .before .before .before .pre .0 .0) (om
 -- and there is a place for it
 few : (c : tie.After-pnet-stream-at Inv-loop μ-loop)
     → Small (c .pnet-stream-at .result .found .a) (at (c .before .before .loop .ends) (c .pnet-stream-at .result .found .a)) (length (c .before .before .loop .pairs))
-few c = small (c .before .before .before .before .before .pre .0 .0) (omega arith) (c .pnet-stream-at .result) (its c) (c .before .before .loop .inv .4)
+few c = small (c .before .before .before .before .before .pre .0 .0) (omega arith) (c .pnet-stream-at .result) (its c) (c .before .before .loop .inv .2)
 
 cast-m : tie.Need-cast-m Inv-loop μ-loop
 cast-m c = omega (arith, master (c .before .before))
@@ -174,10 +174,10 @@ loop-again c =
     let place = 2 * at (l .ends) (f .a) in (
       search needs,
       its r .next,
-      length-set (set (l .pairs) place (f .c)) (place + 1) (f .e) ∙ (length-set (l .pairs) place (f .c) ∙ l .inv .2),
+      grouped-next (p .0 .0) (omega arith) (r .pnet-stream-at .result) (its r) (l .inv .2) (c .smaller .result) (omega (arith, c .smaller .ensures)),
       below-more _ _ (l .inv .3)
           (its-not-late (p .0 .0) (omega arith) (r .pnet-stream-at .result) (its r) (a .counts .now) (a .turn) (p .1 .0 .1) (p .1 .0 .0) (omega (arith, c .before .before .before .before .if1 .left))),
-      grouped-next (p .0 .0) (omega arith) (r .pnet-stream-at .result) (its r) (l .inv .4) (c .smaller .result) (c .smaller .ensures),
+      length-set (set (l .pairs) place (f .c)) (place + 1) (f .e) ∙ (length-set (l .pairs) place (f .c) ∙ l .inv .4),
     )
 
 add-result-2 : tie.Need-add-result-2 Inv-loop μ-loop
@@ -194,7 +194,7 @@ returns-2 c =
     let p = c .before .before .before .before .pre in
     let S = segmentIn (a .s .now) in
     let e : l .i ≡ a .streams = omega arith in
-    (first-nowhere (late S) (a .streams) (l .i) (l .inv .3) e ∙ ap (λ (k : ℕ). firstOf (late S) k 1) (number-is (p .0 .0)), λ over. subst (λ (k : ℕ). Grouped S k (l .ends) (l .slacks) (l .pairs)) e (l .inv .4))
+    (first-nowhere (late S) (a .streams) (l .i) (l .inv .3) e ∙ ap (λ (k : ℕ). firstOf (late S) k 1) (number-is (p .0 .0)), λ over. subst (λ (k : ℕ). Grouped S k (l .ends) (l .slacks) (l .pairs)) e (l .inv .2))
 
 pub place-spec : {M : Type 1} → statement M
 place-spec =
