@@ -17,6 +17,7 @@ use Rattle.pnet_rules.specs.Limits.{Ranged, Declared}
 use Rattle.pnet_run.specs.Run.{Belongs, Request, request, Answer, answer, Queues, put, Token, toward, on-way, next, Run, start, arrive, travel, skip}
 use Rattle.pnet_run.specs.Promise.{none, and, Spaced, Answered, Reached, Accepted}
 use Rattle.pnet_run.proofs.Picked.{picked}
+use Rattle.pnet_run.proofs.Spacing.{apart-spaced}
 use Rattle.pnet_run.proofs.Slowest.{slowest, asked, queuesTo, askedTo, all-asked, asked-each, asked-spaced}
 use Rattle.pnet_run.proofs.Demand.{accepted-if-none-is-late}
 
@@ -52,6 +53,7 @@ in-range m lo hi = record {
   spacing-to = omega arith;
   deadline-from = omega arith;
   deadline-to = omega arith;
+  jitter-to = omega arith;
 }
 
 declared : Declared two
@@ -145,17 +147,19 @@ behind {i} {a} {j} {l} m n =
 
 -- each of its streams asks once, and stream 3 is not its own
 pub master-1-keeps-its-spacing : Spaced two 1 came
-master-1-keeps-its-spacing i b =
-    and (λ e a j. absurd (second e a j)) (and (λ e a j. absurd (first e a j)) (and (λ e a j. absurd (other e)) (and (λ e a j. absurd (List·Memᴰ·not-nil j)) none)))
+master-1-keeps-its-spacing =
+    apart-spaced {S = two}
+    (λ i b.
+    and (λ e a j. absurd (second e a j)) (and (λ e a j. absurd (first e a j)) (and (λ e a j. absurd (other b e)) (and (λ e a j. absurd (List·Memᴰ·not-nil j)) none))))
   where
-    first : 1 ≡ i → (a : ℕ) → List·Memᴰ (request i a) (request 3 0 ∷ request 3 0 ∷ []) → ⊥
+    first : {i : ℕ} → 1 ≡ i → (a : ℕ) → List·Memᴰ (request i a) (request 3 0 ∷ request 3 0 ∷ []) → ⊥
     first e a j = List·Memᴰ·not-nil (behind (behind j (λ z. omega arith)) (λ z. omega arith))
 
-    second : 2 ≡ i → (a : ℕ) → List·Memᴰ (request i a) (request 1 0 ∷ request 3 0 ∷ request 3 0 ∷ []) → ⊥
+    second : {i : ℕ} → 2 ≡ i → (a : ℕ) → List·Memᴰ (request i a) (request 1 0 ∷ request 3 0 ∷ request 3 0 ∷ []) → ⊥
     second e a j = List·Memᴰ·not-nil (behind (behind (behind j (λ z. omega arith)) (λ z. omega arith)) (λ z. omega arith))
 
-    other : 3 ≡ i → ⊥
-    other e = omega (arith, ap (λ (x : ℕ). two .stream x .master) e, stream-3 .own, b .own)
+    other : {i : ℕ} → Belongs two 1 i → 3 ≡ i → ⊥
+    other b e = omega (arith, ap (λ (x : ℕ). two .stream x .master) e, stream-3 .own, b .own)
 
 -- ---- The refined figure is not safe where master 1 alone keeps its spacing
 
