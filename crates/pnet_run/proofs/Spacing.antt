@@ -49,8 +49,7 @@ came-of {i = i} (asks {r = r} {due = due} u own from to far kept) v j =
 -- no two requests of a stream share a nominal time
 pub a-nominal-time-of-its-own : {T J i u : ℕ} {came : List Request} {due : List ℕ} → 1 ≤ T → Kept T J i came (u ∷ due) → List·Memᴰ u due → ⊥
 a-nominal-time-of-its-own some (other n kept) j = a-nominal-time-of-its-own some kept j
-a-nominal-time-of-its-own {T} some (asks u own from to far kept) j =
-    ⊎-elim (λ (l : u + T ≤ u). omega arith) (λ (l : u + T ≤ u). omega arith) (far u j)
+a-nominal-time-of-its-own some (asks u own from to far kept) j = ⊎-elim (λ l. omega arith) (λ l. omega arith) (far u j)
 
 -- what was kept before the latest request
 pub kept-before : {T J i : ℕ} {r : Request} {came : List Request} {due : List ℕ} → Kept T J i (r ∷ came) due → (earlier : List ℕ) × Kept T J i came earlier
@@ -64,9 +63,9 @@ spaced-before spaced i b = kept-before (spaced i b .1)
 pub kept-loosely : {T J U K i : ℕ} {came : List Request} {due : List ℕ} → U ≤ T → J ≤ K → Kept T J i came due → Kept U K i came due
 kept-loosely l m quiet = quiet
 kept-loosely l m (other n kept) = other n (kept-loosely l m kept)
-kept-loosely {T} {U = U} l m (asks u own from to far kept) =
+kept-loosely l m (asks u own from to far kept) =
     asks u own from (omega arith)
-    (λ v j. ⊎-elim (λ (x : u + T ≤ v). inl (omega arith)) (λ (x : v + T ≤ u). inr (omega arith)) (far v j))
+    (λ v j. ⊎-elim (λ x. inl (omega arith)) (λ x. inr (omega arith)) (far v j))
     (kept-loosely l m kept)
 
 -- ---- The order of arrivals in a run
@@ -88,9 +87,9 @@ came-in-order (skip e z p a b) = came-in-order z
 -- nominal times come in the order of the arrivals, since J is below T
 due-in-order : {T J i t u : ℕ} {came : List Request} {due : List ℕ} → J < T → ((s : Request) → List·Memᴰ s came → s .since ≤ t)
     → t ≤ u → ((v : ℕ) → List·Memᴰ v due → (u + T ≤ v) ⊎ (v + T ≤ u)) → Kept T J i came due → (v : ℕ) → List·Memᴰ v due → v + T ≤ u
-due-in-order {T} {i = i} {u = u} short order from far kept v j =
+due-in-order {i = i} short order from far kept v j =
     let a = came-of kept v j in
-    ⊎-elim (λ (l : u + T ≤ v). absurd (omega (arith, order (request i (a .0)) (a .1), a .3))) (λ (l : v + T ≤ u). l) (far v j)
+    ⊎-elim (λ l. omega (arith, order (request i (a .0)) (a .1), a .3)) (λ l. omega arith) (far v j)
 
 -- ---- With jitter the arrivals are T - J apart
 
@@ -170,7 +169,7 @@ unfolding every nominals
 asking-every-d-up-to-J-late-keeps-the-spacing late J most d i zero = quiet
 asking-every-d-up-to-J-late-keeps-the-spacing late J most d i (suc n) =
     asks {r = request i (n * d + late n)} (n * d + J) refl (omega (arith, most n)) (omega arith)
-    (λ v j. inr (in-nominals J d n v j)) (asking-every-d-up-to-J-late-keeps-the-spacing late J most d i n)
+    (λ v j. inr (omega (arith, in-nominals J d n v j))) (asking-every-d-up-to-J-late-keeps-the-spacing late J most d i n)
 
 -- never late: each arrival is d behind the one before
 abbrev punctual : ℕ → ℕ

@@ -68,7 +68,8 @@ window-with-jitter {J = J} {i = i} {due = due} lo hi n short d order kept before
     omega (
       arith,
       counted-by-due lo kept,
-      window lo (hi + J) n (omega arith) (omega arith) (map (request i) due) (due-apart short order kept) (λ a j. by-then a (Memᴰ·of-map (request i) due j)) enough,
+      window lo (hi + J) n (omega arith) (omega arith) (map (request i) due) (due-apart short order kept) (λ a j. by-then a (Memᴰ·of-map (request i) due j))
+          (omega arith),
     )
   where
     by-then : (a : ℕ) → (v : ℕ) × List·Memᴰ v due × (request i v ≡ request i a) → a < hi + J
