@@ -1,4 +1,4 @@
--- Demand 3, sentence by sentence, and what page 02's Ask 2 adds to it. The bus and its runs are in specs/Run, the words of the promise in
+-- Demand 3, sentence by sentence, and what page 02's Asks 2 and 7 add to it. The bus and its runs are in specs/Run, the words of the promise in
 -- specs/Promise, and the bound R and the refined figure W are the planner's, of crates/pnet_rules. Assumes nothing.
 use Prim.Native.Nat.{ℕ, _-_, _≤_}
 use mathlib.Core.Path.{_≡_}
@@ -44,8 +44,9 @@ fits-spacing accepted m i d = omega (arith, accepted .declared .ranges i (d .fro
 
 -- Every `Run` is such a run, cut at any instant: empty queues, one message a visit, first-come queues and messages of 1 to C bp
 -- are how `Run` is defined. What the sentence supposes of the master's requests is `Spaced`, of that master alone; nothing is supposed of the
--- others. `Answered` says that no request of the master was completed later than its arrival plus the bound, and that each was
--- completed by then if the run lasts that long.
+-- others. What it is to keep the spacing, page 02's Ask 7 says: 'each arrival is 0 to J after a nominal time of its own, and a stream's
+-- nominal times are at least T apart'. Where J is 0, as in every kind 2 record, that is arrivals T apart (Spacing). `Answered` says that no
+-- request of the master was completed later than its arrival plus the bound, and that each was completed by then if the run lasts that long.
 
 pub each-request-is-answered-within-the-bound : (sheet : Sheet) → Accepted (segmentOf sheet) → (k : ℕ)
     → {now : ℕ} {token : Token} {queues : Queues} {came : List Request} {went : List Answer}
@@ -96,7 +97,7 @@ no-run-is-stuck sheet declared {token = token} run = goes-on (segmentOf sheet) (
 -- figure.'
 
 -- The figure is W of crates/pnet_rules, the one that the planner writes. Here every master keeps its spacing: where another asks oftener
--- than declared, W is not promised (TwoMasters has such a run), and R still is.
+-- than declared, W is not promised (TwoMasters has such a run), and R still is. Ask 7 adds J to the count; with less W would be false (Jitter).
 
 pub each-request-is-answered-within-the-refined-figure : (sheet : Sheet) → Accepted (segmentOf sheet) → (k : ℕ)
     → {now : ℕ} {token : Token} {queues : Queues} {came : List Request} {went : List Answer}

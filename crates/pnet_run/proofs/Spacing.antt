@@ -85,11 +85,12 @@ came-in-order (serve e x c z p a b d f g o) = came-in-order z
 came-in-order (skip e z p a b) = came-in-order z
 
 -- nominal times come in the order of the arrivals, since J is below T
-due-in-order : {T J i t u : ℕ} {came : List Request} {due : List ℕ} → J < T → ((s : Request) → List·Memᴰ s came → s .since ≤ t)
-    → t ≤ u → ((v : ℕ) → List·Memᴰ v due → (u + T ≤ v) ⊎ (v + T ≤ u)) → Kept T J i came due → (v : ℕ) → List·Memᴰ v due → v + T ≤ u
-due-in-order {i = i} short order from far kept v j =
+due-in-order : {T J i u : ℕ} {r : Request} {came : List Request} {due : List ℕ} → J < T → InOrder (r ∷ came) → r .of ≡ i → Kept T J i (r ∷ came) (u ∷ due)
+    → (v : ℕ) → List·Memᴰ v due → v + T ≤ u
+due-in-order short (later o order) e (other n kept) v j = absurd (n e)
+due-in-order {i = i} short (later o order) e (asks u own from to far kept) v j =
     let a = came-of kept v j in
-    ⊎-elim (λ l. omega (arith, order (request i (a .0)) (a .1), a .3)) (λ l. omega arith) (far v j)
+    ⊎-elim (λ l. omega (arith, o (request i (a .0)) (a .1), a .3)) (λ l. omega arith) (far v j)
 
 -- ---- With jitter the arrivals are T - J apart
 
@@ -97,7 +98,9 @@ pub kept-apart : {T J i : ℕ} {came : List Request} {due : List ℕ} → J < T 
 kept-apart short order quiet = none
 kept-apart short (later o order) (other n kept) = and (λ e a j. absurd (n e)) (kept-apart short order kept)
 kept-apart short (later o order) (asks {r = r} u own from to far kept) =
-    and {r = r} (λ e a j. let v = due-of kept a j in omega (arith, v .2, due-in-order short o from far kept (v .0) (v .1))) (kept-apart short order kept)
+    and {r = r}
+    (λ e a j. let v = due-of kept a j in omega (arith, v .2, due-in-order short (later o order) own (asks {r = r} u own from to far kept) (v .0) (v .1)))
+    (kept-apart short order kept)
 
 -- so it is for each stream of a master that keeps its spacing
 pub spaced-apart : {S : Segment} {k t : ℕ} {y : Token} {q : Queues} {came : List Request} {went : List Answer}
@@ -109,11 +112,16 @@ spaced-apart declared run spaced i b =
 pub due-apart : {T J i : ℕ} {came : List Request} {due : List ℕ} → J < T → InOrder came → Kept T J i came due → Apart T i (map (request i) due)
 due-apart short order quiet = none
 due-apart short (later o order) (other n kept) = due-apart short order kept
-due-apart {T} {i = i} short (later o order) (asks {due = due} u own from to far kept) =
+due-apart {T} {i = i} short (later o order) (asks {r = r} {due = due} u own from to far kept) =
     and {r = request i u} (λ e a j. at a (Memᴰ·of-map (request i) due j)) (due-apart short order kept)
   where
     at : (a : ℕ) → (v : ℕ) × List·Memᴰ v due × (request i v ≡ request i a) → a + T ≤ u
-    at a v = omega (arith, due-in-order short o from far kept (v .0) (v .1), ap (λ (r : Request). r .since) (v .2))
+    at a v =
+        omega (
+          arith,
+          due-in-order short (later o order) own (asks {r = r} u own from to far kept) (v .0) (v .1),
+          ap (λ (s : Request). s .since) (v .2),
+        )
 
 -- ---- Without jitter
 
