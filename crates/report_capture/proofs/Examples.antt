@@ -36,7 +36,7 @@ second = refl
 
 -- nothing above, and yet not clean: a request left open for ever, requests too soon, nothing heard
 each-alone : (lastLines (item []) (item (0 ∷ 0 ∷ 1 ∷ [])) (item (4 ∷ [])) 0 0 false 3 ≡ word "requests open beyond the bound in 1 streams, first stream 3\n")
-    × (lastLines (item []) (item []) (item (4 ∷ [])) 4 3 false 3 ≡ word "requests sooner than T after the one before 4 times, first stream 3\n")
+    × (lastLines (item []) (item []) (item (4 ∷ [])) 4 3 false 3 ≡ word "requests sooner than their spacing allows 4 times, first stream 3\n")
     × (lastLines (item []) (item []) (item []) 0 0 false 3 ≡ word "no answer in the whole capture\n")
 unfolding lastLines clean faultLines streamsLine agesLines soonLine silenceLine exceeding exceeds first sum decimal places widthOf holds firstOf
 each-alone = (refl, refl, refl)
@@ -45,7 +45,7 @@ each-alone = (refl, refl, refl)
 together : (lastLines (item (0 ∷ 1 ∷ [])) (item (1 ∷ 1 ∷ [])) (item []) 2 1 false 2
     ≡ word "answers above the bound in 1 streams, first stream 2\n"
     · word "requests open beyond the bound in 2 streams, first stream 1\n"
-    · word "requests sooner than T after the one before 2 times, first stream 1\n"
+    · word "requests sooner than their spacing allows 2 times, first stream 1\n"
     · word "no answer in the whole capture\n")
     × (lastLines (item (0 ∷ 1 ∷ [])) (item (1 ∷ 1 ∷ [])) (item []) 2 1 true 2
     ≡ word "answers above the bound in 1 streams, first stream 2\n"

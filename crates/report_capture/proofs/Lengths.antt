@@ -60,31 +60,31 @@ module _ (n : ℕ) (few : n ≤ 800) where
       split false = omega arith
 
   module _ (above late answers : ℕ → ℕ) (soon whose : ℕ) (s : soon < 2 ^ 64) (w : whose < 2 ^ 32) where
-    soon-most : length (soonLine soon whose) ≤ 96
+    soon-most : length (soonLine soon whose) ≤ 94
     unfolding soonLine
     soon-most = split (eqb soon 0)
       where
-        split : (b : Bool) → length (cond b [] (word "requests sooner than T after the one before " ++ (decimal soon ++ (word " times, first stream " ++ (decimal whose ++ word "\n"))))) ≤ 96
+        split : (b : Bool) → length (cond b [] (word "requests sooner than their spacing allows " ++ (decimal soon ++ (word " times, first stream " ++ (decimal whose ++ word "\n"))))) ≤ 94
         split true = omega arith
         split false =
             simp length-append
             (omega (arith, decimal-most 20 soon (omega arith) (omega arith) (omega arith), decimal-most 10 whose (omega arith) (omega arith) (omega arith)))
 
-    ages-most : (broken : Bool) → length (agesLines late soon whose broken n) ≤ 160
+    ages-most : (broken : Bool) → length (agesLines late soon whose broken n) ≤ 158
     unfolding agesLines
     ages-most true = omega arith
     ages-most false =
         let overdue = streamsLine (word "requests open beyond the bound in ") late n in
         omega (arith, length-append overdue (soonLine soon whose), streams-most (word "requests open beyond the bound in ") late, soon-most)
 
-    last-most : (broken : Bool) → length (lastLines above late answers soon whose broken n) ≤ 248
+    last-most : (broken : Bool) → length (lastLines above late answers soon whose broken n) ≤ 246
     unfolding lastLines faultLines
     last-most broken = split (clean above late answers soon broken n)
       where
         over : List ℕ
         over = streamsLine (word "answers above the bound in ") above n
 
-        split : (b : Bool) → length (cond b (word "every answer within its bound\n") (over ++ (agesLines late soon whose broken n ++ silenceLine answers n))) ≤ 248
+        split : (b : Bool) → length (cond b (word "every answer within its bound\n") (over ++ (agesLines late soon whose broken n ++ silenceLine answers n))) ≤ 246
         split true = omega arith
         split false =
             omega (

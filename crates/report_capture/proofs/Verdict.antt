@@ -18,7 +18,7 @@ soon-other : (soon whose : ℕ) (rest : List ℕ) → Other rest → Other (soon
 unfolding soonLine
 soon-other soon whose rest o = split (eqb soon 0)
   where
-    split : (b : Bool) → Other (cond b [] (word "requests sooner than T after the one before " ++ (decimal soon ++ (word " times, first stream " ++ (decimal whose ++ word "\n")))) ++ rest)
+    split : (b : Bool) → Other (cond b [] (word "requests sooner than their spacing allows " ++ (decimal soon ++ (word " times, first stream " ++ (decimal whose ++ word "\n")))) ++ rest)
     split true = o
     split false = λ e. omega arith
 

@@ -12,7 +12,7 @@ use Rattle.report_phrases.specs.Phrases.{nameOf, twoCounts}
 
 -- no capture's report of at most 800 streams is longer
 abbrev pub mostCapture : ℕ
-mostCapture = 126662
+mostCapture = 126660
 
 -- nor the line of one of them
 abbrev pub mostLine : ℕ
@@ -64,7 +64,7 @@ streamsLine words run n =
 unfoldable pub soonLine : ℕ → ℕ → List ℕ
 soonLine soon whose =
     cond (eqb soon 0) []
-    (word "requests sooner than T after the one before " · decimal soon · word " times, first stream " · decimal whose · word "\n")
+    (word "requests sooner than their spacing allows " · decimal soon · word " times, first stream " · decimal whose · word "\n")
 
 -- requests open for too long and requests that came too soon; neither is known where two successive records are 2^31 bp or more apart
 unfoldable pub agesLines : (ℕ → ℕ) → ℕ → ℕ → Bool → ℕ → List ℕ

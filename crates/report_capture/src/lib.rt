@@ -14,7 +14,7 @@ ghost use Rattle.report_capture.specs.Shown;
 ghost use Rattle.report_capture.specs.Shown.{mostCapture, mostLine, whoseText, countsText, streamLine, streamAt, streamsLine, soonLine, agesLines, silenceLine, faultLines, lastLines, captureText, captureRefusal};
 
 // No report of a capture is longer.
-pub const MOST_TEXT: usize = 126_662;
+pub const MOST_TEXT: usize = 126_660;
 
 // Room for every report of a capture.
 pub fn text_buffer() -> [u8; MOST_TEXT]
@@ -150,7 +150,7 @@ fn put_soon(out: &mut [u8], at: usize, soon: u64, whose: u32) -> usize
     let next = put_counted(
         out,
         at,
-        b"requests sooner than T after the one before ",
+        b"requests sooner than their spacing allows ",
         soon,
         b" times, first stream ",
     );

@@ -17,11 +17,11 @@ module _ (soon whose : ℕ) where
   soon-none z = simp (eq-eqb soon 0 z)
 
   soon-some : (soon ≡ 0 → ⊥)
-      → soonLine soon whose ≡ counted (word "requests sooner than T after the one before ") soon (word " times, first stream ") ++ counted [] whose (word "\n")
+      → soonLine soon whose ≡ counted (word "requests sooner than their spacing allows ") soon (word " times, first stream ") ++ counted [] whose (word "\n")
   unfolding soonLine counted
   soon-some some =
       simp (ne-eqb soon 0 some)
-      (counted-then (word "requests sooner than T after the one before ") soon (word " times, first stream ") (counted [] whose (word "\n")))
+      (counted-then (word "requests sooner than their spacing allows ") soon (word " times, first stream ") (counted [] whose (word "\n")))
 
 returns : tie.Need-returns
 returns c = rw (soon-none _ _ (c .if1 .taken)) wrote-none
