@@ -1,6 +1,7 @@
 -- Sheets worked by hand: page 01's third case, whose figures under the count of page 02, Ask 2, are R 1,000 and 500, W 760 and 500, rounds 1 and 1;
 -- and the sheet of that ask, T and D of the second master's stream 1,000 bp: W 1,000 after 2 rounds. With 1,300 bp it is 760, the least of
--- two solutions. Assumes nothing.
+-- two solutions. Page 02, Ask 7: with J of that stream 2,500 bp and T 3,000 it is 1,000 after 2 rounds, with T 4,000 it is 760 after 1.
+-- Assumes nothing.
 use Prim.Native.Nat.{ℕ}
 use mathlib.Core.Path.{_≡_, refl}
 use mathlib.Core.List.{[], _∷_}
@@ -33,3 +34,27 @@ waits-from-before = (refl, refl)
 least-of-two : (refined (two 1300) 1 ≡ 760) × (rounds (two 1300) 1 ≡ 1)
 unfolding segmentOf streamAt owns count longest hold turnBy boundBy turn bound upto greatest up firstOf saving rightBy valueOf stands roundsOf mostRounds askedBy right rounds refined
 least-of-two = (refl, refl)
+
+-- J of the second master's stream is 2,500 bp
+abbrev jittery : ℕ → ℕ → Record
+jittery T D = record { kind = 7; a = 2; b = 203; c = T; d = D; e = 2500 }
+
+abbrev pair : ℕ → ℕ → Segment
+unfolding segmentOf
+pair T D = segmentOf (record { head = record { kind = 1; a = 2; b = 0; c = 0; d = 0; e = 0 }; settings = []; streams = stream 1 100000 ∷ stream 1 100000 ∷ jittery T D ∷ [] })
+
+-- R has no J in it
+bounds-with-jitter : (bound (pair 3000 500) 1 ≡ 1000) × (bound (pair 3000 500) 2 ≡ 500)
+unfolding segmentOf streamAt owns count longest hold turnBy boundBy turn bound upto greatest
+bounds-with-jitter = (refl, refl)
+
+-- 0 + 500 + 2,500 is one spacing, 760 + 500 + 2,500 more than one
+refineds-with-jitter :
+    (refined (pair 3000 500) 1 ≡ 1000) × (refined (pair 3000 500) 2 ≡ 500) × (rounds (pair 3000 500) 1 ≡ 2) × (rounds (pair 3000 500) 2 ≡ 1)
+unfolding segmentOf streamAt owns count longest hold turnBy boundBy turn bound upto greatest up firstOf saving rightBy valueOf stands roundsOf mostRounds askedBy right rounds refined
+refineds-with-jitter = (refl, refl, refl, refl)
+
+-- the sum is rounded, not its parts: 760 + 500 + 2,500 is less than 4,000
+rounded-once : (refined (pair 4000 1500) 1 ≡ 760) × (rounds (pair 4000 1500) 1 ≡ 1)
+unfolding segmentOf streamAt owns count longest hold turnBy boundBy turn bound upto greatest up firstOf saving rightBy valueOf stands roundsOf mostRounds askedBy right rounds refined
+rounded-once = (refl, refl)

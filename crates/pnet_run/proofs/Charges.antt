@@ -8,7 +8,7 @@ use native.Mathlib.Omega.{arith}
 use lib.Dec.{eqb}
 use borrow.Author.Tests.{eq-eqb, eqb-true}
 use Rattle.common.specs.Sums.{when, upto}
-use Rattle.common.proofs.Sums.{greatest-least}
+use Rattle.common.proofs.Sums.{upto-most, greatest-least}
 use Rattle.pnet_rules.specs.Segment.{Segment, owns, count, longest, hold}
 use Rattle.pnet_rules.specs.Limits.{Declared}
 use Rattle.pnet_rules.proofs.Holds.{count-owned, cycle-at-most-longest, hold-some, hold-at-least, cycle-held}
@@ -22,6 +22,15 @@ owns-belongs {S} {m} {i} b = eq-eqb (S .stream i .master) m (b .own)
 
 pub count-belongs : {S : Segment} {m i : ℕ} → Belongs S m i → 1 ≤ count S m
 count-belongs {S} {m} {i} b = count-owned S i (b .from-one) (b .to-last) m (owns-belongs b)
+
+-- a master has no more of them than there are
+pub count-most : (S : Segment) (m : ℕ) → count S m ≤ S .number
+unfolding count
+count-most S m = omega (arith, upto-most (λ i. when (owns S m i) 1) 1 (S .number) (λ i lo hi. one (owns S m i)))
+  where
+    one : (b : Bool) → when b 1 ≤ 1
+    one true = omega arith
+    one false = omega arith
 
 -- a master with streams has one
 pub belongs-count : (S : Segment) (m : ℕ) → 1 ≤ count S m → (i : ℕ) × Belongs S m i

@@ -1,6 +1,6 @@
 -- Demand 3, sentence by sentence, and what page 02's Ask 2 adds to it. The bus and its runs are in specs/Run, the words of the promise in
 -- specs/Promise, and the bound R and the refined figure W are the planner's, of crates/pnet_rules. Assumes nothing.
-use Prim.Native.Nat.{ℕ, _≤_}
+use Prim.Native.Nat.{ℕ, _-_, _≤_}
 use mathlib.Core.Path.{_≡_}
 use mathlib.Core.Bool.{false}
 use mathlib.Core.List.{List}
@@ -17,6 +17,7 @@ use Rattle.pnet_run.specs.Run.{Belongs, Request, Answer, answer, Queues,
 use Rattle.pnet_run.specs.Promise.{Spaced, Answered, Safe, Reached, Accepted, Even}
 use Rattle.pnet_run.proofs.Charges.{belongs-count, count-belongs, in-ring, hold-covers, some-cycle}
 use Rattle.pnet_run.proofs.Answering.{answered-if-it-asks}
+use Rattle.pnet_run.proofs.Spacing.{spaced-apart}
 use Rattle.pnet_run.proofs.Bound.{answered-by}
 use Rattle.pnet_run.proofs.Refined.{answered-within}
 use Rattle.pnet_run.proofs.Exact.{exact}
@@ -33,8 +34,8 @@ accepted-if-none-is-late S declared passes = record {
   passes = λ m i d. omega (arith, rw (d .own) at (ltb-false (S .stream i .deadline) (bound S (S .stream i .master)) (passes i (d .from-one) (d .to-last))));
 }
 
--- So its bound fits between two requests of each of its streams.
-fits-spacing : {S : Segment} → Accepted S → (m i : ℕ) → Belongs S m i → bound S m ≤ S .stream i .spacing
+-- So its bound fits between two requests of each of its streams, which come at least T - J apart.
+fits-spacing : {S : Segment} → Accepted S → (m i : ℕ) → Belongs S m i → bound S m ≤ S .stream i .spacing - S .stream i .jitter
 fits-spacing accepted m i d = omega (arith, accepted .declared .ranges i (d .from-one) (d .to-last) .deadline-to, accepted .passes m i d)
 
 -- ---- 'any fault-free run of the virtual token bus from empty queues, with one message a visit and first-come queues. If a master's
@@ -56,7 +57,8 @@ each-request-is-answered-within-the-bound sheet accepted k run spaced =
     answered-if-it-asks
     (λ i d.
     let own = in-ring (accepted .declared) d in
-    answered-by S (hold S) k (own .0) (own .1) (hold-covers S) (λ j. S .stream j .spacing) (fits-spacing accepted k) run spaced)
+    answered-by S (hold S) k (own .0) (own .1) (hold-covers S) (λ j. S .stream j .spacing - S .stream j .jitter) (fits-spacing accepted k) run
+    (spaced-apart (accepted .declared) run spaced))
 
 -- ---- 'For a master with streams, where each master's own streams are equally long and every other master is silent or has at least
 -- as many streams, some such run takes exactly the bound'

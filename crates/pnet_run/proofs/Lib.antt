@@ -18,3 +18,4 @@ pub mod Refined
 pub mod Literal
 pub mod Demand
 pub mod TwoMasters
+pub mod Jitter

@@ -1,12 +1,13 @@
--- Page 02, Ask 2: no response passes the refined figure, in any run in which every master keeps its spacing; for any charge that
+-- Page 02, Asks 2 and 7: no response passes the refined figure, in any run in which every master keeps its spacing; for any charge that
 -- covers the longest visit to each master. Assumes nothing.
 --
 -- The argument. Master k's s visits to another master y are charged in one of two ways: each with h(y), where y can be asked s
 -- times or oftener; or each with 10 bp, as if unused, and h(y) - 10 more for each that is used. By Bound, a request of k that came at a is
 -- answered by a, s turns of the charges, and what the visits that ended since a, or are under way, cost more. Each of these
 -- visits served a request that came at a - R(y) or later, since none waits longer than R(y); and it came before a + W, as long as now is
--- before a + W. A stream that keeps its spacing asks in such a window (W + R(y))/T times at most, rounded up. So what the visits
--- cost more stays within what W has for them, and the request is answered by a + W.
+-- before a + W. Nominal times up to J before such arrivals lie in a window of W + R(y) + J, and a stream that keeps its spacing has
+-- (W + R(y) + J)/T of them there at most, rounded up. So what the visits cost more stays within what W has for them, and the request is
+-- answered by a + W.
 --
 -- W need not be the least solution: it is enough that the right side at W is at most W. That a response is at most the right side at
 -- the response itself would prove nothing of the least solution; so a + W is fixed at the arrival, and the counts are held to it
@@ -25,7 +26,7 @@ use Rattle.common.proofs.Sums.{upto-mono, upto-term}
 use Rattle.units.specs.Units.{bp}
 use Rattle.pnet_rules.specs.Segment.{Segment, count, turnBy, boundBy}
 use Rattle.pnet_rules.specs.Refined.{rightBy, askedBy}
-use Rattle.pnet_rules.specs.Limits.{Declared}
+use Rattle.pnet_rules.specs.Limits.{Ranged, Declared}
 use Rattle.pnet_run.specs.Run.{
   Belongs,
   Request,
@@ -49,26 +50,32 @@ use Rattle.pnet_run.specs.Run.{
   serve,
   skip,
 }
-use Rattle.pnet_run.specs.Promise.{Spaced, Answered}
+use Rattle.pnet_run.specs.Promise.{Spaced, Apart, Answered}
 use Rattle.pnet_run.proofs.Charges.{Covers, free, in-ring}
 use Rattle.pnet_run.proofs.Counts.{cameSince, answeredSince, spent, underWay}
 use Rattle.pnet_run.proofs.Queues.{put-rest, join-cases, owned}
 use Rattle.pnet_run.proofs.Past.{came-past, queue-past, went-own}
 use Rattle.pnet_run.proofs.Answering.{NotLate, answered-in-time}
-use Rattle.pnet_run.proofs.Bound.{apart-before, waits-in-time, answered-by, credit-by}
-use Rattle.pnet_run.proofs.Window.{window}
+use Rattle.pnet_run.proofs.Spacing.{spaced-before, came-in-order, spaced-apart}
+use Rattle.pnet_run.proofs.Bound.{waits-in-time, answered-by, credit-by}
+use Rattle.pnet_run.proofs.Window.{window-with-jitter}
 use Rattle.pnet_run.proofs.Answers.{all-came, spent-counted}
 use Rattle.pnet_run.proofs.Shares.{requests, requests-cover, share, extra, share-own, shares-cover, shares-are-the-right-side}
 use Rattle.pnet_run.proofs.Progress.{serves}
 
 module _ (S : Segment) (declared : Declared S) (h : ℕ → ℕ) (cover : Covers h free S)
-    (fits : (m i : ℕ) → Belongs S m i → boundBy h S m ≤ S .stream i .spacing) where
+    (fits : (m i : ℕ) → Belongs S m i → boundBy h S m ≤ S .stream i .spacing - S .stream i .jitter) where
   -- every master keeps its spacing
   abbrev AllSpaced : List Request → Type 0
   AllSpaced came = (m : ℕ) → Spaced S m came
 
+  -- so its arrivals are at least this far apart
   abbrev least : ℕ → ℕ
-  least i = S .stream i .spacing
+  least i = S .stream i .spacing - S .stream i .jitter
+
+  apart : {t : ℕ} {y : Token} {q : Queues} {came : List Request} {went : List Answer} → Run S t y q came went → AllSpaced came
+      → (m i : ℕ) → Belongs S m i → Apart (least i) i came
+  apart z s m = spaced-apart declared z (s m)
 
   -- a declared stream is its master's
   own : (i : ℕ) → 1 ≤ i → i ≤ S .number → Belongs S (S .stream i .master) i
@@ -81,7 +88,7 @@ module _ (S : Segment) (declared : Declared S) (h : ℕ → ℕ) (cover : Covers
       → Belongs S m i → (w : Answer) → List·Memᴰ w went → w .to .of ≡ i → a ≤ w .at → a - boundBy h S m ≤ w .to .since
   came-late z s m i a b w j e l =
       let ring = in-ring declared b in
-      omega (arith, answered-by S h m (ring .0) (ring .1) cover least (fits m) z (s m) .in-time w j (rw e b))
+      omega (arith, answered-by S h m (ring .0) (ring .1) cover least (fits m) z (apart z s m) .in-time w j (rw e b))
 
   module _ (W : ℕ) where
     -- and so did those that wait: all of them fit the window
@@ -91,15 +98,15 @@ module _ (S : Segment) (declared : Declared S) (h : ℕ → ℕ) (cover : Covers
         omega (
           arith,
           all-came z m i a from b (came-late z s m i a b),
-          window from (a + W) (requests h S W i) some (omega arith) came (s m i b) (λ u j. omega (arith, came-past z (request i u) j))
-              (omega (arith, rw (b .own) at (requests-cover h S W i some))),
+          window-with-jitter from (a + W) (requests h S W i) (its .jitter-to) (omega arith) (came-in-order z) (s m i b .1)
+              (λ u j. omega (arith, came-past z (request i u) j)) (omega (arith, rw (b .own) at (requests-cover h S W i (its .spacing-from)))),
         )
       where
         from : ℕ
         from = a - boundBy h S m
 
-        some : 1 ≤ S .stream i .spacing
-        some = declared .ranges i (b .from-one) (b .to-last) .spacing-from
+        its : Ranged (S .masters) (S .stream i)
+        its = declared .ranges i (b .from-one) (b .to-last)
 
     module _ (k : ℕ) where
       abbrev more : ℕ → ℕ
@@ -141,7 +148,7 @@ module _ (S : Segment) (declared : Declared S) (h : ℕ → ℕ) (cover : Covers
           waited : a - boundBy h S m ≤ r .since
           waited =
               let ring = in-ring declared of-m in
-              omega (arith, waits-in-time S h m (ring .0) (ring .1) cover least (fits m) z (s m) r (rw p (List·Memᴰ·head refl)) .by-then)
+              omega (arith, waits-in-time S h m (ring .0) (ring .1) cover least (fits m) z (apart z s m) r (rw p (List·Memᴰ·head refl)) .by-then)
 
           go : (o i : ℕ) → Belongs S o i → (x : Bool) → eqb (r .of) i ≡ x → when (x && leb a t) 1 + answeredSince i a went ≤ requests h S W i
           go o i d true e =
@@ -178,7 +185,7 @@ module _ (S : Segment) (declared : Declared S) (h : ℕ → ℕ) (cover : Covers
         waits : {t : ℕ} {y : Token} {q : Queues} {came : List Request} {went : List Answer} → Run S t y q came went → AllSpaced came → Calm y q went
             → (r : Request) → List·Memᴰ r (q k) → NotLate W (r .since) t y
         waits z s c r j =
-            let b = credit-by S h k 1≤k k≤n cover least (fits k) (share h S W k) more (shares-cover h S W k cover) (omega (arith, share-own h S W k)) z (s k) r j in
+            let b = credit-by S h k 1≤k k≤n cover least (fits k) (share h S W k) more (shares-cover h S W k cover) (omega (arith, share-own h S W k)) z (apart z s k) r j in
             let w = c r j in
             record { by-then = omega (arith, enough, b .by-then); before = λ f. omega (arith, enough, b .before f) }
 
@@ -207,7 +214,7 @@ module _ (S : Segment) (declared : Declared S) (h : ℕ → ℕ) (cover : Covers
             ⊎-elim (λ (e : (k ≡ m) × (u ≡ request i t)). rw (e .1) (calm-new y z s)) (λ (e : List·Memᴰ u (q k)). c u e) (join-cases q m k (request i t) j)
 
         earlier : (r : Request) (came : List Request) → AllSpaced (r ∷ came) → AllSpaced came
-        earlier r came s m i b = apart-before (s m i b)
+        earlier r came s m = spaced-before (s m)
 
         calm : {t : ℕ} {y : Token} {q : Queues} {came : List Request} {went : List Answer} → Run S t y q came went → AllSpaced came → Calm y q went
         calm (start a b c) s = λ r j. absurd (List·Memᴰ·not-nil j)

@@ -30,24 +30,29 @@ charged H s a big false false e =
     omega (arith, m)
 
 module _ (h : ℕ → ℕ) (S : Segment) (W : ℕ) where
+  -- the window of stream i, if it is a stream of master y: W, what a request may have waited before, and the jitter
+  abbrev span : ℕ → ℕ → ℕ
+  span y i = W + boundBy h S y + S .stream i .jitter
+
   -- how often stream i can be answered in a window of W
   unfoldable pub requests : ℕ → ℕ
-  requests i = up (W + boundBy h S (S .stream i .master)) (S .stream i .spacing)
+  requests i = up (span (S .stream i .master) i) (S .stream i .spacing)
 
-  pub requests-cover : (i : ℕ) → 1 ≤ S .stream i .spacing → W + boundBy h S (S .stream i .master) ≤ requests i * S .stream i .spacing
+  pub requests-cover : (i : ℕ) → 1 ≤ S .stream i .spacing
+      → W + boundBy h S (S .stream i .master) + S .stream i .jitter ≤ requests i * S .stream i .spacing
   unfolding requests
-  requests-cover i some = up-covers (W + boundBy h S (S .stream i .master)) (S .stream i .spacing) some
+  requests-cover i some = up-covers (span (S .stream i .master) i) (S .stream i .spacing) some
 
   -- the sum over master y's streams is the count a(y)
   requests-asked : (y : ℕ) → upto (λ i. when (eqb (S .stream i .master) y) (requests i)) (S .number) ≡ askedBy h S y W
   unfolding requests askedBy owns
   requests-asked y =
-      upto-same (λ i. when (eqb (S .stream i .master) y) (requests i)) (λ i. when (eqb (S .stream i .master) y) (up (W + boundBy h S y) (S .stream i .spacing)))
+      upto-same (λ i. when (eqb (S .stream i .master) y) (requests i)) (λ i. when (eqb (S .stream i .master) y) (up (span y i) (S .stream i .spacing)))
       (S .number) (λ i lo hi. own i (eqb (S .stream i .master) y) refl)
     where
       own : (i : ℕ) (b : Bool) → eqb (S .stream i .master) y ≡ b
-          → when b (up (W + boundBy h S (S .stream i .master)) (S .stream i .spacing)) ≡ when b (up (W + boundBy h S y) (S .stream i .spacing))
-      own i true e = ap (λ (m : ℕ). up (W + boundBy h S m) (S .stream i .spacing)) (eqb-true (S .stream i .master) y e)
+          → when b (up (span (S .stream i .master) i) (S .stream i .spacing)) ≡ when b (up (span y i) (S .stream i .spacing))
+      own i true e = ap (λ (m : ℕ). up (span m i) (S .stream i .spacing)) (eqb-true (S .stream i .master) y e)
       own i false e = refl
 
   module _ (k : ℕ) where

@@ -25,6 +25,7 @@ use Rattle.pnet_run.specs.Run.{Request, request, Answer, answer, Queues,
 use Rattle.pnet_run.specs.Promise.{Apart, none, and, Spaced}
 use Rattle.pnet_run.proofs.Queues.{put-same, put-other}
 use Rattle.pnet_run.proofs.Picked.{picked}
+use Rattle.pnet_run.proofs.Spacing.{apart-spaced}
 
 -- ---- Every stream has asked once, at 0
 
@@ -93,7 +94,7 @@ asked-apart d i zero = none
 asked-apart d i (suc n) = and {r = asked (suc n)} (λ e a (j : List·Memᴰ (request i a) (askedTo n)). absurd (omega (arith, asked-in n (request i a) j))) (asked-apart d i n)
 
 pub asked-spaced : (S : Segment) (k : ℕ) → Spaced S k (askedTo (S .number))
-asked-spaced S k i d = asked-apart (S .stream i .spacing) i (S .number)
+asked-spaced S k = apart-spaced {S = S} (λ i d. asked-apart (S .stream i .spacing) i (S .number))
 
 -- ---- The longest service
 

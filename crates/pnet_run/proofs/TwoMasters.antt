@@ -4,19 +4,19 @@
 use Prim.Native.Nat.{ℕ, zero, suc, _+_, _≤_}
 use mathlib.Core.Path.{_≡_, refl, ap}
 use mathlib.Core.Logic.{_≢_, ⊎-elim}
-use mathlib.Core.Bool.{Bool, true, false}
+use mathlib.Core.Bool.{false}
 use mathlib.Core.List.{List, [], _∷_, List·Memᴰ, List·Memᴰ·head, List·Memᴰ·not-nil, List·Memᴰ·cases-cons}
 use native.Mathlib.Omega.{arith}
-use Rattle.common.specs.Sums.{when}
-use Rattle.common.proofs.Sums.{upto-most}
 use Rattle.sheet_record.specs.declared.Record.{Record}
 use Rattle.units.specs.Units.{bp}
-use Rattle.pnet_rules.specs.Segment.{Segment, streamOf, segmentOf, owns, count, late}
+use Rattle.pnet_rules.specs.Segment.{Segment, streamOf, segmentOf, owns, late}
 use Rattle.pnet_rules.specs.Refined.{refined}
 use Rattle.pnet_rules.specs.Limits.{Ranged, Declared}
 use Rattle.pnet_run.specs.Run.{Belongs, Request, request, Answer, answer, Queues, put, Token, toward, on-way, next, Run, start, arrive, travel, skip}
 use Rattle.pnet_run.specs.Promise.{none, and, Spaced, Answered, Reached, Accepted}
+use Rattle.pnet_run.proofs.Charges.{count-most}
 use Rattle.pnet_run.proofs.Picked.{picked}
+use Rattle.pnet_run.proofs.Spacing.{apart-spaced}
 use Rattle.pnet_run.proofs.Slowest.{slowest, asked, queuesTo, askedTo, all-asked, asked-each, asked-spaced}
 use Rattle.pnet_run.proofs.Demand.{accepted-if-none-is-late}
 
@@ -35,7 +35,7 @@ unfolding segmentOf refined
 refined-is-760 = refl
 
 -- stream by stream
-each : (P : ℕ → Type 0) → P 1 → P 2 → P 3 → (i : ℕ) → 1 ≤ i → i ≤ 3 → P i
+pub each : (P : ℕ → Type 0) → P 1 → P 2 → P 3 → (i : ℕ) → 1 ≤ i → i ≤ 3 → P i
 each P x y z zero lo hi = absurd (omega arith)
 each P x y z (suc zero) lo hi = x
 each P x y z (suc (suc zero)) lo hi = y
@@ -52,10 +52,11 @@ in-range m lo hi = record {
   spacing-to = omega arith;
   deadline-from = omega arith;
   deadline-to = omega arith;
+  jitter-to = omega arith;
 }
 
 declared : Declared two
-unfolding segmentOf count
+unfolding segmentOf
 declared = record {
   masters-from = omega arith;
   masters-to = omega arith;
@@ -64,12 +65,8 @@ declared = record {
   ranges =
       each (λ i. Ranged 2 (two .stream i)) (in-range 1 (omega arith) (omega arith)) (in-range 1 (omega arith) (omega arith))
       (in-range 2 (omega arith) (omega arith));
-  counts = λ k. omega (arith, upto-most (λ i. when (owns two k i) 1) 1 3 (λ i lo hi. one (owns two k i)));
+  counts = λ k. omega (arith, count-most two k);
 }
-  where
-    one : (b : Bool) → when b 1 ≤ 1
-    one true = omega arith
-    one false = omega arith
 
 pub two-is-accepted : Accepted two
 unfolding segmentOf late
@@ -145,17 +142,19 @@ behind {i} {a} {j} {l} m n =
 
 -- each of its streams asks once, and stream 3 is not its own
 pub master-1-keeps-its-spacing : Spaced two 1 came
-master-1-keeps-its-spacing i b =
-    and (λ e a j. absurd (second e a j)) (and (λ e a j. absurd (first e a j)) (and (λ e a j. absurd (other e)) (and (λ e a j. absurd (List·Memᴰ·not-nil j)) none)))
+master-1-keeps-its-spacing =
+    apart-spaced {S = two}
+    (λ i b.
+    and (λ e a j. absurd (second e a j)) (and (λ e a j. absurd (first e a j)) (and (λ e a j. absurd (other b e)) (and (λ e a j. absurd (List·Memᴰ·not-nil j)) none))))
   where
-    first : 1 ≡ i → (a : ℕ) → List·Memᴰ (request i a) (request 3 0 ∷ request 3 0 ∷ []) → ⊥
+    first : {i : ℕ} → 1 ≡ i → (a : ℕ) → List·Memᴰ (request i a) (request 3 0 ∷ request 3 0 ∷ []) → ⊥
     first e a j = List·Memᴰ·not-nil (behind (behind j (λ z. omega arith)) (λ z. omega arith))
 
-    second : 2 ≡ i → (a : ℕ) → List·Memᴰ (request i a) (request 1 0 ∷ request 3 0 ∷ request 3 0 ∷ []) → ⊥
+    second : {i : ℕ} → 2 ≡ i → (a : ℕ) → List·Memᴰ (request i a) (request 1 0 ∷ request 3 0 ∷ request 3 0 ∷ []) → ⊥
     second e a j = List·Memᴰ·not-nil (behind (behind (behind j (λ z. omega arith)) (λ z. omega arith)) (λ z. omega arith))
 
-    other : 3 ≡ i → ⊥
-    other e = omega (arith, ap (λ (x : ℕ). two .stream x .master) e, stream-3 .own, b .own)
+    other : {i : ℕ} → Belongs two 1 i → 3 ≡ i → ⊥
+    other b e = omega (arith, ap (λ (x : ℕ). two .stream x .master) e, stream-3 .own, b .own)
 
 -- ---- The refined figure is not safe where master 1 alone keeps its spacing
 
