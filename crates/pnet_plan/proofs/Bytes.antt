@@ -50,7 +50,7 @@ module _ {s : List ℕ} {head : Record} {n first : ℕ} (took : Taken s head n f
 pub record Small (m place room : ℕ) : Type 0 where
   pub master : m ≤ 32
   pub early : place < 800
-  pub inside : place < room
+  pub inside : 2 * place + 1 < room
 
 module _ {s : List ℕ} {first n : ℕ} (ready : Ready s pnet first n) where
   pub declares : Declared (segmentIn s)
@@ -81,6 +81,16 @@ module _ {s : List ℕ} {first n : ℕ} (ready : Ready s pnet first n) where
     pub its-master : r .found .a ≤ 32
     its-master = master-inside (segmentIn s) declares i below (r .found .a) of-master
 
+    of-spacing : r .found .c ≡ segmentIn s .stream (i + 1) .spacing
+    of-spacing = ap (λ (x : Stream). x .spacing) (h .stream)
+
+    of-jitter : r .found .e ≡ segmentIn s .stream (i + 1) .jitter
+    of-jitter = ap (λ (x : Stream). x .jitter) (h .stream)
+
+    -- its J is below its T
+    pub its-jitter : r .found .e < r .found .c
+    its-jitter = omega (arith, of-spacing, of-jitter, declares .ranges (i + 1) (omega arith) (omega (arith, below)) .jitter-to)
+
     -- its bound, as the code has it, above its deadline or not
     module _ (counts : List ℕ) (v : ℕ) (counts-are : (y : ℕ) → y ≤ 32 → at counts y ≡ count (segmentIn s) y) (ev : v ≡ turn (segmentIn s)) where
       pub its-bound : at counts (r .found .a) * v ≡ bound (segmentIn s) (segmentIn s .stream (i + 1) .master)
@@ -102,13 +112,13 @@ module _ {s : List ℕ} {first n : ℕ} (ready : Ready s pnet first n) where
           let S = segmentIn s in
           le-ltb (S .stream (i + 1) .deadline) (bound S (S .stream (i + 1) .master)) (omega (arith, its-bound, of-deadline))
 
-    module _ {ends shortest spacings : List ℕ} (g : Grouped (segmentIn s) i ends shortest spacings) where
-      pub small : Small (r .found .a) (at ends (r .found .a)) (length spacings)
+    module _ {ends slacks pairs : List ℕ} (g : Grouped (segmentIn s) i ends slacks pairs) where
+      pub small : Small (r .found .a) (at ends (r .found .a)) (length pairs)
       small =
           let p = place-inside (segmentIn s) declares i below (r .found .a) of-master g in
           record { master = its-master; early = omega (arith, p, declares .number-to); inside = omega (arith, p, g .room) }
 
-      pub grouped-next : (least : ℕ) → least ≡ min (at shortest (r .found .a)) (r .found .c)
-          → Grouped (segmentIn s) (i + 1) (set ends (r .found .a) (at ends (r .found .a) + 1)) (set shortest (r .found .a) least) (set spacings (at ends (r .found .a)) (r .found .c))
-      grouped-next least e =
-          grouped-more (segmentIn s) declares i below (r .found .a) of-master g (r .found .c) (ap (λ (x : Stream). x .spacing) (h .stream)) least e
+      pub grouped-next : (least : ℕ) → least ≡ min (at slacks (r .found .a)) (r .found .c - r .found .e)
+          → Grouped (segmentIn s) (i + 1) (set ends (r .found .a) (at ends (r .found .a) + 1)) (set slacks (r .found .a) least)
+          (set (set pairs (2 * at ends (r .found .a)) (r .found .c)) (2 * at ends (r .found .a) + 1) (r .found .e))
+      grouped-next least e = grouped-more (segmentIn s) declares i below (r .found .a) of-master g (r .found .c) (r .found .e) of-spacing of-jitter least e

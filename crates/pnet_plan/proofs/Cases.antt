@@ -2,7 +2,7 @@
 use mathlib.Core.Path.{_≡_, refl, sym, ap, _∙_, subst}
 use mathlib.Core.Bool.{Bool, true, false, not, _||_}
 use mathlib.Core.List.{List}
-use Prim.Native.Nat.{ℕ, _+_, _-_, _≤_, _<_, min}
+use Prim.Native.Nat.{ℕ, _+_, _-_, _*_, _≤_, _<_, min}
 use native.Mathlib.Omega.{arith}
 use borrow.Author.Tests.{ltb-false, le-ltb, le-leb, lt-leb, eq-eqb, ne-eqb}
 use lib.ListN.{length, replicate}
@@ -32,10 +32,10 @@ use Rattle.pnet_plan.specs.Planned.{firstLate, planChecks, plannedBy, pl
 use Rattle.units.specs.Units.{capped}
 use Rattle.units.specs.declared.BitPeriods.{BitPeriods}
 use Rattle.pnet_turn.specs.Turn.{at, chargeIn, turnOf}
-use Rattle.pnet_plan.specs.Arrays.{segmentIn, Sheeted, SetOut, Grouped, turnIn, boundIn, refinedIn, roundsIn, Kept, Shortest}
+use Rattle.pnet_plan.specs.Arrays.{segmentIn, Sheeted, SetOut, Grouped, turnIn, boundIn, refinedIn, roundsIn, Kept, Slack}
 use Rattle.pnet_plan.proofs.Bytes.{declares, number-is}
 use Rattle.pnet_plan.proofs.Gathering.{grouped-none}
-use Rattle.pnet_plan.proofs.Tied.{Laid, kept, turn-tied, shortest-tied, bound-tied, rounds-tied, refined-tied}
+use Rattle.pnet_plan.proofs.Tied.{Laid, kept, turn-tied, slack-tied, bound-tied, rounds-tied, refined-tied}
 
 module _ (s : List ℕ) (la lb lc : ℕ) where
   pub planned-unread : (n p : ℕ) → reading s ≡ Not n p → planned s la lb lc ≡ Not n p
@@ -156,47 +156,47 @@ module _ {s : List ℕ} {N m first : ℕ} {counts longests : List ℕ} (h : Shee
     holds-at y lo hi = o .holds-are y lo (omega (arith, h .masters-are)) ∙ charge-is y (omega (arith, declared .masters-to))
 
     -- nothing is placed yet
-    pub grouped-first : (spacings : List ℕ) → m ≤ length spacings → Grouped (segmentIn s) 0 ends (replicate 33 1000000000) spacings
-    grouped-first spacings room =
-        grouped-none (segmentIn s) ends spacings (o .ends-long) (omega (arith, number-is (h .ready)))
+    pub grouped-first : (pairs : List ℕ) → 2 * m ≤ length pairs → Grouped (segmentIn s) 0 ends (replicate 33 1000000000) pairs
+    grouped-first pairs room =
+        grouped-none (segmentIn s) ends pairs (o .ends-long) (omega (arith, number-is (h .ready)))
         (λ y lo hi.
         o .ends-are y lo (omega (arith, h .masters-are))
         ∙ upto-same (at counts) (count (segmentIn s)) (y - 1) (λ z a b. counts-at z (omega (arith, declared .masters-to))))
 
-    module _ (v : ℕ) (ev : v ≡ turn (segmentIn s)) {ends' shortest spacings : List ℕ} (placed : Grouped (segmentIn s) m ends' shortest spacings) where
-      laid : Laid (segmentIn s) counts holds ends' shortest spacings
+    module _ (v : ℕ) (ev : v ≡ turn (segmentIn s)) {ends' slacks pairs : List ℕ} (placed : Grouped (segmentIn s) m ends' slacks pairs) where
+      laid : Laid (segmentIn s) counts holds ends' slacks pairs
       laid =
           record {
             counts-are = counts-at;
             holds-are = holds-at;
-            grouped = subst (λ (i : ℕ). Grouped (segmentIn s) i ends' shortest spacings) (number-is (h .ready)) placed;
+            grouped = subst (λ (i : ℕ). Grouped (segmentIn s) i ends' slacks pairs) (number-is (h .ready)) placed;
           }
 
       -- among N masters, for V
       v-is : turnIn holds (segmentIn s .masters) ≡ v
       v-is = turn-tied declared laid ∙ sym ev
 
-      pub kept-all : Kept N v counts holds ends' spacings
+      pub kept-all : Kept N v counts holds ends' pairs
       kept-all =
-          subst (λ (k : ℕ). Kept k v counts holds ends' spacings) (sym (h .masters-are))
-          (subst (λ (x : ℕ). Kept (segmentIn s .masters) x counts holds ends' spacings) v-is (kept declared laid))
+          subst (λ (k : ℕ). Kept k v counts holds ends' pairs) (sym (h .masters-are))
+          (subst (λ (x : ℕ). Kept (segmentIn s .masters) x counts holds ends' pairs) v-is (kept declared laid))
 
       module _ (late : ℕ) (first-late : late ≡ firstLate (segmentIn s)) (l : m < late) where
         passes : (x : ℕ) → 1 ≤ x → x ≤ segmentIn s .number → bound (segmentIn s) (segmentIn s .stream x .master) ≤ segmentIn s .stream x .deadline
         unfolding firstLate Segment.late
         passes x lo hi = ltb-false _ _ (first-is (Segment.late (segmentIn s)) (segmentIn s .number) 1 .fails x lo (omega (arith, first-late, number-is (h .ready))))
 
-        pub shortest-all : Shortest N v counts ends' shortest spacings
-        shortest-all =
-            subst (λ (k : ℕ). Shortest k v counts ends' shortest spacings) (sym (h .masters-are))
-            (subst (λ (x : ℕ). Shortest (segmentIn s .masters) x counts ends' shortest spacings) v-is (shortest-tied declared laid passes))
+        pub slack-all : Slack N v counts ends' slacks pairs
+        slack-all =
+            subst (λ (k : ℕ). Slack k v counts ends' slacks pairs) (sym (h .masters-are))
+            (subst (λ (x : ℕ). Slack (segmentIn s .masters) x counts ends' slacks pairs) v-is (slack-tied declared laid passes))
 
         module _ (x y z : List ℕ) (rx : N ≤ length x) (ry : N ≤ length y) (rz : N ≤ length z) where
           filled-tied : (f g : ℕ → ℕ) (old run : List ℕ) → run ≡ filled (atPlace f) N old → ((k : ℕ) → 1 ≤ k → k ≤ segmentIn s .masters → f k ≡ g k) → run ≡ filled (atPlace g) N old
           filled-tied f g old run q e = q ∙ filled-same (atPlace f) (atPlace g) N old (λ i l'. e (i + 1) (omega arith) (omega (arith, h .masters-are)))
 
-          pub returned-filled : (a b c : List ℕ) → a ≡ filled (atPlace (boundIn counts holds N)) N x → b ≡ filled (atPlace (refinedIn counts holds ends' spacings N)) N y
-              → c ≡ filled (atPlace (roundsIn counts holds ends' spacings N)) N z → Returned s x y z (answer.Accepted N m) a b c
+          pub returned-filled : (a b c : List ℕ) → a ≡ filled (atPlace (boundIn counts holds N)) N x → b ≡ filled (atPlace (refinedIn counts holds ends' pairs N)) N y
+              → c ≡ filled (atPlace (roundsIn counts holds ends' pairs N)) N z → Returned s x y z (answer.Accepted N m) a b c
           unfolding segmentOf
           returned-filled a b c ea eb ec =
               let S = segmentIn s in
@@ -207,8 +207,8 @@ module _ {s : List ℕ} {N m first : ℕ} {counts longests : List ℕ} (h : Shee
               (omega (arith, h .ready .number, first-late)) in
               returned-read s x y z o' N en m (number-is (h .ready)) a b c
               (filled-tied (boundIn counts holds N) (bound S) x a ea (λ k lo hi. rw en (bound-tied d laid k (omega (arith, d .masters-to)))))
-              (filled-tied (refinedIn counts holds ends' spacings N) (refined S) y b eb (λ k lo hi. rw en (refined-tied d laid k lo hi)))
-              (filled-tied (roundsIn counts holds ends' spacings N) (rounds S) z c ec (λ k lo hi. rw en (rounds-tied d laid k lo hi)))
+              (filled-tied (refinedIn counts holds ends' pairs N) (refined S) y b eb (λ k lo hi. rw en (refined-tied d laid k lo hi)))
+              (filled-tied (roundsIn counts holds ends' pairs N) (rounds S) z c ec (λ k lo hi. rw en (rounds-tied d laid k lo hi)))
 
   pub returned-late : (late : ℕ) → late ≡ firstLate (segmentIn s) → late ≤ m → (x y z : List ℕ) → N ≤ length x → N ≤ length y → N ≤ length z
       → Returned s x y z (answer.Refused 8 late) x y z

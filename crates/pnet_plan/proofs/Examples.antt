@@ -1,8 +1,11 @@
 -- Page 01, 'Sheets worked by hand', the P-NET cases, from the sheets' bytes: R 2,000 passes D = 2,000 and 1,999 is refused with 8; R, W and
--- rounds of the third case, and of the same with T = D = 1,000 for master 2 (page 02, Ask 2), with a later place kept. Assumes nothing.
+-- rounds of the third case, and of the same with T = D = 1,000 for master 2 (page 02, Ask 2), with a later place kept; and the same with J for
+-- master 2 (page 02, Ask 7), as a segment. Assumes nothing.
 use Prim.Native.Nat.{ℕ}
 use mathlib.Core.Path.{_≡_, refl}
+use mathlib.Core.Bool.{cond}
 use mathlib.Core.List.{List, [], _∷_, _++_}
+use lib.Dec.{eqb}
 use Rattle.common.specs.Sums.{upto, greatest, up, firstOf}
 use Rattle.common.specs.Checks.{verdict}
 use Rattle.common.specs.Runs.{tab, filled}
@@ -10,7 +13,7 @@ use Rattle.sheet_record.specs.Numbers.{be}
 use Rattle.sheet_record.specs.Kinds.{kinds, lineOf, fieldsOf, busOf, partOf, isSetting, isStream, widths, sizeOf, known, fieldAt, decode, limit, within, ranged, inRange}
 use Rattle.sheet_read.specs.Sheets.{headOf, having, sheetOf, fits, ofKind, countOf, mostInAll, hasMasters, overLimit, metBefore}
 use Rattle.sheet_read.specs.Whole.{placeOf, recordsOf, before, recordChecks, endChecks, judge, ended, readFrom, reading}
-use Rattle.pnet_rules.specs.Segment.{segmentOf, streamAt, owns, count, longest, hold, turnBy, boundBy, turn, bound, late}
+use Rattle.pnet_rules.specs.Segment.{Segment, segmentOf, streamAt, owns, count, longest, hold, turnBy, boundBy, turn, bound, late}
 use Rattle.pnet_rules.specs.Refined.{saving, rightBy, valueOf, stands, roundsOf, mostRounds, askedBy, right, rounds, refined}
 use Rattle.pnet_plan.specs.declared.answer.Plan.the-variants as answer
 use Rattle.pnet_plan.specs.Planned.{firstLate, planChecks, planned, planOf, runOf}
@@ -56,3 +59,23 @@ figures-waited : (runOf (planned (two often) 3 3 3) bound (9 ∷ 9 ∷ 9 ∷ [])
     × (runOf (planned (two often) 3 3 3) rounds (9 ∷ 9 ∷ 9 ∷ []) ≡ 2 ∷ 1 ∷ 9 ∷ [])
 unfolding planned planChecks firstLate verdict filled tab segmentOf streamAt owns count longest hold turnBy boundBy turn bound late saving rightBy valueOf stands roundsOf mostRounds askedBy right rounds refined up upto greatest firstOf reading readFrom ended judge recordChecks endChecks recordsOf placeOf before headOf having sheetOf fits ofKind countOf mostInAll hasMasters overLimit metBefore kinds lineOf fieldsOf busOf partOf isSetting isStream widths sizeOf known fieldAt decode limit within ranged inRange be
 figures-waited = (refl, refl, refl)
+
+-- the third case with D = R = 500 and J = x for master 2
+abbrev jittered : ℕ → Segment
+jittered x =
+    record {
+      masters = 2;
+      number = 3;
+      stream = λ i. cond (eqb i 3) (record { master = 2; cycle = 203; spacing = 100000; deadline = 500; jitter = x })
+          (record { master = 1; cycle = 203; spacing = 100000; deadline = 100000; jitter = 0 });
+    }
+
+-- up to J = 98,740 the 760 bp and the 500 that a request may have waited hold one request of master 2
+figures-jittered : (firstLate (jittered 98740) ≡ 4) × (bound (jittered 98740) 1 ≡ 1000) × (refined (jittered 98740) 1 ≡ 760) × (rounds (jittered 98740) 1 ≡ 1)
+unfolding firstLate owns count longest hold turnBy boundBy turn bound late saving rightBy valueOf stands roundsOf mostRounds askedBy right rounds refined up upto greatest firstOf
+figures-jittered = (refl, refl, refl, refl)
+
+-- one bp more and they hold two
+figures-jittered-more : (firstLate (jittered 98741) ≡ 4) × (bound (jittered 98741) 1 ≡ 1000) × (refined (jittered 98741) 1 ≡ 1000) × (rounds (jittered 98741) 1 ≡ 2)
+unfolding firstLate owns count longest hold turnBy boundBy turn bound late saving rightBy valueOf stands roundsOf mostRounds askedBy right rounds refined up upto greatest firstOf
+figures-jittered-more = (refl, refl, refl, refl)

@@ -4,8 +4,8 @@ use mathlib.Core.Bool.{Bool, true, false}
 use mathlib.Core.List.{List}
 use Prim.Native.Nat.{ℕ, _+_, _-_, _*_, _≤_, _<_}
 use native.Mathlib.Omega.{arith}
-use borrow.Author.Tests.{eqb-true, lt-ltb, le-ltb}
-use lib.Dec.{ltb}
+use borrow.Author.Tests.{eqb-true, lt-ltb, le-ltb, le-leb, lt-leb}
+use lib.Dec.{ltb, leb}
 use Rattle.common.specs.Sums.{when, upto, up}
 use Rattle.common.proofs.Sums.{upto-same, upto-term, upto-most}
 use Rattle.pnet_rules.specs.Segment.{Segment, owns, count, hold, turnBy, boundBy, turn, bound}
@@ -13,20 +13,20 @@ use Rattle.pnet_rules.specs.Refined.{saving, rightBy, mostRounds, askedBy, righ
 use Rattle.pnet_rules.specs.Limits.{Declared}
 use Rattle.pnet_rules.proofs.Holds.{hold-at-least, hold-at-most, bound-at-most}
 use Rattle.pnet_turn.specs.Turn.{at}
-use Rattle.pnet_plan.specs.Arrays.{Grouped, askedIn, askedAt, turnIn, boundIn, savedIn, rightIn, roundsIn, refinedIn, Spaced, Served, Kept, Shortest}
+use Rattle.pnet_plan.specs.Arrays.{spacingAt, jitterAt, Grouped, askedIn, askedAt, turnIn, boundIn, savedIn, rightIn, roundsIn, refinedIn, Spaced, Served, Kept, Slack}
 use Rattle.pnet_plan.proofs.Gathering.{start, start-inside}
 
 -- the arrays hold a segment: what each master has, and all its streams placed
-pub record Laid (S : Segment) (counts holds ends shortest spacings : List ℕ) : Type 0 where
+pub record Laid (S : Segment) (counts holds ends slacks pairs : List ℕ) : Type 0 where
   pub counts-are : (y : ℕ) → y ≤ 32 → at counts y ≡ count S y
   pub holds-are : (y : ℕ) → 1 ≤ y → y ≤ S .masters → at holds y ≡ hold S y
-  pub grouped : Grouped S (S .number) ends shortest spacings
+  pub grouped : Grouped S (S .number) ends slacks pairs
 
-module _ {S : Segment} (d : Declared S) {counts holds ends shortest spacings : List ℕ} (g : Laid S counts holds ends shortest spacings) where
+module _ {S : Segment} (d : Declared S) {counts holds ends slacks pairs : List ℕ} (g : Laid S counts holds ends slacks pairs) where
   inside : (y : ℕ) → y ≤ S .masters → y ≤ 32
   inside y hi = omega (arith, d .masters-to)
 
-  -- ---- Where a master's spacings stand
+  -- ---- Where a master's pairs stand
 
   end-is : (y : ℕ) → 1 ≤ y → y ≤ S .masters → at ends y ≡ start S y + count S y
   unfolding count
@@ -35,47 +35,56 @@ module _ {S : Segment} (d : Declared S) {counts holds ends shortest spacings : L
   start-is : (y : ℕ) → 1 ≤ y → y ≤ S .masters → at ends y - at counts y ≡ start S y
   start-is y lo hi = omega (arith, end-is y lo hi, g .counts-are y (inside y hi))
 
-  sum-is : (f : ℕ → ℕ) (y : ℕ) → 1 ≤ y → y ≤ S .masters
-      → upto (λ j. f (at spacings (at ends y - at counts y + (j - 1)))) (at counts y) ≡ upto (λ x. when (owns S y x) (f (S .stream x .spacing))) (S .number)
-  unfolding count
-  sum-is f y lo hi = rw (start-is y lo hi, g .counts-are y (inside y hi)) (g .grouped .spacings-are f y lo hi)
+  -- f of the pair that stands j places behind the first of y's, and of a stream
+  abbrev ofPlace : (ℕ → ℕ → ℕ) → ℕ → ℕ → ℕ
+  ofPlace f y j = f (spacingAt pairs (at ends y - at counts y + j)) (jitterAt pairs (at ends y - at counts y + j))
 
-  -- a test that none of its streams meets is met by none of its spacings
-  none-meets : (test : ℕ → Bool) (y : ℕ) → 1 ≤ y → y ≤ S .masters → ((x : ℕ) → 1 ≤ x → x ≤ S .number → owns S y x ≡ true → test (S .stream x .spacing) ≡ false)
-      → (j : ℕ) → j < at counts y → test (at spacings (at ends y - at counts y + j)) ≡ true → ⊥
+  abbrev ofStream : (ℕ → ℕ → ℕ) → ℕ → ℕ
+  ofStream f x = f (S .stream x .spacing) (S .stream x .jitter)
+
+  sum-is : (f : ℕ → ℕ → ℕ) (y : ℕ) → 1 ≤ y → y ≤ S .masters
+      → upto (λ j. ofPlace f y (j - 1)) (at counts y) ≡ upto (λ x. when (owns S y x) (ofStream f x)) (S .number)
+  unfolding count
+  sum-is f y lo hi = rw (start-is y lo hi, g .counts-are y (inside y hi)) (g .grouped .pairs-are f y lo hi)
+
+  -- a test that none of its streams meets is met by none of its pairs
+  none-meets : (test : ℕ → ℕ → Bool) (y : ℕ) → 1 ≤ y → y ≤ S .masters
+      → ((x : ℕ) → 1 ≤ x → x ≤ S .number → owns S y x ≡ true → test (S .stream x .spacing) (S .stream x .jitter) ≡ false) → (j : ℕ) → j < at counts y
+      → test (spacingAt pairs (at ends y - at counts y + j)) (jitterAt pairs (at ends y - at counts y + j)) ≡ true → ⊥
   none-meets test y lo hi e j h q =
-      let f : ℕ → ℕ = λ t. when (test t) 1 in
-      let from = at ends y - at counts y in
+      let f : ℕ → ℕ → ℕ = λ t x. when (test t x) 1 in
       let b : j + 1 - 1 ≡ j = omega arith in
-      let one : f (at spacings (from + (j + 1 - 1))) ≡ 1 = ap (λ (x : ℕ). f (at spacings (from + x))) b ∙ ap (λ (t : Bool). when t 1) q in
-      let some : f (at spacings (from + (j + 1 - 1))) ≤ upto (λ j. f (at spacings (from + (j - 1)))) (at counts y) =
-      upto-term (λ j. f (at spacings (from + (j - 1)))) (at counts y) (j + 1) (omega arith) (omega arith) in
-      let all : upto (λ x. when (owns S y x) (f (S .stream x .spacing))) (S .number) ≤ S .number * 0 =
-      upto-most (λ x. when (owns S y x) (f (S .stream x .spacing))) 0 (S .number) (λ x a b'. none (owns S y x) (λ o. ap (λ (t : Bool). when t 1) (e x a b' o))) in
+      let one : ofPlace f y (j + 1 - 1) ≡ 1 = ap (ofPlace f y) b ∙ ap (λ (t : Bool). when t 1) q in
+      let some : ofPlace f y (j + 1 - 1) ≤ upto (λ j. ofPlace f y (j - 1)) (at counts y) =
+      upto-term (λ j. ofPlace f y (j - 1)) (at counts y) (j + 1) (omega arith) (omega arith) in
+      let all : upto (λ x. when (owns S y x) (ofStream f x)) (S .number) ≤ S .number * 0 =
+      upto-most (λ x. when (owns S y x) (ofStream f x)) 0 (S .number) (λ x a b'. none (owns S y x) (λ o. ap (λ (t : Bool). when t 1) (e x a b' o))) in
       omega (arith, sum-is f y lo hi)
     where
       none : {x : ℕ} (b : Bool) → (b ≡ true → x ≡ 0) → when b x ≤ 0
       none true q' = omega (arith, q' refl)
       none false q' = omega arith
 
-  spaced : (y : ℕ) → 1 ≤ y → y ≤ S .masters → Spaced spacings (at ends y - at counts y) (at counts y)
+  spaced : (y : ℕ) → 1 ≤ y → y ≤ S .masters → Spaced pairs (at ends y - at counts y) (at counts y)
   spaced y lo hi =
       record {
         inside = omega (arith, start-is y lo hi, g .counts-are y (inside y hi), start-inside S d y lo hi, g .grouped .room);
-        least = λ j h. omega (arith, not-less j h);
         most = λ j h. omega (arith, not-more j h);
+        less = λ j h. omega (arith, not-all j h);
       }
     where
-      not-less : (j : ℕ) → j < at counts y → at spacings (at ends y - at counts y + j) < 1 → ⊥
-      not-less j h q = none-meets (λ t. ltb t 1) y lo hi (λ x a b o. le-ltb (S .stream x .spacing) 1 (d .ranges x a b .spacing-from)) j h (lt-ltb _ 1 q)
+      not-more : (j : ℕ) → j < at counts y → 1000000000 < spacingAt pairs (at ends y - at counts y + j) → ⊥
+      not-more j h q =
+          none-meets (λ t x. ltb 1000000000 t) y lo hi (λ x a b o. le-ltb 1000000000 (S .stream x .spacing) (d .ranges x a b .spacing-to)) j h (lt-ltb 1000000000 _ q)
 
-      not-more : (j : ℕ) → j < at counts y → 1000000000 < at spacings (at ends y - at counts y + j) → ⊥
-      not-more j h q = none-meets (λ t. ltb 1000000000 t) y lo hi (λ x a b o. le-ltb 1000000000 (S .stream x .spacing) (d .ranges x a b .spacing-to)) j h (lt-ltb 1000000000 _ q)
+      not-all : (j : ℕ) → j < at counts y → spacingAt pairs (at ends y - at counts y + j) ≤ jitterAt pairs (at ends y - at counts y + j) → ⊥
+      not-all j h q =
+          none-meets (λ t x. leb t x) y lo hi (λ x a b o. lt-leb (S .stream x .spacing) (S .stream x .jitter) (d .ranges x a b .jitter-to)) j h (le-leb _ _ q)
 
-  pub kept : Kept (S .masters) (turnIn holds (S .masters)) counts holds ends spacings
+  pub kept : Kept (S .masters) (turnIn holds (S .masters)) counts holds ends pairs
   kept = record { few = d .masters-to; turn-is = refl; each = served }
     where
-      served : (y : ℕ) → 1 ≤ y → y ≤ S .masters → Served counts holds ends spacings y
+      served : (y : ℕ) → 1 ≤ y → y ≤ S .masters → Served counts holds ends pairs y
       served y lo hi =
           record {
             inside = inside y hi;
@@ -101,51 +110,52 @@ module _ {S : Segment} (d : Declared S) {counts holds ends shortest spacings : L
   unfolding boundIn bound
   window-tied y l = bound-tied y l
 
-  -- where every stream passes, no R is above a T
-  pub shortest-tied : ((x : ℕ) → 1 ≤ x → x ≤ S .number → bound S (S .stream x .master) ≤ S .stream x .deadline)
-      → Shortest (S .masters) (turnIn holds (S .masters)) counts ends shortest spacings
+  -- where every stream passes, no R is above a T - J
+  pub slack-tied : ((x : ℕ) → 1 ≤ x → x ≤ S .number → bound S (S .stream x .master) ≤ S .stream x .deadline)
+      → Slack (S .masters) (turnIn holds (S .masters)) counts ends slacks pairs
   unfolding bound owns
-  shortest-tied passes = record { covers = covers; above-none = λ y j lo hi h. omega (arith, not-above y j lo hi h) }
+  slack-tied passes = record { covers = covers; above-none = λ y j lo hi h. omega (arith, not-above y j lo hi h) }
     where
-      own-passes : (y x : ℕ) → 1 ≤ x → x ≤ S .number → owns S y x ≡ true → boundBy (hold S) S y ≤ S .stream x .spacing
+      own-passes : (y x : ℕ) → 1 ≤ x → x ≤ S .number → owns S y x ≡ true → boundBy (hold S) S y ≤ S .stream x .spacing - S .stream x .jitter
       own-passes y x lo hi o =
           omega (arith, passes x lo hi, d .ranges x lo hi .deadline-to, ap (boundBy (hold S) S) (eqb-true (S .stream x .master) y o))
 
-      covers : (y : ℕ) → 1 ≤ y → y ≤ S .masters → at counts y * turnIn holds (S .masters) ≤ at shortest y
+      covers : (y : ℕ) → 1 ≤ y → y ≤ S .masters → at counts y * turnIn holds (S .masters) ≤ at slacks y
       covers y lo hi =
           let small = bound-at-most S d y in
           rw (window-tied y (inside y hi)) (g .grouped .greatest-such y (boundBy (hold S) S y) (inside y hi) (omega (arith, small)) (own-passes y))
 
-      not-above : (y j : ℕ) → 1 ≤ y → y ≤ S .masters → j < at counts y → at spacings (at ends y - at counts y + j) < at shortest y → ⊥
+      not-above : (y j : ℕ) → 1 ≤ y → y ≤ S .masters → j < at counts y
+          → spacingAt pairs (at ends y - at counts y + j) - jitterAt pairs (at ends y - at counts y + j) < at slacks y → ⊥
       not-above y j lo hi h q =
-          none-meets (λ t. ltb t (at shortest y)) y lo hi (λ x a b o. le-ltb (S .stream x .spacing) (at shortest y) (g .grouped .above-none y x (inside y hi) a b o)) j h
-          (lt-ltb _ (at shortest y) q)
+          none-meets (λ t x. ltb (t - x) (at slacks y)) y lo hi
+          (λ x a b o. le-ltb (S .stream x .spacing - S .stream x .jitter) (at slacks y) (g .grouped .above-none y x (inside y hi) a b o)) j h (lt-ltb _ (at slacks y) q)
 
   -- ---- W and its rounds
 
-  asked-tied : (y w : ℕ) → 1 ≤ y → y ≤ S .masters → askedAt counts ends spacings (turnIn holds (S .masters)) y w ≡ askedBy (hold S) S y w
+  asked-tied : (y w : ℕ) → 1 ≤ y → y ≤ S .masters → askedAt counts ends pairs (turnIn holds (S .masters)) y w ≡ askedBy (hold S) S y w
   unfolding askedAt askedIn askedBy
   asked-tied y w lo hi =
-      ap (λ (R : ℕ). askedIn spacings (at ends y - at counts y) (w + R) (at counts y)) (window-tied y (inside y hi)) ∙ sum-is (up (w + boundBy (hold S) S y)) y lo hi
+      ap (λ (R : ℕ). askedIn pairs (at ends y - at counts y) (w + R) (at counts y)) (window-tied y (inside y hi)) ∙ sum-is (λ t x. up (w + boundBy (hold S) S y + x) t) y lo hi
 
   module _ (k : ℕ) (lo : 1 ≤ k) (hi : k ≤ S .masters) where
     saved-tied : (y w : ℕ) → 1 ≤ y → y ≤ S .masters
-        → savedIn counts holds ends spacings (turnIn holds (S .masters)) k w y ≡ saving (hold S) (count S k) k (askedBy (hold S) S y w) y
+        → savedIn counts holds ends pairs (turnIn holds (S .masters)) k w y ≡ saving (hold S) (count S k) k (askedBy (hold S) S y w) y
     unfolding savedIn saving
     saved-tied y w lo' hi' = rw (g .holds-are y lo' hi', g .counts-are k (inside k hi), asked-tied y w lo' hi')
 
-    right-tied : (w : ℕ) → rightIn counts holds ends spacings (S .masters) k w ≡ right S k w
+    right-tied : (w : ℕ) → rightIn counts holds ends pairs (S .masters) k w ≡ right S k w
     unfolding rightIn right rightBy boundIn turn
     right-tied w =
         let v = turnIn holds (S .masters) in
-        let each : upto (savedIn counts holds ends spacings v k w) (S .masters) ≡ upto (λ y. saving (hold S) (count S k) k (askedBy (hold S) S y w) y) (S .masters) =
-        upto-same (savedIn counts holds ends spacings v k w) (λ y. saving (hold S) (count S k) k (askedBy (hold S) S y w) y) (S .masters) (λ y lo' hi'. saved-tied y w lo' hi') in
+        let each : upto (savedIn counts holds ends pairs v k w) (S .masters) ≡ upto (λ y. saving (hold S) (count S k) k (askedBy (hold S) S y w) y) (S .masters) =
+        upto-same (savedIn counts holds ends pairs v k w) (λ y. saving (hold S) (count S k) k (askedBy (hold S) S y w) y) (S .masters) (λ y lo' hi'. saved-tied y w lo' hi') in
         rw (each, g .counts-are k (inside k hi), turn-tied)
 
-    pub rounds-tied : roundsIn counts holds ends spacings (S .masters) k ≡ rounds S k
+    pub rounds-tied : roundsIn counts holds ends pairs (S .masters) k ≡ rounds S k
     unfolding roundsIn rounds mostRounds
     rounds-tied = rw (fun-ext right-tied, g .counts-are k (inside k hi))
 
-    pub refined-tied : refinedIn counts holds ends spacings (S .masters) k ≡ refined S k
+    pub refined-tied : refinedIn counts holds ends pairs (S .masters) k ≡ refined S k
     unfolding refinedIn refined
     refined-tied = rw (rounds-tied, fun-ext right-tied)

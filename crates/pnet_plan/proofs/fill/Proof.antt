@@ -11,14 +11,14 @@ use Rattle.pnet_plan.proofs.fill.Statement.{statement}
 use Rattle.pnet_plan.proofs.fill.Tie as tie
 
 abbrev Inv-loop : tie.InvT-loop
-Inv-loop counts holds ends shortest spacings n turn bound₀ refined₀ rounds₀ i₀ bound refined rounds i =
+Inv-loop counts holds ends slacks pairs n turn bound₀ refined₀ rounds₀ i₀ bound refined rounds i =
     (i ≤ n)
     × Filling (atPlace (boundIn counts holds n)) i bound₀ bound
-    × Filling (atPlace (refinedIn counts holds ends spacings n)) i refined₀ refined
-    × Filling (atPlace (roundsIn counts holds ends spacings n)) i rounds₀ rounds
+    × Filling (atPlace (refinedIn counts holds ends pairs n)) i refined₀ refined
+    × Filling (atPlace (roundsIn counts holds ends pairs n)) i rounds₀ rounds
 
 abbrev μ-loop : tie.MeasureT-loop
-μ-loop counts holds ends shortest spacings n turn bound₀ refined₀ rounds₀ i₀ bound refined rounds i =
+μ-loop counts holds ends slacks pairs n turn bound₀ refined₀ rounds₀ i₀ bound refined rounds i =
     n - i
 
 loop-holds : tie.Need-loop-holds Inv-loop μ-loop

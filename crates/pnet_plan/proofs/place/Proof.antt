@@ -2,12 +2,12 @@
 -- Assumes nothing.
 use mathlib.Core.Path.{_≡_, ap, _∙_, subst}
 use mathlib.Core.Bool.{false}
-use Prim.Native.Nat.{ℕ, _+_, _-_, _≤_, _<_}
+use Prim.Native.Nat.{ℕ, _+_, _-_, _*_, _≤_, _<_}
 use native.Mathlib.Nat.{mul-le-mul}
 use native.Mathlib.Omega.{arith}
 use borrow.Author.Count.{below-none, below-more}
 use borrow.Author.Needs.{needs}
-use lib.ListN.{length, length-set}
+use lib.ListN.{length, set, length-set}
 use Rattle.common.specs.Sums.{firstOf}
 use Rattle.common.proofs.Firsts.{first-here, first-nowhere}
 use Rattle.sheet_read.specs.Steps.{streamPlace}
@@ -16,23 +16,23 @@ use Rattle.pnet_rules.proofs.Holds.{turn-at-most}
 use Rattle.pnet_plan.specs.Planned.{firstLate}
 use Rattle.pnet_turn.specs.Turn.{at}
 use Rattle.pnet_plan.specs.Arrays.{segmentIn, Grouped}
-use Rattle.pnet_plan.proofs.Bytes.{Here, Small, declares, number-is, here, its-master, its-late, its-not-late, small, grouped-next}
+use Rattle.pnet_plan.proofs.Bytes.{Here, Small, declares, number-is, here, its-master, its-late, its-not-late, its-jitter, small, grouped-next}
 use Rattle.pnet_plan.proofs.place.Statement.{statement}
 use Rattle.pnet_plan.proofs.place.Tie as tie
 
 abbrev Inv-loop : tie.InvT-loop
-Inv-loop s first streams counts turn ends₀ shortest₀ spacings₀ at₀ i₀ ends shortest spacings at i =
+Inv-loop s first streams counts turn ends₀ slacks₀ pairs₀ at₀ i₀ ends slacks pairs at i =
     (i ≤ streams)
     × (at ≡ streamPlace s i)
-    × (length spacings ≡ length spacings₀)
+    × Grouped (segmentIn s) i ends slacks pairs
     × ((j : ℕ) → j < i → late (segmentIn s) (j + 1) ≡ false)
-    × Grouped (segmentIn s) i ends shortest spacings
+    × (length pairs ≡ length pairs₀)
 
 abbrev μ-loop : tie.MeasureT-loop
-μ-loop s first streams counts turn ends₀ shortest₀ spacings₀ at₀ i₀ ends shortest spacings at i = streams - i
+μ-loop s first streams counts turn ends₀ slacks₀ pairs₀ at₀ i₀ ends slacks pairs at i = streams - i
 
 loop-holds : tie.Need-loop-holds Inv-loop μ-loop
-loop-holds c = let p = c .before .before .pre in (search needs, p .0 .0 .starts, search needs, below-none _, p .1 .1)
+loop-holds c = let p = c .before .before .pre in (search needs, p .0 .0 .starts, p .1 .1, below-none _, search needs)
 
 pnet-stream-at-requires : tie.Need-pnet-stream-at-requires Inv-loop μ-loop
 pnet-stream-at-requires c κs = search needs
@@ -50,8 +50,8 @@ master c = its-master (c .before .before .before .before .before .pre .0 .0) (om
 
 -- and there is a place for it
 few : (c : tie.After-pnet-stream-at Inv-loop μ-loop)
-    → Small (c .pnet-stream-at .result .found .a) (at (c .before .before .loop .ends) (c .pnet-stream-at .result .found .a)) (length (c .before .before .loop .spacings))
-few c = small (c .before .before .before .before .before .pre .0 .0) (omega arith) (c .pnet-stream-at .result) (its c) (c .before .before .loop .inv .4)
+    → Small (c .pnet-stream-at .result .found .a) (at (c .before .before .loop .ends) (c .pnet-stream-at .result .found .a)) (length (c .before .before .loop .pairs))
+few c = small (c .before .before .before .before .before .pre .0 .0) (omega arith) (c .pnet-stream-at .result) (its c) (c .before .before .loop .inv .2)
 
 cast-m : tie.Need-cast-m Inv-loop μ-loop
 cast-m c = omega (arith, master (c .before .before))
@@ -103,14 +103,30 @@ mul-end c = omega (arith, master (c .before .before .before .before .before))
 element-copy-out-end : tie.Need-element-copy-out-end Inv-loop μ-loop
 element-copy-out-end c = omega (arith, master (c .before .before .before .before .before))
 
-cast-spacings : tie.Need-cast-spacings Inv-loop μ-loop
-cast-spacings c = omega (arith, few (c .before .before .before .before .before .before))
+cast-p : tie.Need-cast-p Inv-loop μ-loop
+cast-p c = omega (arith, few (c .before .before .before .before .before .before))
 
-mul-spacings : tie.Need-mul-spacings Inv-loop μ-loop
-mul-spacings c = omega (arith, few (c .before .before .before .before .before .before))
+mul-p : tie.Need-mul-p Inv-loop μ-loop
+mul-p c = omega (arith, few (c .before .before .before .before .before .before))
 
-slice-write-spacings : tie.Need-slice-write-spacings Inv-loop μ-loop
-slice-write-spacings c = omega (arith, few (c .before .before .before .before .before .before))
+mul-pairs : tie.Need-mul-pairs Inv-loop μ-loop
+mul-pairs c = omega (arith, few (c .before .before .before .before .before .before))
+
+slice-write-pairs : tie.Need-slice-write-pairs Inv-loop μ-loop
+slice-write-pairs c = omega (arith, few (c .before .before .before .before .before .before))
+
+add-pairs : tie.Need-add-pairs Inv-loop μ-loop
+add-pairs c = omega (arith, few (c .before .before .before .before .before .before))
+
+mul-pairs-2 : tie.Need-mul-pairs-2 Inv-loop μ-loop
+mul-pairs-2 c = omega (arith, few (c .before .before .before .before .before .before))
+
+slice-write-pairs-2 : tie.Need-slice-write-pairs-2 Inv-loop μ-loop
+slice-write-pairs-2 c =
+    let r = c .before .before .before .before .before .before in
+    let f = r .pnet-stream-at .result .found in
+    let l = r .before .before .loop in
+    omega (arith, few r, length-set (l .pairs) (2 * at (l .ends) (f .a)) (f .c))
 
 add-ends : tie.Need-add-ends Inv-loop μ-loop
 add-ends c = omega (arith, few (c .before .before .before .before .before .before))
@@ -127,14 +143,20 @@ mul-smaller c = omega (arith, few (c .before .before .before .before .before .be
 element-copy-out-smaller : tie.Need-element-copy-out-smaller Inv-loop μ-loop
 element-copy-out-smaller c = omega (arith, few (c .before .before .before .before .before .before))
 
+-- J is below T
+sub-smaller : tie.Need-sub-smaller Inv-loop μ-loop
+sub-smaller c =
+    let r = c .before .before .before .before .before .before .before .before in
+    omega (arith, its-jitter (r .before .before .before .before .before .pre .0 .0) (omega arith) (r .pnet-stream-at .result) (its r))
+
 smaller-requires : tie.Need-smaller-requires Inv-loop μ-loop
 smaller-requires c κs = search needs
 
-mul-shortest : tie.Need-mul-shortest Inv-loop μ-loop
-mul-shortest c = omega (arith, few (c .before .before .before .before .before .before .before .before))
+mul-slacks : tie.Need-mul-slacks Inv-loop μ-loop
+mul-slacks c = omega (arith, few (c .before .before .before .before .before .before .before .before .before))
 
-element-write-shortest : tie.Need-element-write-shortest Inv-loop μ-loop
-element-write-shortest c = omega (arith, few (c .before .before .before .before .before .before .before .before))
+element-write-slacks : tie.Need-element-write-slacks Inv-loop μ-loop
+element-write-slacks c = omega (arith, few (c .before .before .before .before .before .before .before .before .before))
 
 add-i : tie.Need-add-i Inv-loop μ-loop
 add-i c = search needs
@@ -144,17 +166,18 @@ loop-less c = search needs
 
 loop-again : tie.Need-loop-again Inv-loop μ-loop
 loop-again c =
-    let r = c .before .before .before .before .before .before .before .before in
+    let r = c .before .before .before .before .before .before .before .before .before in
     let l = r .before .before .loop in
     let a = r .before .before .before .before .before .args in
     let p = r .before .before .before .before .before .pre in
-    let m = r .pnet-stream-at .result .found .a in (
+    let f = r .pnet-stream-at .result .found in
+    let place = 2 * at (l .ends) (f .a) in (
       search needs,
       its r .next,
-      length-set (l .spacings) (at (l .ends) m) (r .pnet-stream-at .result .found .c) ∙ l .inv .2,
+      grouped-next (p .0 .0) (omega arith) (r .pnet-stream-at .result) (its r) (l .inv .2) (c .smaller .result) (omega (arith, c .smaller .ensures)),
       below-more _ _ (l .inv .3)
-          (its-not-late (p .0 .0) (omega arith) (r .pnet-stream-at .result) (its r) (a .counts .now) (a .turn) (p .1 .0 .1) (p .1 .0 .0) (omega (arith, c .before .before .before .if1 .left))),
-      grouped-next (p .0 .0) (omega arith) (r .pnet-stream-at .result) (its r) (l .inv .4) (c .smaller .result) (c .smaller .ensures),
+          (its-not-late (p .0 .0) (omega arith) (r .pnet-stream-at .result) (its r) (a .counts .now) (a .turn) (p .1 .0 .1) (p .1 .0 .0) (omega (arith, c .before .before .before .before .if1 .left))),
+      length-set (set (l .pairs) place (f .c)) (place + 1) (f .e) ∙ (length-set (l .pairs) place (f .c) ∙ l .inv .4),
     )
 
 add-result-2 : tie.Need-add-result-2 Inv-loop μ-loop
@@ -171,7 +194,7 @@ returns-2 c =
     let p = c .before .before .before .before .pre in
     let S = segmentIn (a .s .now) in
     let e : l .i ≡ a .streams = omega arith in
-    (first-nowhere (late S) (a .streams) (l .i) (l .inv .3) e ∙ ap (λ (k : ℕ). firstOf (late S) k 1) (number-is (p .0 .0)), λ over. subst (λ (k : ℕ). Grouped S k (l .ends) (l .shortest) (l .spacings)) e (l .inv .4))
+    (first-nowhere (late S) (a .streams) (l .i) (l .inv .3) e ∙ ap (λ (k : ℕ). firstOf (late S) k 1) (number-is (p .0 .0)), λ over. subst (λ (k : ℕ). Grouped S k (l .ends) (l .slacks) (l .pairs)) e (l .inv .2))
 
 pub place-spec : {M : Type 1} → statement M
 place-spec =
@@ -190,17 +213,22 @@ place-spec =
     returns
     mul-end
     element-copy-out-end
-    cast-spacings
-    mul-spacings
-    slice-write-spacings
+    cast-p
+    mul-p
+    mul-pairs
+    slice-write-pairs
+    add-pairs
+    mul-pairs-2
+    slice-write-pairs-2
     add-ends
     mul-ends
     element-write-ends
     mul-smaller
     element-copy-out-smaller
+    sub-smaller
     smaller-requires
-    mul-shortest
-    element-write-shortest
+    mul-slacks
+    element-write-slacks
     add-i
     loop-less
     loop-again

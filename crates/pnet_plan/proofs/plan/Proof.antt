@@ -1,4 +1,4 @@
--- `plan` meets its contract: the reading's own refusals, then 3, then 13, and what `plan_segment` says, with room for the sheet's spacings. Assumes nothing.
+-- `plan` meets its contract: the reading's own refusals, then 3, then 13, and what `plan_segment` says, with room for the sheet's pairs. Assumes nothing.
 use Prim.Native.Nat.{ℕ, _≤_}
 use mathlib.Core.Path.{sym, ap, _∙_}
 use mathlib.Core.List.{List}
@@ -68,7 +68,7 @@ plan-segment-requires c κs =
     let t = took (c .before .before .before .before .before .before .before .before .before .before .before .before .before .before) in
     let g = c .before .before .before .before .before .before .before .before .before .before .before .before .before .before .before .before .read-gathering .ensures in
     let h = sheeted t (sym (c .before .before .before .before .before .before .before .before .before .before .before .before .bus-of .ensures) ∙ c .before .before .before .before .before .before .before .before .before .before .before .if1 .left) zeros zeros (g .1 .0) (g .1 .1) in
-    ((h, c .before .before .before .before .before .before .if5 .taken), (c .before .before .before .before .before .before .before .before .before .if2 .left, ltb-false _ _ (c .before .before .before .before .before .before .before .before .if3 .left), ltb-false _ _ (c .before .before .before .before .before .before .before .if4 .left)))
+    ((h, omega (arith, c .before .before .before .before .before .before .if5 .taken)), (c .before .before .before .before .before .before .before .before .before .if2 .left, ltb-false _ _ (c .before .before .before .before .before .before .before .before .if3 .left), ltb-false _ _ (c .before .before .before .before .before .before .before .if4 .left)))
 
 same-length : tie.Need-same-length
 same-length c = search needs
@@ -90,7 +90,7 @@ plan-segment-requires-2 c κs =
     let t = took (c .before .before .before .before .before .before .before .before .before .before .before .before .before .before) in
     let g = c .before .before .before .before .before .before .before .before .before .before .before .before .before .before .before .before .read-gathering .ensures in
     let h = sheeted t (sym (c .before .before .before .before .before .before .before .before .before .before .before .before .bus-of .ensures) ∙ c .before .before .before .before .before .before .before .before .before .before .before .if1 .left) zeros zeros (g .1 .0) (g .1 .1) in
-    ((h, streams-few (h .ready)), (c .before .before .before .before .before .before .before .before .before .if2 .left, ltb-false _ _ (c .before .before .before .before .before .before .before .before .if3 .left), ltb-false _ _ (c .before .before .before .before .before .before .before .if4 .left)))
+    ((h, omega (arith, streams-few (h .ready))), (c .before .before .before .before .before .before .before .before .before .if2 .left, ltb-false _ _ (c .before .before .before .before .before .before .before .before .if3 .left), ltb-false _ _ (c .before .before .before .before .before .before .before .if4 .left)))
 
 returns-4 : tie.Need-returns-4
 returns-4 c =

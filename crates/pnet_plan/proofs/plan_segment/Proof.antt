@@ -4,7 +4,7 @@ use mathlib.Core.Path.{refl, _∙_}
 use Prim.Native.Nat.{_<_}
 use native.Mathlib.Omega.{arith}
 use borrow.Author.Needs.{needs}
-use Rattle.pnet_plan.proofs.Cases.{masters-few, counts-at, counts-small, longests-small, turn-is, grouped-first, kept-all, shortest-all, returned-filled, returned-late}
+use Rattle.pnet_plan.proofs.Cases.{masters-few, counts-at, counts-small, longests-small, turn-is, grouped-first, kept-all, slack-all, returned-filled, returned-late}
 use Rattle.pnet_plan.proofs.plan_segment.Statement.{statement}
 use Rattle.pnet_plan.proofs.plan_segment.Tie as tie
 
@@ -21,7 +21,7 @@ place-requires c κs =
     let start = c .before .before .before .before .before .before .before .before .before .before .before .before in
     let h = start .pre .0 .0 in
     let v = c .before .before .before .before .before .before .turn-of in
-    ((h .ready, start .pre .0 .1), ((turn-is h (v .result) (v .ensures), counts-at h), grouped-first h (c .before .before .before .set-out .ensures) (start .args .spacings .now) (start .pre .0 .1)))
+    ((h .ready, start .pre .0 .1), ((turn-is h (v .result) (v .ensures), counts-at h), grouped-first h (c .before .before .before .set-out .ensures) (start .args .pairs .now) (start .pre .0 .1)))
 
 same-length : tie.Need-same-length
 same-length c = search needs
@@ -43,7 +43,7 @@ fill-requires c κs =
     let l = c .before .before .before .before .before .before .before .before .before .before .place in
     let over : start .args .streams < l .result = omega (arith, c .before .before .before .before .before .before .before .if1 .left) in
     let placed = l .ensures .1 over in
-    ((kept-all h o (v .result .0) (turn-is h (v .result) (v .ensures)) placed, shortest-all h o (v .result .0) (turn-is h (v .result) (v .ensures)) placed (l .result) (l .ensures .0) over), start .pre .1)
+    ((kept-all h o (v .result .0) (turn-is h (v .result) (v .ensures)) placed, slack-all h o (v .result .0) (turn-is h (v .result) (v .ensures)) placed (l .result) (l .ensures .0) over), start .pre .1)
 
 same-length-2 : tie.Need-same-length-2
 same-length-2 c = search needs

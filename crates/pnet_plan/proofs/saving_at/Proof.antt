@@ -76,7 +76,7 @@ sub-until c = search needs
 
 -- what y asks of the s visits
 abbrev asks : tie.Start → ℕ → ℕ
-asks c v = min (c .args .s) (askedAt (c .args .counts .now) (c .args .ends .now) (c .args .spacings .now) (c .args .turn) (c .args .y) v)
+asks c v = min (c .args .s) (askedAt (c .args .counts .now) (c .args .ends .now) (c .args .pairs .now) (c .args .turn) (c .args .y) v)
 
 returns : tie.Need-returns
 unfolding askedAt

@@ -12,16 +12,16 @@ use Rattle.pnet_plan.proofs.search.Statement.{statement}
 use Rattle.pnet_plan.proofs.search.Tie as tie
 
 abbrev Inv-loop : tie.InvT-loop
-Inv-loop counts holds ends shortest spacings n turn k saved₀ until₀ w₀ rounds₀ saved until w rounds =
-    Moving (rightIn counts holds ends spacings n k) rounds w × Fresh counts holds ends spacings n turn k w saved until
+Inv-loop counts holds ends slacks pairs n turn k saved₀ until₀ w₀ rounds₀ saved until w rounds =
+    Moving (rightIn counts holds ends pairs n k) rounds w × Fresh counts holds ends pairs n turn k w saved until
 
 abbrev μ-loop : tie.MeasureT-loop
-μ-loop counts holds ends shortest spacings n turn k saved₀ until₀ w₀ rounds₀ saved until w rounds =
+μ-loop counts holds ends slacks pairs n turn k saved₀ until₀ w₀ rounds₀ saved until w rounds =
     2 + (n - 1) * at counts k - rounds
 
 -- the right side of the search
 abbrev right : tie.Start Inv-loop μ-loop → ℕ → ℕ
-right c = rightIn (c .args .counts .now) (c .args .holds .now) (c .args .ends .now) (c .args .spacings .now) (c .args .n) (c .args .k)
+right c = rightIn (c .args .counts .now) (c .args .holds .now) (c .args .ends .now) (c .args .pairs .now) (c .args .n) (c .args .k)
 
 -- how often it moves at most
 abbrev most : tie.Start Inv-loop μ-loop → ℕ

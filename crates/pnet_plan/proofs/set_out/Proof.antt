@@ -1,4 +1,4 @@
--- `set_out` meets its contract. The invariant: the first y masters are set out, and `end` is behind the spacings of them. Assumes nothing.
+-- `set_out` meets its contract. The invariant: the first y masters are set out, and `end` is behind their pairs. Assumes nothing.
 use mathlib.Core.Path.{_≡_}
 use Prim.Native.Nat.{_+_, _-_, _*_, _≤_}
 use native.Mathlib.Omega.{arith}
