@@ -12,6 +12,9 @@ use Rattle.sheet_record.proofs.Tables.{both-true}
 use Rattle.capture_log.specs.declared.Event.{Event}
 use Rattle.capture_log.specs.Log.{asks}
 use Rattle.capture_watch.specs.Ages.{clock, asked, leadBehind, keptLead, lead, early}
+use Rattle.capture_watch.proofs.True.{asks-not}
+
+-- ---- A lead
 
 pub kept-most : (J x : ℕ) → keptLead J x ≤ J
 unfolding keptLead
@@ -21,6 +24,18 @@ kept-most J x = split (ltb J x) refl
     split true q = omega arith
     split false q = ltb-false J x q
 
+pub kept-at-most : (J x : ℕ) → keptLead J x ≤ x
+unfolding keptLead
+kept-at-most J x = split (ltb J x)
+  where
+    split : (b : Bool) → cond b 0 x ≤ x
+    split true = omega arith
+    split false = omega arith
+
+pub kept-in-time : (J x : ℕ) → x ≤ J → keptLead J x ≡ x
+unfolding keptLead
+kept-in-time J x l = rw (le-ltb J x l) refl
+
 -- the lead of what comes behind another, and of a first request
 pub lead-next : (T previous l gap : ℕ) → (previous ≡ 0 → ⊥) → leadBehind T previous l gap ≡ l + T - gap
 unfolding leadBehind
@@ -29,6 +44,37 @@ lead-next T previous l gap z = rw (ne-eqb previous 0 z) refl
 pub lead-first : (T previous l gap : ℕ) → previous ≡ 0 → leadBehind T previous l gap ≡ 0
 unfolding leadBehind
 lead-first T previous l gap z = rw (eq-eqb previous 0 z) refl
+
+pub lead-at-most : (T previous l gap : ℕ) → leadBehind T previous l gap ≤ l + T - gap
+lead-at-most T previous l gap = split (ℕ-discrete previous 0)
+  where
+    split : Dec (previous ≡ 0) → leadBehind T previous l gap ≤ l + T - gap
+    split (yes z) = omega (arith, lead-first T previous l gap z)
+    split (no z) = omega (arith, lead-next T previous l gap z)
+
+-- ---- One record more
+
+-- a request of stream i
+module _ (i : ℕ) (e : Event) (es : List Event) (asks-it : e .kind ≡ 16) (own : e .stream ≡ i) where
+  pub asked-here : asked (e ∷ es) i ≡ clock (e ∷ es)
+  unfolding asked asks
+  asked-here = rw (eq-eqb (e .kind) 16 asks-it, eq-eqb (e .stream) i own) refl
+
+  pub lead-here : (T J : ℕ → ℕ) → lead T J (e ∷ es) i ≡ keptLead (J i) (leadBehind (T i) (asked es i) (lead T J es i) (clock (e ∷ es) - asked es i))
+  unfolding lead asks
+  lead-here T J = rw (eq-eqb (e .kind) 16 asks-it, eq-eqb (e .stream) i own) refl
+
+-- any other record
+module _ (i : ℕ) (e : Event) (es : List Event) (other : e .kind ≡ 16 → e .stream ≡ i → ⊥) where
+  pub asked-there : asked (e ∷ es) i ≡ asked es i
+  unfolding asked
+  asked-there = rw (asks-not e i other) refl
+
+  pub lead-there : (T J : ℕ → ℕ) → lead T J (e ∷ es) i ≡ lead T J es i
+  unfolding lead
+  lead-there T J = rw (asks-not e i other) refl
+
+-- ---- Too soon
 
 module _ (T J : ℕ → ℕ) where
   pub lead-most : (es : List Event) (i : ℕ) → lead T J es i ≤ J i

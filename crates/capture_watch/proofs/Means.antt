@@ -29,7 +29,7 @@ unfolding clock step
 begun e [] = omega arith
 begun e (f ∷ es) = omega (arith, begun f es)
 
-grows : (e : Event) (es : List Event) → clock es ≤ clock (e ∷ es)
+pub grows : (e : Event) (es : List Event) → clock es ≤ clock (e ∷ es)
 unfolding clock
 grows e es = omega arith
 
@@ -47,7 +47,7 @@ clock-most (e ∷ es) = omega (arith, clock-most es, step-below e es)
 pub clock-below : (es : List Event) → length es ≤ 2 ^ 32 → clock es < 2 ^ 64
 clock-below es few = omega (arith, clock-most es)
 
-asked-past : (es : List Event) (i : ℕ) → asked es i ≤ clock es
+pub asked-past : (es : List Event) (i : ℕ) → asked es i ≤ clock es
 unfolding asked clock
 asked-past [] i = omega arith
 asked-past (e ∷ es) i = split (asks e i) (asked-past es i)
