@@ -130,7 +130,8 @@ pub fn compare(
     let mut masters = [0u8; MOST];
     let mut bound = [0u32; MOST];
     let mut spacing = [0u32; MOST];
-    let plan = pnet_bounds::bounds(s, room, &mut masters, &mut bound, &mut spacing);
+    let mut jitter = [0u32; MOST];
+    let plan = pnet_bounds::bounds(s, room, &mut masters, &mut bound, &mut spacing, &mut jitter);
     match plan {
         Plan::Refused { no, place } => Plan::Refused { no, place },
         Plan::Accepted {

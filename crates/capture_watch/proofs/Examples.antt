@@ -7,8 +7,8 @@ use native.Mathlib.Omega.{arith}
 use Rattle.sheet_record.specs.Kinds.{within}
 use Rattle.capture_log.specs.declared.Event.{Event}
 use Rattle.capture_log.specs.Log.{asks, answers, stampAt, around, left}
-use Rattle.capture_watch.specs.Ages.{step, clock, far, broken, asked, early, soon, whose, beyond}
-use Rattle.capture_watch.specs.Follow.{began, ago, stepOf, tick, farOf, request, earlyOf, watchWith, seen, seenWith, followed}
+use Rattle.capture_watch.specs.Ages.{step, clock, far, broken, asked, leadBehind, keptLead, lead, early, soon, whose, beyond}
+use Rattle.capture_watch.specs.Follow.{began, ago, stepOf, tick, farOf, request, leadOf, watchWith, seen, seenWith, followed}
 use Rattle.capture_watch.specs.Timed.{Timed}
 use Rattle.capture_watch.specs.Timed.Timed.{one, next}
 
@@ -26,18 +26,45 @@ pub clock-over-the-wrap : clock wrapped ≡ 49
 unfolding clock step around
 clock-over-the-wrap = refl
 
-pub one-too-soon : soon (λ i. 100) wrapped ≡ 1
-unfolding soon early asked asks clock step around
+pub one-too-soon : soon (λ i. 100) (λ i. 0) wrapped ≡ 1
+unfolding soon early lead leadBehind keptLead asked asks clock step around
 one-too-soon = refl
 
-pub by-stream-1 : whose (λ i. 100) wrapped ≡ 1
-unfolding whose early asked asks clock step around
+pub by-stream-1 : whose (λ i. 100) (λ i. 0) wrapped ≡ 1
+unfolding whose early lead leadBehind keptLead asked asks clock step around
 by-stream-1 = refl
 
 -- at exactly the spacing it is in time
-pub in-time : soon (λ i. 48) wrapped ≡ 0
-unfolding soon early asked asks clock step around
+pub in-time : soon (λ i. 48) (λ i. 0) wrapped ≡ 0
+unfolding soon early lead leadBehind keptLead asked asks clock step around
 in-time = refl
+
+-- with a jitter of 52 bp it may come 52 bp before T is over, and it is kept that the next one may not
+pub in-time-by-jitter : soon (λ i. 100) (λ i. 52) wrapped ≡ 0
+unfolding soon early lead leadBehind keptLead asked asks clock step around
+in-time-by-jitter = refl
+
+pub all-of-it-used : lead (λ i. 100) (λ i. 52) wrapped 1 ≡ 52
+unfolding lead leadBehind keptLead asked asks clock step around
+all-of-it-used = refl
+
+-- T 100 and J 30: requests at 0, 80 and 170 can be due at 0, 100 and 200, the last just 30 bp ahead of when it came
+pub two-of-them-early : soon (λ i. 100) (λ i. 30) (asks-at 1 170 ∷ asks-at 1 80 ∷ asks-at 1 0 ∷ []) ≡ 0
+unfolding soon early lead leadBehind keptLead asked asks clock step around
+two-of-them-early = refl
+
+-- 70 bp, T less J, from each to the next are not enough: the third is due 60 bp ahead
+abbrev hurried : List Event
+hurried = asks-at 1 140 ∷ asks-at 1 70 ∷ asks-at 1 0 ∷ []
+
+pub third-too-soon : soon (λ i. 100) (λ i. 30) hurried ≡ 1
+unfolding soon early lead leadBehind keptLead asked asks clock step around
+third-too-soon = refl
+
+-- it begins anew: another 70 bp behind it is in time
+pub one-of-four : soon (λ i. 100) (λ i. 30) (asks-at 1 210 ∷ hurried) ≡ 1
+unfolding soon early lead leadBehind keptLead asked asks clock step around
+one-of-four = refl
 
 -- a request of stream 2 that is open for 1,000 bp at stream 1's record
 abbrev long-open : List Event
@@ -61,9 +88,9 @@ unfolding broken far around
 whole-over-the-wrap = refl
 
 -- the same, as it is kept
-pub kept-over-the-wrap : followed (100 ∷ []) (seen began (0 ∷ [])) wrapped
-    ≡ seen record { clock = 49; stamp = 0x20; broken = false; soon = 1; whose = 1 } (49 ∷ [])
-unfolding followed seenWith watchWith earlyOf request farOf tick stepOf ago within around
+pub kept-over-the-wrap : followed (100 ∷ []) (0 ∷ []) (seen began (0 ∷ []) (0 ∷ [])) wrapped
+    ≡ seen record { clock = 49; stamp = 0x20; broken = false; soon = 1; whose = 1 } (49 ∷ []) (0 ∷ [])
+unfolding followed seenWith watchWith leadOf leadBehind keptLead request farOf tick stepOf ago within around
 kept-over-the-wrap = refl
 
 -- and in time: the counter showed fffffff0 at instant 0

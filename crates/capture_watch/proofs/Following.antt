@@ -4,7 +4,7 @@ use mathlib.Core.Path.{_≡_, refl, ap, _∙_}
 use mathlib.Core.Bool.{Bool, true, false, cond, _||_}
 use mathlib.Core.List.{List}
 use native.Mathlib.Omega.{arith}
-use lib.Dec.{leb, eqb}
+use lib.Dec.{leb, ltb, eqb}
 use lib.ListN.{length, getD, set, length-set}
 use Rattle.common.specs.Runs.{tab}
 use Rattle.common.specs.Sums.{when}
@@ -14,7 +14,8 @@ use Rattle.sheet_record.proofs.Tables.{both-true}
 use Rattle.capture_log.specs.declared.Event.{Event}
 use Rattle.capture_log.specs.Records.{size, metAt}
 use Rattle.capture_watch.specs.declared.Watch.{Watch}
-use Rattle.capture_watch.specs.Follow.{most, stepOf, tick, farOf, request, spot, earlyOf, watchWith, Seen, seen, seenWith, followed, metIn}
+use Rattle.capture_watch.specs.Ages.{keptLead}
+use Rattle.capture_watch.specs.Follow.{most, stepOf, tick, farOf, request, spot, leadOf, watchWith, Seen, seen, seenWith, followed, metIn}
 
 -- ---- One record
 
@@ -30,62 +31,79 @@ pub request-placed : (e : Event) → request e ≡ true → Range 1 (e .stream) 
 unfolding request
 request-placed e q = within-range 1 (e .stream) most (both-true (eqb (e .kind) 16) _ q .1)
 
-module _ (T : List ℕ) (w : Watch) (asked : List ℕ) (e : Event) where
+module _ (T J : List ℕ) (w : Watch) (asked lead : List ℕ) (e : Event) where
+  abbrev then : Seen
+  then = seenWith T J (seen w asked lead) e
+
   -- no request
-  pub passed-by : request e ≡ false → (watchWith w e false ≡ seenWith T (seen w asked) e .watch) × (asked ≡ seenWith T (seen w asked) e .asked)
+  pub passed-by : request e ≡ false → (watchWith w e false ≡ then .watch) × ((asked ≡ then .asked) × (lead ≡ then .lead))
   unfolding seenWith
-  passed-by q = (rw q refl, rw q refl)
+  passed-by q = (rw q refl, (rw q refl, rw q refl))
 
   -- a request, that came too soon or not
-  pub asked-by : (early : Bool) (clock : ℕ) → request e ≡ true → early ≡ earlyOf w e (getD T (spot e) 0) (getD asked (spot e) 0) → clock ≡ tick w (e .stamp)
-      → (watchWith w e early ≡ seenWith T (seen w asked) e .watch) × (set asked (spot e) clock ≡ seenWith T (seen w asked) e .asked)
+  pub asked-by : (early : Bool) (clock new kept : ℕ) → request e ≡ true
+      → new ≡ leadOf w e (getD T (spot e) 0) (getD asked (spot e) 0) (getD lead (spot e) 0)
+      → clock ≡ tick w (e .stamp) → kept ≡ keptLead (getD J (spot e) 0) new → early ≡ ltb (getD J (spot e) 0) new
+      → (watchWith w e early ≡ then .watch) × ((set asked (spot e) clock ≡ then .asked) × (set lead (spot e) kept ≡ then .lead))
   unfolding seenWith
-  asked-by early clock q p t = (rw (q, p) refl, rw (q, t) refl)
+  asked-by early clock new kept q n t h b = (rw (q, b, n) refl, (rw (q, t) refl, rw (q, h, n) refl))
 
 -- ---- Record by record
 
--- the run keeps its places
-pub seen-long : (T : List ℕ) (s : Seen) (e : Event) → length (seenWith T s e .asked) ≡ length (s .asked)
-unfolding seenWith
-seen-long T s e = split (request e)
-  where
-    split : (b : Bool) → length (cond b (set (s .asked) (spot e) (tick (s .watch) (e .stamp))) (s .asked)) ≡ length (s .asked)
-    split true = length-set (s .asked) (spot e) (tick (s .watch) (e .stamp))
-    split false = refl
+-- the runs keep their places
+module _ (T J : List ℕ) (s : Seen) (e : Event) where
+  same-places : (run : List ℕ) (k x : ℕ) → length (cond (request e) (set run k x) run) ≡ length run
+  same-places run k x = split (request e)
+    where
+      split : (b : Bool) → length (cond b (set run k x) run) ≡ length run
+      split true = length-set run k x
+      split false = refl
+
+  pub asked-long : length (seenWith T J s e .asked) ≡ length (s .asked)
+  unfolding seenWith
+  asked-long = same-places (s .asked) (spot e) _
+
+  pub lead-long : length (seenWith T J s e .lead) ≡ length (s .lead)
+  unfolding seenWith
+  lead-long = same-places (s .lead) (spot e) _
 
 -- behind place `at` of the piece p: s is what all records before it leave of s₀
-pub record Following (T p : List ℕ) (s₀ s : Seen) (at : ℕ) : Type 0 where
+pub record Following (T J p : List ℕ) (s₀ s : Seen) (at : ℕ) : Type 0 where
   pub j : ℕ
   pub place : at ≡ size * j
   pub inside : at ≤ length p
-  pub is : s ≡ followed T s₀ (metIn p j)
+  pub is : s ≡ followed T J s₀ (metIn p j)
   pub long : length (s .asked) ≡ most
+  pub leads : length (s .lead) ≡ most
 
-pub following-none : (T p : List ℕ) (s : Seen) → length (s .asked) ≡ most → Following T p s s 0
+pub following-none : (T J p : List ℕ) (s : Seen) → length (s .asked) ≡ most → length (s .lead) ≡ most → Following T J p s s 0
 unfolding followed metIn
-following-none T p s h = record { j = 0; place = refl; inside = omega arith; is = refl; long = h }
+following-none T J p s h l = record { j = 0; place = refl; inside = omega arith; is = refl; long = h; leads = l }
 
-module _ {T p : List ℕ} {s₀ s : Seen} {at : ℕ} (f : Following T p s₀ s at) where
+module _ {T J p : List ℕ} {s₀ s : Seen} {at : ℕ} (f : Following T J p s₀ s at) where
   -- one record more, as the code reads it
-  pub following-more : (e : Event) (w : Watch) (asked : List ℕ) → at + size ≤ length p → e ≡ metAt p at
-      → w ≡ seenWith T s e .watch → asked ≡ seenWith T s e .asked → Following T p s₀ (seen w asked) (at + size)
+  pub following-more : (e : Event) (w : Watch) (asked lead : List ℕ) → at + size ≤ length p → e ≡ metAt p at
+      → w ≡ seenWith T J s e .watch → asked ≡ seenWith T J s e .asked → lead ≡ seenWith T J s e .lead
+      → Following T J p s₀ (seen w asked lead) (at + size)
   unfolding followed metIn
-  following-more e w asked h r a b = record {
+  following-more e w asked lead h r a b d = record {
     j = suc (f .j);
     place = omega (arith, f .place);
     inside = h;
-    is = both w asked a b ∙ (ap (λ (x : Seen). seenWith T x e) (f .is) ∙ ap (seenWith T (followed T s₀ (metIn p (f .j)))) (r ∙ ap (metAt p) (f .place)));
-    long = ap length b ∙ (seen-long T s e ∙ f .long);
+    is = all w asked lead a b d ∙ (ap (λ (x : Seen). seenWith T J x e) (f .is) ∙ ap (seenWith T J (followed T J s₀ (metIn p (f .j)))) (r ∙ ap (metAt p) (f .place)));
+    long = ap length b ∙ (asked-long T J s e ∙ f .long);
+    leads = ap length d ∙ (lead-long T J s e ∙ f .leads);
   }
     where
-      both : (w : Watch) (asked : List ℕ) → w ≡ seenWith T s e .watch → asked ≡ seenWith T s e .asked → seen w asked ≡ seenWith T s e
-      both w asked a b = rw (a, b) refl
+      all : (w : Watch) (asked lead : List ℕ) → w ≡ seenWith T J s e .watch → asked ≡ seenWith T J s e .asked → lead ≡ seenWith T J s e .lead
+          → seen w asked lead ≡ seenWith T J s e
+      all w asked lead a b d = rw (a, b, d) refl
 
   -- no whole record is left
-  pub following-all : length p < at + size → s ≡ followed T s₀ (metIn p (length p / size))
+  pub following-all : length p < at + size → s ≡ followed T J s₀ (metIn p (length p / size))
   following-all h =
       let all : f .j ≡ length p / size = omega (arith, f .place, f .inside) in
-      f .is ∙ ap (λ (n : ℕ). followed T s₀ (metIn p n)) all
+      f .is ∙ ap (λ (n : ℕ). followed T J s₀ (metIn p n)) all
 
 -- ---- At the end
 

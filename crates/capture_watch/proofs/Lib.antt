@@ -1,5 +1,6 @@
 pub mod Examples
 pub mod Following
+pub mod Leads
 pub mod Means
 pub mod Passed
 pub mod Pieces

@@ -62,8 +62,8 @@ module _ (c : List ℕ) (n : ℕ) (passes : heard c n fresh ≡ Passed) where
     passed-placed = placed (length c / size) (omega arith)
 
     -- what is kept of it is what its records say
-    pub passed-means : (T zeros : List ℕ) → length zeros ≡ most → ((i : ℕ) → i < most → getD zeros i 0 ≡ 0) → length c < 2 ^ 64
+    pub passed-means : (T J zeros : List ℕ) → length zeros ≡ most → ((i : ℕ) → i < most → getD zeros i 0 ≡ 0) → length c < 2 ^ 64
         → clock (eventsIn c (length c / size)) < 2 ^ 64
-        → Keeps T (eventsIn c (length c / size)) (followed T (seen began zeros) (metIn c (length c / size)))
-    passed-means T zeros long zero-each small short =
-        rw passed-records (kept-means T zeros long zero-each passed-placed short (omega (arith, events-many c (length c / size))))
+        → Keeps T J (eventsIn c (length c / size)) (followed T J (seen began zeros zeros) (metIn c (length c / size)))
+    passed-means T J zeros long zero-each small short =
+        rw passed-records (kept-means T J zeros long zero-each passed-placed short (omega (arith, events-many c (length c / size))))

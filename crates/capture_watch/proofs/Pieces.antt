@@ -14,10 +14,10 @@ use Rattle.capture_log.proofs.Joined.{event-front, event-behind}
 use Rattle.capture_watch.specs.Follow.{Seen, seenWith, followed, metIn}
 
 -- records behind others
-pub followed-behind : (T : List ℕ) (s : Seen) (es fs : List Event) → followed T s (fs ++ es) ≡ followed T (followed T s es) fs
+pub followed-behind : (T J : List ℕ) (s : Seen) (es fs : List Event) → followed T J s (fs ++ es) ≡ followed T J (followed T J s es) fs
 unfolding followed
-followed-behind T s es [] = refl
-followed-behind T s es (f ∷ fs) = ap (λ (x : Seen). seenWith T x f) (followed-behind T s es fs)
+followed-behind T J s es [] = refl
+followed-behind T J s es (f ∷ fs) = ap (λ (x : Seen). seenWith T J x f) (followed-behind T J s es fs)
 
 -- records that read alike, both whole or both cut
 met-same : (c c' : List ℕ) (at at' : ℕ) → leb (at + size) (length c) ≡ leb (at' + size) (length c') → eventAt c at ≡ eventAt c' at' → metAt c at ≡ metAt c' at'
@@ -58,9 +58,9 @@ module _ (c p : List ℕ) where
         let place : size * (m + j) ≡ length c + size * j = omega arith in
         rw (e, place, met-behind (size * j), mets-behind j) refl
 
-    pub in-pieces : (T : List ℕ) (s : Seen) → followed T s (metIn (c ++ p) (length (c ++ p) / size))
-        ≡ followed T (followed T s (metIn c (length c / size))) (metIn p (length p / size))
-    in-pieces T s =
+    pub in-pieces : (T J : List ℕ) (s : Seen) → followed T J s (metIn (c ++ p) (length (c ++ p) / size))
+        ≡ followed T J (followed T J s (metIn c (length c / size))) (metIn p (length p / size))
+    in-pieces T J s =
         let first : length c / size ≡ m = omega arith in
         let both : length (c ++ p) / size ≡ m + length p / size = omega (arith, length-append c p) in
-        rw (first, both, mets-behind (length p / size)) (followed-behind T s (metIn c m) (metIn p (length p / size)))
+        rw (first, both, mets-behind (length p / size)) (followed-behind T J s (metIn c m) (metIn p (length p / size)))

@@ -19,7 +19,7 @@ use Rattle.capture_watch.specs.Timed.UpTo.{here, later}
 
 -- ---- The clock
 
-in-order : {z a u : ℕ} {es : List Event} → Timed z es a u → a ≤ u
+pub in-order : {z a u : ℕ} {es : List Event} → Timed z es a u → a ≤ u
 in-order (one e) = omega arith
 in-order (next t l n e) = omega (arith, in-order t)
 

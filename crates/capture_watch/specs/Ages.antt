@@ -41,24 +41,45 @@ unfolding asks clock
 asked [] i = 0
 asked (e ∷ es) i = cond (asks e i) (clock (e ∷ es)) (asked es i)
 
--- e is a request that came sooner than T after its stream's previous one; es are the records before, T i is the spacing of stream i
-unfoldable pub early : (ℕ → ℕ) → Event → List Event → Bool
-unfolding asked clock
-early T e es =
-    let previous = asked es (e .stream) in
-    eqb (e .kind) 16 && (not (eqb previous 0) && ltb (clock (e ∷ es) - previous) (T (e .stream)))
+-- Spacing (page 02, Ask 7): each request is 0 to J behind a nominal time of its own, and these are at least T apart. So it is 0 to J before the
+-- instant J behind its nominal time, when it is due at the latest, and these are as far apart. The earliest that a request can be
+-- due is when it comes, or T behind the one before, whichever is later; its lead is how far ahead of it that is. Here the last request was
+-- at `previous` (0: none) with this lead, and the next comes `gap` behind it
+unfoldable pub leadBehind : ℕ → ℕ → ℕ → ℕ → ℕ
+leadBehind T previous lead gap = when (not (eqb previous 0)) (lead + T - gap)
 
--- how many requests came too soon
-unfoldable pub soon : (ℕ → ℕ) → List Event → ℕ
-unfolding early
-soon T [] = 0
-soon T (e ∷ es) = soon T es + when (early T e es) 1
+-- with a lead above J it came too soon; then the next one's is counted from when it came
+unfoldable pub keptLead : ℕ → ℕ → ℕ
+keptLead J lead = cond (ltb J lead) 0 lead
 
--- the stream of the first of them, 0 if there is none
-unfoldable pub whose : (ℕ → ℕ) → List Event → ℕ
-unfolding early
-whose T [] = 0
-whose T (e ∷ es) = cond (eqb (whose T es) 0) (when (early T e es) (e .stream)) (whose T es)
+-- T i and J i are those of stream i
+module _ (T J : ℕ → ℕ) where
+  -- the lead of the last request of stream i, 0 if there is none
+  unfoldable pub lead : List Event → ℕ → ℕ
+  unfolding asks asked clock leadBehind keptLead
+  lead [] i = 0
+  lead (e ∷ es) i =
+      let new = leadBehind (T i) (asked es i) (lead es i) (clock (e ∷ es) - asked es i) in
+      cond (asks e i) (keptLead (J i) new) (lead es i)
+
+  -- e is a request that came too soon; es are the records before
+  unfoldable pub early : Event → List Event → Bool
+  unfolding asked clock lead leadBehind
+  early e es =
+      let i = e .stream in
+      eqb (e .kind) 16 && ltb (J i) (leadBehind (T i) (asked es i) (lead es i) (clock (e ∷ es) - asked es i))
+
+  -- how many requests came too soon
+  unfoldable pub soon : List Event → ℕ
+  unfolding early
+  soon [] = 0
+  soon (e ∷ es) = soon es + when (early e es) 1
+
+  -- the stream of the first of them, 0 if there is none
+  unfoldable pub whose : List Event → ℕ
+  unfolding early
+  whose [] = 0
+  whose (e ∷ es) = cond (eqb (whose es) 0) (when (early e es) (e .stream)) (whose es)
 
 -- a request of stream i is open at the latest record, for longer than R
 unfoldable pub beyond : ℕ → List Event → ℕ → Bool

@@ -1,6 +1,6 @@
 -- What is kept of a capture that is followed piece by piece: the clock and what it showed, and for each stream the clock at its last
--- request, in a run of 800 places, place i for stream i + 1. Numbers of 64 bits go on around the wrap, which no capture of fewer than
--- 2^64 bp comes to. Assumes nothing.
+-- request and that request's lead, each in a run of 800 places, place i for stream i + 1. Numbers of 64 bits go on around the wrap, which no
+-- capture of fewer than 2^64 bp comes to. Assumes nothing.
 use Prim.Native.Nat.{ℕ, zero, suc, _+_, _-_, _*_, _%_, _^_}
 use mathlib.Core.Bool.{Bool, false, cond, not, _&&_, _||_}
 use mathlib.Core.List.{List, [], _∷_}
@@ -12,6 +12,7 @@ use Rattle.sheet_record.specs.Kinds.{within}
 use Rattle.capture_log.specs.declared.Event.{Event}
 use Rattle.capture_log.specs.Log.{around}
 use Rattle.capture_log.specs.Records.{size, metAt}
+use Rattle.capture_watch.specs.Ages.{leadBehind, keptLead}
 use Rattle.capture_watch.specs.declared.Watch.{Watch}
 
 -- no sheet has more streams
@@ -51,10 +52,10 @@ request e = eqb (e .kind) 16 && within 1 (e .stream) most
 abbrev pub spot : Event → ℕ
 spot e = e .stream - 1
 
--- a request of a stream with the spacing T, whose last request was at `previous` (0: none), came too soon
-unfoldable pub earlyOf : Watch → Event → ℕ → ℕ → Bool
-unfolding tick ago
-earlyOf w e T previous = not (eqb previous 0) && ltb (ago (tick w (e .stamp)) previous) T
+-- the lead of a request of a stream with the spacing T, whose last request was at `previous` (0: none) and had this lead
+unfoldable pub leadOf : Watch → Event → ℕ → ℕ → ℕ → ℕ
+unfolding tick ago leadBehind
+leadOf w e T previous lead = leadBehind T previous lead (ago (tick w (e .stamp)) previous)
 
 -- what is kept behind the record e; `early` says whether it came too soon
 unfoldable pub watchWith : Watch → Event → Bool → Watch
@@ -72,24 +73,28 @@ watchWith w e early = record {
 pub record Seen : Type 0 where
   pub watch : Watch
   pub asked : List ℕ
+  pub lead : List ℕ
 
-abbrev pub seen : Watch → List ℕ → Seen
-seen w asked = record { watch = w; asked = asked }
+abbrev pub seen : Watch → List ℕ → List ℕ → Seen
+seen w asked lead = record { watch = w; asked = asked; lead = lead }
 
--- T is the run of spacings
-unfoldable pub seenWith : List ℕ → Seen → Event → Seen
-unfolding request earlyOf watchWith tick
-seenWith T s e =
+-- T and J are the runs of spacings and of jitters
+unfoldable pub seenWith : List ℕ → List ℕ → Seen → Event → Seen
+unfolding request leadOf keptLead watchWith tick
+seenWith T J s e =
     let w = s .watch in
+    let k = spot e in
+    let new = leadOf w e (getD T k 0) (getD (s .asked) k 0) (getD (s .lead) k 0) in
     record {
-      watch = watchWith w e (request e && earlyOf w e (getD T (spot e) 0) (getD (s .asked) (spot e) 0));
-      asked = cond (request e) (set (s .asked) (spot e) (tick w (e .stamp))) (s .asked);
+      watch = watchWith w e (request e && ltb (getD J k 0) new);
+      asked = cond (request e) (set (s .asked) k (tick w (e .stamp))) (s .asked);
+      lead = cond (request e) (set (s .lead) k (keptLead (getD J k 0) new)) (s .lead);
     }
 
-unfoldable pub followed : List ℕ → Seen → List Event → Seen
+unfoldable pub followed : List ℕ → List ℕ → Seen → List Event → Seen
 unfolding seenWith
-followed T s [] = s
-followed T s (e ∷ es) = seenWith T (followed T s es) e
+followed T J s [] = s
+followed T J s (e ∷ es) = seenWith T J (followed T J s es) e
 
 -- the first n records of a piece, the latest first
 unfoldable pub metIn : List ℕ → ℕ → List Event

@@ -1,5 +1,6 @@
-// What a capture's bounds rest on: how long a request has been open, and how soon it came after its stream's previous one. A clock of 64
-// bits goes on where the tester's counter runs over; what is kept beside it is one place for each stream, the clock at its last request.
+// What a capture's bounds rest on: how long a request has been open, and whether it came sooner than its stream's spacing and jitter let it.
+// A clock of 64 bits goes on where the tester's counter runs over; what is kept beside it is, for each stream, the clock at its last request and
+// that request's lead.
 use capture_log::Event;
 use sheet_read::MOST;
 ghost use mathlib.Core.Path.{_≡_};
@@ -10,7 +11,8 @@ ghost use lib.ListN.{length};
 ghost use Rattle.common.specs.Sums.{when};
 ghost use Rattle.capture_log.specs.Records.{size};
 ghost use Rattle.capture_watch.specs.Follow;
-ghost use Rattle.capture_watch.specs.Follow.{most, ago, stepOf, tick, earlyOf, watchWith, seen, seenWith, followed, metIn, overdueRun};
+ghost use Rattle.capture_watch.specs.Ages.{leadBehind, keptLead};
+ghost use Rattle.capture_watch.specs.Follow.{most, ago, stepOf, tick, leadOf, watchWith, seen, seenWith, followed, metIn, overdueRun};
 
 // The clock and the stamp at the latest record, both 0 before the first; whether two successive records were 2^31 bp or more apart; how many
 // requests came too soon; and the stream of the first of these, 0 for none.
@@ -68,12 +70,43 @@ fn is_request(e: Event) -> bool
     (e.kind == 16) & ((1 <= i) & (i <= MOST))
 }
 
-// It came sooner than its stream's spacing behind the previous one; before a first request stands no other.
-fn too_soon(w: Watch, e: Event, spacing: u32, previous: u64) -> bool
-    ensures { λ r. ⌜ r ≡ earlyOf w e spacing previous ⌝ }
+// The lead of a request that comes `gap` behind the previous one; before a first request stands no other.
+fn lead_behind(spacing: u32, previous: u64, lead: u32, gap: u64) -> u64
+    ensures { λ r. ⌜ r ≡ leadBehind spacing previous lead gap ⌝ }
+{
+    if previous == 0 {
+        return 0;
+    }
+    let due = lead as u64 + spacing as u64;
+    if due < gap {
+        return 0;
+    }
+    due - gap
+}
+
+// The lead of a request at the next record.
+fn lead_of(w: Watch, e: Event, spacing: u32, previous: u64, lead: u32) -> u64
+    ensures { λ r. ⌜ r ≡ leadOf w e spacing previous lead ⌝ }
 {
     let gap = since(clock_at(w, e.stamp), previous);
-    (previous != 0) & (gap < spacing as u64)
+    lead_behind(spacing, previous, lead, gap)
+}
+
+// It came more than its stream's jitter before it can be due.
+fn too_soon(jitter: u32, lead: u64) -> bool
+    ensures { λ r. ⌜ r ≡ ltb jitter lead ⌝ }
+{
+    (jitter as u64) < lead
+}
+
+// A request that came too soon begins anew.
+fn kept_lead(jitter: u32, lead: u64) -> u32
+    ensures { λ r. ⌜ r ≡ keptLead jitter lead ⌝ }
+{
+    if too_soon(jitter, lead) {
+        return 0;
+    }
+    lead as u32
 }
 
 // One more where it came too soon.
@@ -114,43 +147,69 @@ fn behind(w: Watch, e: Event, early: bool) -> Watch
 }
 
 // Follows one record.
-fn follow_one(w: Watch, e: Event, spacing: &[u32], asked: &mut [u64]) -> Watch
-    requires { ⌜ (length (now spacing) ≡ most) × (length (now asked) ≡ most) ⌝ }
-    ensures { λ r. ⌜ r ≡ seenWith (now (spacing .entry)) (seen w (now (asked .entry))) e .watch ⌝ }
-    ensures { λ _. ⌜ now (asked .exit) ≡ seenWith (now (spacing .entry)) (seen w (now (asked .entry))) e .asked ⌝ }
+fn follow_one(
+    w: Watch,
+    e: Event,
+    spacing: &[u32],
+    jitter: &[u32],
+    asked: &mut [u64],
+    lead: &mut [u32],
+) -> Watch
+    requires { ⌜ (length (now spacing) ≡ most) × ((length (now jitter) ≡ most) × ((length (now asked) ≡ most) × (length (now lead) ≡ most))) ⌝ }
+    ensures { λ r. ⌜ r ≡ seenWith (now (spacing .entry)) (now (jitter .entry)) (seen w (now (asked .entry)) (now (lead .entry))) e .watch ⌝ }
+    ensures { λ _. ⌜ now (asked .exit) ≡ seenWith (now (spacing .entry)) (now (jitter .entry)) (seen w (now (asked .entry)) (now (lead .entry))) e .asked ⌝ }
+    ensures { λ _. ⌜ now (lead .exit) ≡ seenWith (now (spacing .entry)) (now (jitter .entry)) (seen w (now (asked .entry)) (now (lead .entry))) e .lead ⌝ }
 {
     if !is_request(e) {
         return behind(w, e, false);
     }
     let k = e.stream as usize - 1;
-    let early = too_soon(w, e, spacing[k], asked[k]);
+    let by = jitter[k];
+    let new = lead_of(w, e, spacing[k], asked[k], lead[k]);
     asked[k] = clock_at(w, e.stamp);
-    behind(w, e, early)
+    lead[k] = kept_lead(by, new);
+    behind(w, e, too_soon(by, new))
 }
 
 // The whole records of a piece, one after the other.
-fn follow_each(piece: &[u8], kept: Watch, spacing: &[u32], asked: &mut [u64]) -> Watch
-    requires { ⌜ (length (now spacing) ≡ most) × (length (now asked) ≡ most) ⌝ }
-    ensures { λ r. ⌜ r ≡ followed (now (spacing .entry)) (seen kept (now (asked .entry))) (metIn (now (piece .entry)) (length (now (piece .entry)) / size)) .watch ⌝ }
-    ensures { λ _. ⌜ now (asked .exit) ≡ followed (now (spacing .entry)) (seen kept (now (asked .entry))) (metIn (now (piece .entry)) (length (now (piece .entry)) / size)) .asked ⌝ }
+fn follow_each(
+    piece: &[u8],
+    kept: Watch,
+    spacing: &[u32],
+    jitter: &[u32],
+    asked: &mut [u64],
+    lead: &mut [u32],
+) -> Watch
+    requires { ⌜ (length (now spacing) ≡ most) × ((length (now jitter) ≡ most) × ((length (now asked) ≡ most) × (length (now lead) ≡ most))) ⌝ }
+    ensures { λ r. ⌜ r ≡ followed (now (spacing .entry)) (now (jitter .entry)) (seen kept (now (asked .entry)) (now (lead .entry))) (metIn (now (piece .entry)) (length (now (piece .entry)) / size)) .watch ⌝ }
+    ensures { λ _. ⌜ now (asked .exit) ≡ followed (now (spacing .entry)) (now (jitter .entry)) (seen kept (now (asked .entry)) (now (lead .entry))) (metIn (now (piece .entry)) (length (now (piece .entry)) / size)) .asked ⌝ }
+    ensures { λ _. ⌜ now (lead .exit) ≡ followed (now (spacing .entry)) (now (jitter .entry)) (seen kept (now (asked .entry)) (now (lead .entry))) (metIn (now (piece .entry)) (length (now (piece .entry)) / size)) .lead ⌝ }
 {
     let mut w = kept;
     let mut at: usize = 0;
     while capture_log::SIZE <= piece.len() - at {
         let e = capture_log::event_at(piece, at);
-        w = follow_one(w, e, spacing, asked);
+        w = follow_one(w, e, spacing, jitter, asked, lead);
         at += capture_log::SIZE;
     }
     w
 }
 
-// Follows the whole records of a piece, the next of a capture, behind those of which w and the run `asked` keep what is needed; `spacing` has
-// each stream's T.
-pub fn follow(piece: &[u8], w: Watch, spacing: &[u32; MOST], asked: &mut [u64; MOST]) -> Watch
-    ensures { λ r. ⌜ r ≡ followed (now (spacing .entry)) (seen w (now (asked .entry))) (metIn (now (piece .entry)) (length (now (piece .entry)) / size)) .watch ⌝ }
-    ensures { λ _. ⌜ now (asked .exit) ≡ followed (now (spacing .entry)) (seen w (now (asked .entry))) (metIn (now (piece .entry)) (length (now (piece .entry)) / size)) .asked ⌝ }
+// Follows the whole records of a piece, the next of a capture, behind those of which w and the runs `asked` and `lead` keep what is needed;
+// `spacing` and `jitter` have each stream's T and J.
+pub fn follow(
+    piece: &[u8],
+    w: Watch,
+    spacing: &[u32; MOST],
+    jitter: &[u32; MOST],
+    asked: &mut [u64; MOST],
+    lead: &mut [u32; MOST],
+) -> Watch
+    ensures { λ r. ⌜ r ≡ followed (now (spacing .entry)) (now (jitter .entry)) (seen w (now (asked .entry)) (now (lead .entry))) (metIn (now (piece .entry)) (length (now (piece .entry)) / size)) .watch ⌝ }
+    ensures { λ _. ⌜ now (asked .exit) ≡ followed (now (spacing .entry)) (now (jitter .entry)) (seen w (now (asked .entry)) (now (lead .entry))) (metIn (now (piece .entry)) (length (now (piece .entry)) / size)) .asked ⌝ }
+    ensures { λ _. ⌜ now (lead .exit) ≡ followed (now (spacing .entry)) (now (jitter .entry)) (seen w (now (asked .entry)) (now (lead .entry))) (metIn (now (piece .entry)) (length (now (piece .entry)) / size)) .lead ⌝ }
 {
-    follow_each(piece, w, spacing, asked)
+    follow_each(piece, w, spacing, jitter, asked, lead)
 }
 
 // 1 for a request that has been open for longer than the bound, else 0.

@@ -12,9 +12,10 @@ use Rattle.sheet_read.specs.Whole.Outcome.{Read}
 use Rattle.pnet_rules.specs.Segment.{segmentOf, streamAt, bound}
 use Rattle.pnet_run.specs.Run.{Belongs, Request, request, answer, put, join, toward, on-way, next, Run, start, complete, arrive, serve}
 use Rattle.pnet_run.specs.Promise.{none, and, Spaced}
+use Rattle.pnet_run.proofs.Spacing.{apart-kept}
 use Rattle.capture_log.specs.Log.{stampAt, fresh, largest, asks, answers, around, left, since, shown}
 use Rattle.capture_log.specs.Records.{size, eventAt, eventsIn, heard}
-use Rattle.pnet_bounds.specs.Bounded.{bounded, spacingOf, streamRun}
+use Rattle.pnet_bounds.specs.Bounded.{bounded, spacingOf, jitterOf, streamRun}
 use Rattle.capture_compare.specs.Compared.{compared}
 use Rattle.capture_compare.specs.Refusals.{Room}
 use Rattle.capture_watch.specs.Ages.{step, clock, asked, soon, beyond}
@@ -49,7 +50,7 @@ unfolding run logOf stampAt largest asks answers around since shown
 shows-210 = refl
 
 spaced : (k : ℕ) → Spaced page k (request 1 0 ∷ [])
-spaced k i b = and (λ e a j. absurd (List·Memᴰ·not-nil j)) none
+spaced k i b = apart-kept (page .stream i .jitter) (and (λ e a j. absurd (List·Memᴰ·not-nil j)) none)
 
 pub it-passes : heard capture (page .number) fresh ≡ Passed
 unfolding capture
@@ -78,15 +79,16 @@ pub shows-211 : clock (logOf 4294967196 run) ≡ 211
 unfolding run logOf stampAt clock step around
 shows-211 = refl
 
-pub none-too-soon : soon (λ i. page .stream i .spacing) (logOf 4294967196 run) ≡ 0
-none-too-soon = no-request-too-soon page run 4294967196 close spaced
+pub none-too-soon : soon (λ i. page .stream i .spacing) (λ i. page .stream i .jitter) (logOf 4294967196 run) ≡ 0
+none-too-soon = no-request-too-soon page run 4294967196 close (accepted-as-demanded bytes lent lent lent sheet accepts .declared) spaced
 
--- the same from its bytes, with runs of zeros lent for bounds and spacings
-pub none-counts-as-too-soon : followed (streamRun (bounded bytes most) spacingOf zeros) (seen began zeros) (metIn capture (length capture / size)) .watch .soon ≡ 0
+-- the same from its bytes, with runs of zeros lent for bounds, spacings and jitters
+pub none-counts-as-too-soon : followed (streamRun (bounded bytes most) spacingOf zeros) (streamRun (bounded bytes most) jitterOf zeros) (seen began zeros zeros) (metIn capture (length capture / size)) .watch .soon
+    ≡ 0
 unfolding capture
 none-counts-as-too-soon =
     no-request-counts-as-too-soon bytes lent lent lent sheet accepts run 4294967196 spaced close (omega arith) capture 2 (omega arith) refl capture-is-the-log
-    zeros zeros
+    zeros zeros zeros
 
 -- stream 2 asks with stream 1, and still waits when that one has its answer
 unfoldable pub both : Run page 210 (toward (next (page .masters) 1) 40) (put (join (join (λ y. []) 1 (request 1 0)) 1 (request 2 0)) 1 (request 2 0 ∷ []))
@@ -104,7 +106,7 @@ unfolding both instantsOf
 both-close = near {s = 0} {t = 210} (omega arith) (near {s = 0} {t = 0} (omega arith) one)
 
 both-spaced : (k : ℕ) → Spaced page k (request 2 0 ∷ request 1 0 ∷ [])
-both-spaced k i b = and (λ e a j. absurd (others e j)) (and (λ e a j. absurd (List·Memᴰ·not-nil j)) none)
+both-spaced k i b = apart-kept (page .stream i .jitter) (and (λ e a j. absurd (others e j)) (and (λ e a j. absurd (List·Memᴰ·not-nil j)) none))
   where
     others : {a : ℕ} → 2 ≡ i → List·Memᴰ (request i a) (request 1 0 ∷ []) → ⊥
     others e j = let f = ap (λ (r : Request). r .of) (List·Memᴰ·eq-of-singleton j) in omega arith

@@ -1,6 +1,6 @@
 -- The capture of a run beside its queues: in the queue of a master that keeps its spacing waits at most one request of a stream, and one
 -- exactly if the stream is open in the capture, which then has its stamp. So an answer shows what its request took. Assumes nothing.
-use Prim.Native.Nat.{ℕ, _+_, _≤_, max}
+use Prim.Native.Nat.{ℕ, _+_, _-_, _≤_, max}
 use mathlib.Core.Path.{_≡_, refl, sym, ap, _∙_}
 use mathlib.Core.Bool.{Bool, true, false, _&&_}
 use mathlib.Core.Logic.{_≢_, ⊎-elim}
@@ -52,7 +52,8 @@ use Rattle.pnet_run.specs.Promise.{Spaced, Answered, Accepted}
 use Rattle.pnet_run.proofs.Charges.{in-ring, hold-covers}
 use Rattle.pnet_run.proofs.Queues.{put-same, put-other, owned}
 use Rattle.pnet_run.proofs.Answering.{NotLate}
-use Rattle.pnet_run.proofs.Bound.{apart-before, waits-in-time, answered-by, first-differs, none-waits}
+use Rattle.pnet_run.proofs.Bound.{waits-in-time, answered-by, first-differs, none-waits}
+use Rattle.pnet_run.proofs.Spacing.{spaced-before, spaced-apart}
 use Rattle.capture_log.specs.declared.Event.{Event}
 use Rattle.capture_log.specs.Log.{asks, answers, stampAt, fresh, left, since, shown, largest, above}
 use Rattle.capture_log.proofs.Stamps.{true-response}
@@ -203,27 +204,32 @@ module _ {S : Segment} (accepted : Accepted S) where
     ring : (1 ≤ k) × (k ≤ S .masters)
     ring = in-ring (accepted .declared) d
 
-    fits : (i : ℕ) → Belongs S k i → boundBy (hold S) S k ≤ S .stream i .spacing
+    -- how far apart the requests of a stream are at least
+    abbrev far : ℕ → ℕ
+    far i = S .stream i .spacing - S .stream i .jitter
+
+    fits : (i : ℕ) → Belongs S k i → boundBy (hold S) S k ≤ far i
     unfolding bound
     fits i b = omega (arith, accepted .declared .ranges i (b .from-one) (b .to-last) .deadline-to, accepted .passes k i b)
 
     module _ {t : ℕ} {y : Token} {q : Queues} {came : List Request} {went : List Answer} (run : Run S t y q came went) where
       in-bound : Spaced S k came → Answered (bp (bound S k)) S k t y came went
       unfolding bound
-      in-bound spaced = answered-by S (hold S) k (ring .0) (ring .1) (hold-covers S) (λ i. S .stream i .spacing) fits run spaced
+      in-bound spaced = answered-by S (hold S) k (ring .0) (ring .1) (hold-covers S) far fits run (spaced-apart (accepted .declared) run spaced)
 
       pub not-late : Spaced S k came → (r : Request) → List·Memᴰ r (q k) → NotLate (bound S k) (r .since) t y
       unfolding bound
-      not-late spaced = waits-in-time S (hold S) k (ring .0) (ring .1) (hold-covers S) (λ i. S .stream i .spacing) fits run spaced
+      not-late spaced = waits-in-time S (hold S) k (ring .0) (ring .1) (hold-covers S) far fits run (spaced-apart (accepted .declared) run spaced)
 
       differs : {r p : Request} {rest : List Request} → Spaced S k came → q k ≡ r ∷ rest → List·Memᴰ p rest → r .of ≢ p .of
-      differs spaced e i = first-differs S (hold S) k (ring .0) (ring .1) (hold-covers S) (λ i. S .stream i .spacing) fits run spaced e i
+      differs spaced e i = first-differs S (hold S) k (ring .0) (ring .1) (hold-covers S) far fits run (spaced-apart (accepted .declared) run spaced) e i
 
       pub alone : {i : ℕ} → Settled y → Belongs S k i → Spaced S k (request i t ∷ came) → (r : Request) → List·Memᴰ r (q k) → i ≢ r .of
-      alone settled b spaced = none-waits S (hold S) k (ring .0) (ring .1) (hold-covers S) (λ i. S .stream i .spacing) fits run settled b spaced
+      alone settled b spaced =
+          none-waits S (hold S) k (ring .0) (ring .1) (hold-covers S) far fits run settled b (spaced-apart (accepted .declared) (arrive run settled b) spaced)
 
   pub earlier : {k : ℕ} {r : Request} {came : List Request} → Spaced S k (r ∷ came) → Spaced S k came
-  earlier spaced i b = apart-before (spaced i b)
+  earlier = spaced-before
 
   -- streams of two masters differ
   apart : {m k i j : ℕ} → m ≢ k → Belongs S m i → Belongs S k j → i ≢ j

@@ -21,7 +21,7 @@ use Rattle.pnet_run.specs.Run.{Belongs, Request, Answer, Queues, Token, Run}
 use Rattle.pnet_run.specs.Promise.{Spaced, Accepted}
 use Rattle.capture_log.specs.Log.{fresh, left}
 use Rattle.capture_log.specs.Records.{size, eventsIn, events, heard}
-use Rattle.pnet_bounds.specs.Bounded.{bounded, boundOf, spacingOf, streamRun}
+use Rattle.pnet_bounds.specs.Bounded.{bounded, boundOf, spacingOf, jitterOf, streamRun}
 use Rattle.pnet_bounds.proofs.Bounded.{bounded-read}
 use Rattle.capture_tally.specs.declared.Taken.{Taken}
 use Rattle.capture_tally.specs.declared.Taken.the-variants as answer
@@ -29,7 +29,7 @@ use Rattle.capture_tally.specs.Pieces.{before, answerTo, runBy, leftAfter}
 use Rattle.capture_compare.proofs.Told.{whole-taken, left-whole}
 use Rattle.capture_watch.specs.Ages.{clock, beyond}
 use Rattle.capture_watch.specs.Follow.{most, began, Seen, seen, followed, metIn, overdueRun}
-use Rattle.capture_watch.proofs.Means.{Keeps, overdue-means}
+use Rattle.capture_watch.proofs.Means.{ofStream, Keeps, overdue-means}
 use Rattle.capture_watch.proofs.Passed.{passed-count, passed-means}
 use Rattle.demands.specs.Logged.{logOf, instantsOf, Close}
 use Rattle.demands.proofs.Demand3.{accepted-as-demanded}
@@ -59,8 +59,8 @@ module _ (s bounds refined rounds : List ℕ) (H : Sheet) (accepts : planned s (
     (close : Close (instantsOf run)) (lasts : now + 1 < 2 ^ 64)
     -- the bytes c, fewer than 2^64, have n records, those of the run's log
     (c : List ℕ) (n : ℕ) (few : length c < 2 ^ 64) (long : length c ≡ size * n) (logged : eventsIn c n ≡ logOf z run)
-    -- the runs that are lent for each stream's bound and spacing
-    (limits spacings : List ℕ) where
+    -- the runs that are lent for each stream's bound, spacing and jitter
+    (limits spacings jitters : List ℕ) where
   -- what these hold then
   abbrev pub R : List ℕ
   R = streamRun (bounded s most) boundOf limits
@@ -68,9 +68,12 @@ module _ (s bounds refined rounds : List ℕ) (H : Sheet) (accepts : planned s (
   abbrev pub T : List ℕ
   T = streamRun (bounded s most) spacingOf spacings
 
+  abbrev pub J : List ℕ
+  J = streamRun (bounded s most) jitterOf jitters
+
   -- what is kept of the capture behind its last record
   abbrev pub kept : Seen
-  kept = followed T (seen began zeros) (metIn c (length c / size))
+  kept = followed T J (seen began zeros zeros) (metIn c (length c / size))
 
   -- what taking it answers, and 1 or 0 requests of each stream that are open then
   abbrev pub told : Taken
@@ -107,8 +110,8 @@ module _ (s bounds refined rounds : List ℕ) (H : Sheet) (accepts : planned s (
   short : clock (eventsIn c (length c / size)) < 2 ^ 64
   short = rw all-records (omega (arith, clock-within (recorded z run close)))
 
-  keeps : Keeps T (eventsIn c (length c / size)) kept
-  keeps = passed-means c (length (H .streams)) passes streams-few T zeros zeros-long zeros-each few short
+  keeps : Keeps T J (eventsIn c (length c / size)) kept
+  keeps = passed-means c (length (H .streams)) passes streams-few T J zeros zeros-long zeros-each few short
 
   -- all of them are taken
   pub the-capture-is-taken : told ≡ answer.All
@@ -121,11 +124,12 @@ module _ (s bounds refined rounds : List ℕ) (H : Sheet) (accepts : planned s (
       rw the-capture-is-taken
       (left-whole c i l ∙ ap (λ (j : ℕ). left fresh (eventsIn c j) (i + 1)) (passed-count c (length (H .streams)) passes))
 
-  in-time : Timely (λ i. getD T (i - 1) 0) (logOf z run)
+  in-time : Timely (ofStream T) (ofStream J) (logOf z run)
   unfolding segmentOf
   in-time =
-      timely (λ i. getD T (i - 1) 0) (λ k i own. omega (arith, at-its-place the-sheet-is-taken i (own .from-one) (own .to-last) spacingOf spacings)) z run
-      close spaced
+      timely (ofStream T) (ofStream J) (as-demanded .declared)
+      (λ k i own. omega (arith, at-its-place the-sheet-is-taken i (own .from-one) (own .to-last) spacingOf spacings))
+      (λ k i own. omega (arith, at-its-place the-sheet-is-taken i (own .from-one) (own .to-last) jitterOf jitters)) z run close spaced
 
   -- ---- What is shown
 

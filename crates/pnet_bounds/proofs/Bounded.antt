@@ -34,7 +34,7 @@ use Rattle.pnet_plan.specs.declared.answer.Plan.{Plan}
 use Rattle.pnet_plan.specs.declared.answer.Plan.the-variants as answer
 use Rattle.pnet_plan.specs.Arrays.{segmentIn, Sheeted}
 use Rattle.pnet_plan.proofs.Bytes.{Here, declares, streams-few, its-master, its-bound}
-use Rattle.pnet_bounds.specs.Bounded.{boundedBy, bounded, boundOf, masterOf, spacingOf, streamRun}
+use Rattle.pnet_bounds.specs.Bounded.{boundedBy, bounded, boundOf, masterOf, spacingOf, jitterOf, streamRun}
 
 -- ---- What is refused
 
@@ -116,16 +116,19 @@ module _ {s : List ℕ} {head : Record} {n first : ℕ} (took : Taken s head n f
   pub taken-short : busOf (head .kind) ≡ pnet → room < n → bounded s room ≡ Not 13 n
   taken-short k = bounded-short s room (sheetIn s) (took .reads) (taken-ready took k .on-bus) n (took .number)
 
--- ---- The answer and the three runs together, as the code returns them
+-- ---- The answer and the four runs together, as the code returns them
 
--- the answer r, and the runs a, b and c where x, y and z were lent
-abbrev pub Returned : List ℕ → ℕ → List ℕ → List ℕ → List ℕ → Plan → List ℕ → List ℕ → List ℕ → Type 0
-Returned s room x y z r a b c =
+-- the answer r, and the runs a, b, c and d where x, y, z and u were lent
+abbrev pub Returned : List ℕ → ℕ → List ℕ → List ℕ → List ℕ → List ℕ → Plan → List ℕ → List ℕ → List ℕ → List ℕ → Type 0
+Returned s room x y z u r a b c d =
     (r ≡ planOf (bounded s room))
-    × ((a ≡ streamRun (bounded s room) masterOf x) × ((b ≡ streamRun (bounded s room) boundOf y) × (c ≡ streamRun (bounded s room) spacingOf z)))
+    × ((a ≡ streamRun (bounded s room) masterOf x)
+    × ((b ≡ streamRun (bounded s room) boundOf y)
+    × ((c ≡ streamRun (bounded s room) spacingOf z) × (d ≡ streamRun (bounded s room) jitterOf u))))
 
-pub returned-refused : (s : List ℕ) (room : ℕ) (x y z : List ℕ) (n p : ℕ) → bounded s room ≡ Not n p → Returned s room x y z (answer.Refused n p) x y z
-returned-refused s room x y z n p e = (ap planOf (sym e), (run-kept masterOf x, (run-kept boundOf y, run-kept spacingOf z)))
+pub returned-refused : (s : List ℕ) (room : ℕ) (x y z u : List ℕ) (n p : ℕ) → bounded s room ≡ Not n p
+    → Returned s room x y z u (answer.Refused n p) x y z u
+returned-refused s room x y z u n p e = (ap planOf (sym e), (run-kept masterOf x, (run-kept boundOf y, (run-kept spacingOf z, run-kept jitterOf u))))
   where
     run-kept : (figure : Segment → ℕ → ℕ) (old : List ℕ) → old ≡ streamRun (bounded s room) figure old
     run-kept figure old = ap (λ (o : Outcome). streamRun o figure old) (sym e)
@@ -140,8 +143,8 @@ module _ {s : List ℕ} {N n first : ℕ} {counts longests : List ℕ} (h : Shee
   pub sheeted-late : late ≤ n → bounded s room ≡ Not 8 late
   sheeted-late l = bounded-late s room (sheetIn s) (h .ready .reads) (h .ready .on-bus) few late first-late (omega (arith, h .ready .number))
 
-  pub returned-late : late ≤ n → (x y z : List ℕ) → Returned s room x y z (answer.Refused 8 late) x y z
-  returned-late l x y z = returned-refused s room x y z 8 late (sheeted-late l)
+  pub returned-late : late ≤ n → (x y z u : List ℕ) → Returned s room x y z u (answer.Refused 8 late) x y z u
+  returned-late l x y z u = returned-refused s room x y z u 8 late (sheeted-late l)
 
   module _ (l : n < late) where
     pub sheeted-read : bounded s room ≡ Read (sheetIn s)
@@ -153,17 +156,17 @@ module _ {s : List ℕ} {N n first : ℕ} {counts longests : List ℕ} (h : Shee
         (q ∙ ap (λ (x : ℕ). filled (atPlace (figure (segmentIn s))) x old) (sym (h .ready .number)))
         ∙ ap (λ (o : Outcome). streamRun o figure old) (sym sheeted-read)
 
-    pub returned-accepted : (x y z a b c : List ℕ) → a ≡ filled (atPlace (masterOf (segmentIn s))) n x
+    pub returned-accepted : (x y z u a b c d : List ℕ) → a ≡ filled (atPlace (masterOf (segmentIn s))) n x
         → b ≡ filled (atPlace (boundOf (segmentIn s))) n y → c ≡ filled (atPlace (spacingOf (segmentIn s))) n z
-        → Returned s room x y z (answer.Accepted N n) a b c
+        → d ≡ filled (atPlace (jitterOf (segmentIn s))) n u → Returned s room x y z u (answer.Accepted N n) a b c d
     unfolding segmentOf
-    returned-accepted x y z a b c p q t =
+    returned-accepted x y z u a b c d p q t v =
         let r : answer.Accepted N n ≡ planOf (Read (sheetIn s)) = ap (λ (k : ℕ). answer.Accepted k n) (h .masters-are) ∙ ap (answer.Accepted (mastersOf (sheetIn s))) (sym (h .ready .number)) in
-        (r ∙ ap planOf (sym sheeted-read), (run-read masterOf x a p, (run-read boundOf y b q, run-read spacingOf z c t)))
+        (r ∙ ap planOf (sym sheeted-read), (run-read masterOf x a p, (run-read boundOf y b q, (run-read spacingOf z c t, run-read jitterOf u d v))))
 
 -- ---- Stream by stream
 
--- the record r is stream i + 1: its master, what the code multiplies for its bound, and its spacing
+-- the record r is stream i + 1: its master, what the code multiplies for its bound, its spacing and its jitter
 pub record Placed (s : List ℕ) (i : ℕ) (counts : List ℕ) (v : ℕ) (r : Record) : Type 0 where
   pub inside : i < 800
   pub to : r .a ≤ 32
@@ -173,6 +176,7 @@ pub record Placed (s : List ℕ) (i : ℕ) (counts : List ℕ) (v : ℕ) (r : Re
   pub master : r .a ≡ atPlace (masterOf (segmentIn s)) i
   pub bounds : at counts (r .a) * v ≡ atPlace (boundOf (segmentIn s)) i
   pub spaced : r .c ≡ atPlace (spacingOf (segmentIn s)) i
+  pub jittered : r .e ≡ atPlace (jitterOf (segmentIn s)) i
 
 module _ {s : List ℕ} {first n : ℕ} (ready : Ready s pnet first n) (counts : List ℕ) (v : ℕ)
     (ev : v ≡ turn (segmentIn s)) (counts-are : (y : ℕ) → y ≤ 32 → at counts y ≡ count (segmentIn s) y) where
@@ -192,4 +196,5 @@ module _ {s : List ℕ} {first n : ℕ} (ready : Ready s pnet first n) (counts :
         master = ap (λ (x : Stream). x .master) (h .stream);
         bounds = e;
         spaced = ap (λ (x : Stream). x .spacing) (h .stream);
+        jittered = ap (λ (x : Stream). x .jitter) (h .stream);
       }

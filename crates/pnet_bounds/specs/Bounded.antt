@@ -1,4 +1,5 @@
--- Page 02, 'Ask 1': the sheet that a capture is laid beside, and the master, bound and spacing of each of its streams. Assumes nothing.
+-- Page 02, 'Ask 1': the sheet that a capture is laid beside, and the master, bound, spacing and jitter of each of its streams.
+-- Assumes nothing.
 use Prim.Native.Nat.{ℕ}
 use mathlib.Core.List.{List}
 use lib.ListN.{length}
@@ -29,9 +30,13 @@ boundOf S i = bound S (S .stream i .master)
 abbrev pub masterOf : Segment → ℕ → ℕ
 masterOf S i = S .stream i .master
 
--- T: how far apart two requests of stream i are at least
+-- T: how far apart the nominal times of two requests of stream i are at least
 abbrev pub spacingOf : Segment → ℕ → ℕ
 spacingOf S i = S .stream i .spacing
+
+-- J: how far behind its nominal time a request comes at most
+abbrev pub jitterOf : Segment → ℕ → ℕ
+jitterOf S i = S .stream i .jitter
 
 -- a lent run: a figure of each stream, later places as they were; on a refusal all of it as it was
 abbrev pub streamRun : Outcome → (Segment → ℕ → ℕ) → List ℕ → List ℕ

@@ -1,5 +1,5 @@
-// The bounds of a P-NET sheet without a search: for a capture, page 02 'Ask 1', each stream's master, its master's R and its T; for a
-// path, page 02 'Ask 4', R of the master that sends.
+// The bounds of a P-NET sheet without a search: for a capture, page 02 'Ask 1', each stream's master, its master's R, its T and its J; for
+// a path, page 02 'Ask 4', R of the master that sends.
 use pnet_plan::Plan;
 use sheet_read::MOST;
 use sheet_read::Reading;
@@ -16,7 +16,7 @@ ghost use Rattle.pnet_rules.specs.Segment;
 ghost use Rattle.pnet_turn.specs.Turn.{at};
 ghost use Rattle.pnet_plan.specs.Arrays.{segmentIn, Sheeted};
 ghost use Rattle.pnet_plan.specs.Planned.{firstLate, planOf, atPlace};
-ghost use Rattle.pnet_bounds.specs.Bounded.{bounded, boundOf, masterOf, spacingOf, streamRun};
+ghost use Rattle.pnet_bounds.specs.Bounded.{bounded, boundOf, masterOf, spacingOf, jitterOf, streamRun};
 ghost use Rattle.pnet_bounds.specs.Sender.{sound, senderOf};
 
 // What the sheet of a segment says of the master that sends there: its R, or the refusal's number and place.
@@ -46,7 +46,7 @@ fn first_late(s: &[u8], first: usize, n: usize, counts: &[u8; 33], turn: u32) ->
     n + 1
 }
 
-// Each stream's master, bound and spacing; turn is V.
+// Each stream's master, bound, spacing and jitter; turn is V.
 fn by_stream(
     s: &[u8],
     first: usize,
@@ -56,12 +56,14 @@ fn by_stream(
     masters: &mut [u8],
     bound: &mut [u32],
     spacing: &mut [u32],
+    jitter: &mut [u32],
 )
-    requires { ⌜ Ready (now s) pnet first n × (n ≤ length (now masters)) × (n ≤ length (now bound)) × (n ≤ length (now spacing)) ⌝ }
+    requires { ⌜ Ready (now s) pnet first n × (n ≤ length (now masters)) × (n ≤ length (now bound)) × (n ≤ length (now spacing)) × (n ≤ length (now jitter)) ⌝ }
     requires { ⌜ (turn ≡ Segment.turn (segmentIn (now s))) × ((y : ℕ) → y ≤ 32 → at (now counts) y ≡ Segment.count (segmentIn (now s)) y) ⌝ }
     ensures { λ _. ⌜ now (masters .exit) ≡ filled (atPlace (masterOf (segmentIn (now (s .entry))))) n (now (masters .entry)) ⌝ }
     ensures { λ _. ⌜ now (bound .exit) ≡ filled (atPlace (boundOf (segmentIn (now (s .entry))))) n (now (bound .entry)) ⌝ }
     ensures { λ _. ⌜ now (spacing .exit) ≡ filled (atPlace (spacingOf (segmentIn (now (s .entry))))) n (now (spacing .entry)) ⌝ }
+    ensures { λ _. ⌜ now (jitter .exit) ≡ filled (atPlace (jitterOf (segmentIn (now (s .entry))))) n (now (jitter .entry)) ⌝ }
 {
     let mut at = first;
     let mut i: usize = 0;
@@ -71,12 +73,13 @@ fn by_stream(
         masters[i] = r.a as u8;
         bound[i] = counts[r.a as usize] as u32 * turn;
         spacing[i] = r.c;
+        jitter[i] = r.e;
         at = met.next;
         i += 1;
     }
 }
 
-// The masters, bounds and spacings of the n streams of a P-NET sheet of N masters, unless 8 is given.
+// The masters, bounds, spacings and jitters of the n streams of a P-NET sheet of N masters, unless 8 is given.
 fn bounds_of(
     s: &[u8],
     all: usize,
@@ -88,26 +91,28 @@ fn bounds_of(
     masters: &mut [u8; MOST],
     bound: &mut [u32; MOST],
     spacing: &mut [u32; MOST],
+    jitter: &mut [u32; MOST],
 ) -> Plan
     requires { ⌜ Sheeted (now s) all n first (now counts) (now longests) × (n ≤ room) ⌝ }
     ensures { λ r. ⌜ r ≡ planOf (bounded (now (s .entry)) room) ⌝ }
     ensures { λ _. ⌜ now (masters .exit) ≡ streamRun (bounded (now (s .entry)) room) masterOf (now (masters .entry)) ⌝ }
     ensures { λ _. ⌜ now (bound .exit) ≡ streamRun (bounded (now (s .entry)) room) boundOf (now (bound .entry)) ⌝ }
     ensures { λ _. ⌜ now (spacing .exit) ≡ streamRun (bounded (now (s .entry)) room) spacingOf (now (spacing .entry)) ⌝ }
+    ensures { λ _. ⌜ now (jitter .exit) ≡ streamRun (bounded (now (s .entry)) room) jitterOf (now (jitter .entry)) ⌝ }
 {
     let turn = pnet_turn::turn_of(counts, longests, all).0;
     let late = first_late(s, first, n, counts, turn);
     if late <= n {
         return Plan::Refused { no: 8, place: late };
     }
-    by_stream(s, first, n, counts, turn, masters, bound, spacing);
+    by_stream(s, first, n, counts, turn, masters, bound, spacing, jitter);
     Plan::Accepted {
         masters: all,
         streams: n,
     }
 }
 
-// The sheet that a capture is laid beside: each stream's master, bound and spacing, where `room` is the length of the shortest run lent
+// The sheet that a capture is laid beside: each stream's master, bound, spacing and jitter, where `room` is the length of the shortest run lent
 // for results.
 pub fn bounds(
     s: &[u8],
@@ -115,11 +120,13 @@ pub fn bounds(
     masters: &mut [u8; MOST],
     bound: &mut [u32; MOST],
     spacing: &mut [u32; MOST],
+    jitter: &mut [u32; MOST],
 ) -> Plan
     ensures { λ r. ⌜ r ≡ planOf (bounded (now (s .entry)) room) ⌝ }
     ensures { λ _. ⌜ now (masters .exit) ≡ streamRun (bounded (now (s .entry)) room) masterOf (now (masters .entry)) ⌝ }
     ensures { λ _. ⌜ now (bound .exit) ≡ streamRun (bounded (now (s .entry)) room) boundOf (now (bound .entry)) ⌝ }
     ensures { λ _. ⌜ now (spacing .exit) ≡ streamRun (bounded (now (s .entry)) room) spacingOf (now (spacing .entry)) ⌝ }
+    ensures { λ _. ⌜ now (jitter .exit) ≡ streamRun (bounded (now (s .entry)) room) jitterOf (now (jitter .entry)) ⌝ }
 {
     let mut counts: [u8; 33] = [0; 33];
     let mut longests: [u32; 33] = [0; 33];
@@ -151,6 +158,7 @@ pub fn bounds(
                 masters,
                 bound,
                 spacing,
+                jitter,
             )
         }
     }

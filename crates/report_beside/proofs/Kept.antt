@@ -15,7 +15,7 @@ use Rattle.sheet_read.specs.Sheets.{Sheet}
 use Rattle.sheet_read.specs.Whole.{Outcome}
 use Rattle.sheet_read.specs.Whole.Outcome.{Read, Not}
 use Rattle.pnet_rules.specs.Segment.{segmentOf}
-use Rattle.pnet_bounds.specs.Bounded.{boundOf, masterOf, spacingOf, streamRun}
+use Rattle.pnet_bounds.specs.Bounded.{boundOf, masterOf, spacingOf, jitterOf, streamRun}
 use Rattle.pnet_bounds.proofs.Bounded.{bounded-declared}
 use Rattle.capture_log.specs.Log.{fresh}
 use Rattle.capture_log.specs.Records.{heard}
@@ -81,34 +81,35 @@ refuses {s} {c} {t} {old} {new} {n} e l w = record {
 -- ---- Beginning
 
 -- the lent runs behind it, and the text
-module _ (s : List ℕ) (r : Begun) (old new masters R T : List ℕ) (k : Tally) where
+module _ (s : List ℕ) (r : Begun) (old new masters R T J : List ℕ) (k : Tally) where
   pub begins : r ≡ begunAs (laid s) → new ≡ begunText (laid s) old → masters ≡ streamRun (laid s) masterOf none → R ≡ streamRun (laid s) boundOf none
-      → T ≡ streamRun (laid s) spacingOf none → k ≡ unheard → Begins s r old new masters R T k
+      → T ≡ streamRun (laid s) spacingOf none → J ≡ streamRun (laid s) jitterOf none → k ≡ unheard → Begins s r old new masters R T J k
   unfolding tallyOf watchOf
   begins = by (laid s) refl
     where
       by : (o : Outcome) → laid s ≡ o → r ≡ begunAs o → new ≡ begunText o old → masters ≡ streamRun o masterOf none → R ≡ streamRun o boundOf none
-          → T ≡ streamRun o spacingOf none → k ≡ unheard → Begins s r old new masters R T k
-      by (Read H) e a t m b d u =
-          subst (λ (x : Begun). Begins s x old new masters R T k) (sym a)
+          → T ≡ streamRun o spacingOf none → J ≡ streamRun o jitterOf none → k ≡ unheard → Begins s r old new masters R T J k
+      by (Read H) e a t m b d j u =
+          subst (λ (x : Begun). Begins s x old new masters R T J k) (sym a)
           (record {
             sheet = H;
             is-laid = e;
             passes = passed-exactly [] (length (H .streams)) .1 (record { each = λ j l. absurd (omega arith) });
             streams-are = refl;
             bytes-are = refl;
-            watch-is = ap (λ (x : Seen). x .watch) (sym (seen-none (figures H spacingOf)));
+            watch-is = ap (λ (x : Seen). x .watch) (sym (seen-none (figures H spacingOf) (figures H jitterOf)));
             masters-are = m;
             bounds-are = b;
             spacings-are = d;
-            tally-is = u ∙ sym (after-none (figures H boundOf) (figures H spacingOf));
+            jitters-are = j;
+            tally-is = u ∙ sym (after-none (figures H boundOf) (figures H spacingOf) (figures H jitterOf));
           })
-      by (Not n p) e a t m b d u =
-          subst (λ (x : Begun). Begins s x old new masters R T k) (sym a) (λ c. refuses (sheet-refused s n p e c) refl t)
+      by (Not n p) e a t m b d j u =
+          subst (λ (x : Begun). Begins s x old new masters R T J k) (sym a) (λ c. refuses (sheet-refused s n p e c) refl t)
 
 -- ---- Hearing a piece
 
-module _ {s c masters R T : List ℕ} {h : Hearing} {k : Tally} (kept : Kept s c h masters R T k) (p : List ℕ) where
+module _ {s c masters R T J : List ℕ} {h : Hearing} {k : Tally} (kept : Kept s c h masters R T J k) (p : List ℕ) where
   abbrev H : Sheet
   H = kept .sheet
 
@@ -126,37 +127,40 @@ module _ {s c masters R T : List ℕ} {h : Hearing} {k : Tally} (kept : Kept s c
       ap (λ (m : ℕ). answerTo p m (waiting k)) (kept .streams-are)
       ∙ ap (λ (x : Tally). answerTo p n (waiting x)) (kept .tally-is)
 
-  seen-is : seenAfter p T (h .watch) (k .asked) ≡ seenAfter (c ++ p) (figures H spacingOf) began none
+  seen-is : seenAfter p T J (h .watch) (k .asked) (k .lead) ≡ seenAfter (c ++ p) (figures H spacingOf) (figures H jitterOf) began none none
   unfolding watchOf tallyOf
   seen-is =
-      ap (λ (x : List ℕ). seenAfter p x (h .watch) (k .asked)) (kept .spacings-are)
-      ∙ (ap (λ (x : Watch). seenAfter p (figures H spacingOf) x (k .asked)) (kept .watch-is)
-      ∙ (ap (λ (x : Tally). seenAfter p (figures H spacingOf) (watchOf H c) (x .asked)) (kept .tally-is)
-      ∙ sym (seen-joined c p n few (kept .passes) (figures H boundOf) (figures H spacingOf))))
+      ap (λ (x : List ℕ). seenAfter p x J (h .watch) (k .asked) (k .lead)) (kept .spacings-are)
+      ∙ (ap (λ (x : List ℕ). seenAfter p (figures H spacingOf) x (h .watch) (k .asked) (k .lead)) (kept .jitters-are)
+      ∙ (ap (λ (x : Watch). seenAfter p (figures H spacingOf) (figures H jitterOf) x (k .asked) (k .lead)) (kept .watch-is)
+      ∙ (ap (λ (x : Tally). seenAfter p (figures H spacingOf) (figures H jitterOf) (watchOf H c) (x .asked) (x .lead)) (kept .tally-is)
+      ∙ sym (seen-joined c p n few (kept .passes) (figures H boundOf) (figures H spacingOf) (figures H jitterOf)))))
 
-  tally-then : after p R T (h .watch) k ≡ tallyOf H (c ++ p)
+  tally-then : after p R T J (h .watch) k ≡ tallyOf H (c ++ p)
   unfolding watchOf tallyOf
   tally-then =
-      ap (λ (x : List ℕ). after p x T (h .watch) k) (kept .bounds-are)
-      ∙ (ap (λ (x : List ℕ). after p (figures H boundOf) x (h .watch) k) (kept .spacings-are)
-      ∙ (ap (λ (x : Watch). after p (figures H boundOf) (figures H spacingOf) x k) (kept .watch-is)
-      ∙ (ap (after p (figures H boundOf) (figures H spacingOf) (watchOf H c)) (kept .tally-is)
-      ∙ sym (after-joined c p n few (kept .passes) (figures H boundOf) (figures H spacingOf)))))
+      ap (λ (x : List ℕ). after p x T J (h .watch) k) (kept .bounds-are)
+      ∙ (ap (λ (x : List ℕ). after p (figures H boundOf) x J (h .watch) k) (kept .spacings-are)
+      ∙ (ap (λ (x : List ℕ). after p (figures H boundOf) (figures H spacingOf) x (h .watch) k) (kept .jitters-are)
+      ∙ (ap (λ (x : Watch). after p (figures H boundOf) (figures H spacingOf) (figures H jitterOf) x k) (kept .watch-is)
+      ∙ (ap (after p (figures H boundOf) (figures H spacingOf) (figures H jitterOf) (watchOf H c)) (kept .tally-is)
+      ∙ sym (after-joined c p n few (kept .passes) (figures H boundOf) (figures H spacingOf) (figures H jitterOf))))))
 
   -- it is taken
-  pub still-kept : answer ≡ taken.All → (k' : Tally) → k' ≡ after p R T (h .watch) k
-      → Kept s (c ++ p) (record { streams = h .streams; bytes = h .bytes + length p; watch = seenAfter p T (h .watch) (k .asked) .watch }) masters R T k'
+  pub still-kept : answer ≡ taken.All → (k' : Tally) → k' ≡ after p R T J (h .watch) k
+      → Kept s (c ++ p) (record { streams = h .streams; bytes = h .bytes + length p; watch = seenAfter p T J (h .watch) (k .asked) (k .lead) .watch }) masters R T J k'
   unfolding watchOf tallyOf
   still-kept e k' q = record {
     sheet = H;
     is-laid = kept .is-laid;
-    passes = joined-passes c p n few (kept .passes) (figures H boundOf) (figures H spacingOf) (sym answer-is ∙ e);
+    passes = joined-passes c p n few (kept .passes) (figures H boundOf) (figures H spacingOf) (figures H jitterOf) (sym answer-is ∙ e);
     streams-are = kept .streams-are;
     bytes-are = omega (arith, kept .bytes-are, length-append c p);
     watch-is = ap (λ (x : Seen). x .watch) seen-is;
     masters-are = kept .masters-are;
     bounds-are = kept .bounds-are;
     spacings-are = kept .spacings-are;
+    jitters-are = kept .jitters-are;
     tally-is = q ∙ tally-then;
   }
 
@@ -164,9 +168,9 @@ module _ {s c masters R T : List ℕ} {h : Hearing} {k : Tally} (kept : Kept s c
   module _ (r q : ℕ) (e : answer ≡ taken.Refused r q) where
     verdict-then : (rest : List ℕ) → Ends p rest → heard ((c ++ p) ++ rest) n fresh ≡ Refused r (length c + q)
     unfolding tallyOf
-    verdict-then rest (whole m long) = refused-behind c p n few (kept .passes) (figures H boundOf) (figures H spacingOf) r q m long (sym answer-is ∙ e) rest
+    verdict-then rest (whole m long) = refused-behind c p n few (kept .passes) (figures H boundOf) (figures H spacingOf) (figures H jitterOf) r q m long (sym answer-is ∙ e) rest
     verdict-then rest at-last =
-        rw (append-nil (c ++ p)) (joined-refused c p n few (kept .passes) (figures H boundOf) (figures H spacingOf) r q (sym answer-is ∙ e))
+        rw (append-nil (c ++ p)) (joined-refused c p n few (kept .passes) (figures H boundOf) (figures H spacingOf) (figures H jitterOf) r q (sym answer-is ∙ e))
 
     pub then-refused : (rest : List ℕ) → Ends p rest
         → (besideReport s ((c ++ p) ++ rest) ≡ captureRefusal r (h .bytes + q)) × (besideClean s ((c ++ p) ++ rest) ≡ false)
@@ -177,22 +181,22 @@ module _ {s c masters R T : List ℕ} {h : Hearing} {k : Tally} (kept : Kept s c
   -- whatever is answered
   module _ (x : Heard) (old new : List ℕ) (k' : Tally) where
     pub hears : let short = ltb (h .bytes) last in
-        x ≡ heardAs short answer h (length p) (seenAfter p T (h .watch) (k .asked) .watch) → new ≡ heardText short answer (h .bytes) old
-        → k' ≡ heardTally short answer (after p R T (h .watch) k) k → Hears s c p x old new masters R T k'
+        x ≡ heardAs short answer h (length p) (seenAfter p T J (h .watch) (k .asked) (k .lead) .watch) → new ≡ heardText short answer (h .bytes) old
+        → k' ≡ heardTally short answer (after p R T J (h .watch) k) k → Hears s c p x old new masters R T J k'
     hears = by (ltb (h .bytes) last) refl answer refl
       where
-        by : (b : Bool) → ltb (h .bytes) last ≡ b → (a : Taken) → answer ≡ a → x ≡ heardAs b a h (length p) (seenAfter p T (h .watch) (k .asked) .watch)
-            → new ≡ heardText b a (h .bytes) old → k' ≡ heardTally b a (after p R T (h .watch) k) k → Hears s c p x old new masters R T k'
+        by : (b : Bool) → ltb (h .bytes) last ≡ b → (a : Taken) → answer ≡ a → x ≡ heardAs b a h (length p) (seenAfter p T J (h .watch) (k .asked) (k .lead) .watch)
+            → new ≡ heardText b a (h .bytes) old → k' ≡ heardTally b a (after p R T J (h .watch) k) k → Hears s c p x old new masters R T J k'
         by false l a e y t q =
-            subst (λ (z : Heard). Hears s c p z old new masters R T k') (sym y) (omega (arith, ltb-false (h .bytes) last l, kept .bytes-are))
+            subst (λ (z : Heard). Hears s c p z old new masters R T J k') (sym y) (omega (arith, ltb-false (h .bytes) last l, kept .bytes-are))
         by true l taken.All e y t q =
-            subst (λ (z : Heard). Hears s c p z old new masters R T k') (sym y) (omega (arith, ltb-true (h .bytes) last l, kept .bytes-are), still-kept e k' q)
+            subst (λ (z : Heard). Hears s c p z old new masters R T J k') (sym y) (omega (arith, ltb-true (h .bytes) last l, kept .bytes-are), still-kept e k' q)
         by true l (taken.Refused r q) e y t u =
-            subst (λ (z : Heard). Hears s c p z old new masters R T k') (sym y) (λ rest ends. refuses (then-refused r q e rest ends) refl t)
+            subst (λ (z : Heard). Hears s c p z old new masters R T J k') (sym y) (λ rest ends. refuses (then-refused r q e rest ends) refl t)
 
 -- ---- Reporting
 
-module _ {s c masters R T : List ℕ} {h : Hearing} {k : Tally} (kept : Kept s c h masters R T k) where
+module _ {s c masters R T J : List ℕ} {h : Hearing} {k : Tally} (kept : Kept s c h masters R T J k) where
   text-is : textOf (h .streams) masters R (h .watch) k ≡ besideReport s c
   text-is =
       ap (λ (n : ℕ). textOf n masters R (h .watch) k) (kept .streams-are)
@@ -227,24 +231,24 @@ tells-refused : {s c old new : List ℕ} {n : ℕ} → Refuses s c old new n →
 tells-refused {s} {c} {old} x = record { capture = c; text-is = front (besideReport s c) old (x .length-is) (x .text-is); says = sym (x .is-refused) }
 
 -- behind the sheet
-module _ (s old new masters R T : List ℕ) (k : Tally) (x : Begun) (b : Begins s x old new masters R T k) where
-  pub begun-holds : (h : Hearing) → x ≡ begun.On h → Holds s h masters R T k
-  begun-holds h e = record { capture = []; kept = subst (λ (y : Begun). Begins s y old new masters R T k) e b }
+module _ (s old new masters R T J : List ℕ) (k : Tally) (x : Begun) (b : Begins s x old new masters R T J k) where
+  pub begun-holds : (h : Hearing) → x ≡ begun.On h → Holds s h masters R T J k
+  begun-holds h e = record { capture = []; kept = subst (λ (y : Begun). Begins s y old new masters R T J k) e b }
 
   pub begun-tells : (n : ℕ) → x ≡ begun.Refused n → Tells s new n false
-  begun-tells n e = tells-refused (subst (λ (y : Begun). Begins s y old new masters R T k) e b [])
+  begun-tells n e = tells-refused (subst (λ (y : Begun). Begins s y old new masters R T J k) e b [])
 
 -- behind a piece
-module _ {s masters R T : List ℕ} {h : Hearing} {k : Tally} (held : Holds s h masters R T k) (p : List ℕ) (x : Heard) (old new : List ℕ) (k' : Tally)
-    (clause : (s c masters : List ℕ) → Kept s c h masters R T k → Hears s c p x old new masters R T k') where
-  hears-it : Hears s (held .capture) p x old new masters R T k'
+module _ {s masters R T J : List ℕ} {h : Hearing} {k : Tally} (held : Holds s h masters R T J k) (p : List ℕ) (x : Heard) (old new : List ℕ) (k' : Tally)
+    (clause : (s c masters : List ℕ) → Kept s c h masters R T J k → Hears s c p x old new masters R T J k') where
+  hears-it : Hears s (held .capture) p x old new masters R T J k'
   hears-it = clause s (held .capture) masters (held .kept)
 
   module _ (next : Hearing) (e : x ≡ told.On next) where
-    on : (length (held .capture) < last) × Kept s (held .capture ++ p) next masters R T k'
-    on = subst (λ (y : Heard). Hears s (held .capture) p y old new masters R T k') e hears-it
+    on : (length (held .capture) < last) × Kept s (held .capture ++ p) next masters R T J k'
+    on = subst (λ (y : Heard). Hears s (held .capture) p y old new masters R T J k') e hears-it
 
-    pub heard-holds : Holds s next masters R T k'
+    pub heard-holds : Holds s next masters R T J k'
     heard-holds = record { capture = held .capture ++ p; kept = on .1 }
 
     -- its bytes are counted, and they can be
@@ -255,10 +259,10 @@ module _ {s masters R T : List ℕ} {h : Hearing} {k : Tally} (held : Holds s h 
     )
 
   pub heard-tells : (n : ℕ) → x ≡ told.Refused n → Tells s new n false
-  heard-tells n e = tells-refused (subst (λ (y : Heard). Hears s (held .capture) p y old new masters R T k') e hears-it [] at-last)
+  heard-tells n e = tells-refused (subst (λ (y : Heard). Hears s (held .capture) p y old new masters R T J k') e hears-it [] at-last)
 
 -- behind the last one
-module _ {s masters R T : List ℕ} {h : Hearing} {k : Tally} (held : Holds s h masters R T k) (r : Reported) (old new : List ℕ)
+module _ {s masters R T J : List ℕ} {h : Hearing} {k : Tally} (held : Holds s h masters R T J k) (r : Reported) (old new : List ℕ)
     (reported-it : Reports s (held .capture) r old new) where
   abbrev c : List ℕ
   c = held .capture

@@ -20,7 +20,7 @@ use Rattle.report_beside.specs.Kept.{Kept, Hears}
 use Rattle.report_beside.proofs.Kept.{hears}
 
 -- the piece p, behind what h and k keep
-module _ (p R T old : List ℕ) (h : Hearing) (k : Tally) where
+module _ (p R T J old : List ℕ) (h : Hearing) (k : Tally) where
   abbrev short : Bool
   short = ltb (h .bytes) last
 
@@ -28,10 +28,10 @@ module _ (p R T old : List ℕ) (h : Hearing) (k : Tally) where
   answer = answerTo p (h .streams) (waiting k)
 
   abbrev new-watch : Watch
-  new-watch = seenAfter p T (h .watch) (k .asked) .watch
+  new-watch = seenAfter p T J (h .watch) (k .asked) (k .lead) .watch
 
   abbrev new-tally : Tally
-  new-tally = after p R T (h .watch) k
+  new-tally = after p R T J (h .watch) k
 
   -- the answer, the lent text and the lent runs
   abbrev pub Answered : Heard → List ℕ → Tally → Type 0
@@ -56,7 +56,7 @@ module _ (p R T old : List ℕ) (h : Hearing) (k : Tally) where
     answered-refused r q n new k' e a t s = by true (taken.Refused r q) (lt-ltb (h .bytes) last l) e _ new k' (ap told.Refused a) t s
 
   -- both clauses of the contract
-  pub promised : (x : Heard) (new left since answers largest above asked : List ℕ) → Answered x new (tally left since answers largest above asked)
+  pub promised : (x : Heard) (new left since answers largest above asked lead : List ℕ) → Answered x new (tally left since answers largest above asked lead)
       → let then = heardTally short answer new-tally k in
       ((x ≡ heardAs short answer h (length p) new-watch)
       × (new ≡ heardText short answer (h .bytes) old)
@@ -65,9 +65,10 @@ module _ (p R T old : List ℕ) (h : Hearing) (k : Tally) where
       × (answers ≡ then .answers)
       × (largest ≡ then .largest)
       × (above ≡ then .above)
-      × (asked ≡ then .asked))
-      × ((s c masters : List ℕ) → Kept s c h masters R T k → Hears s c p x old new masters R T (tally left since answers largest above asked))
-  promised x new left since answers largest above asked a = (
+      × (asked ≡ then .asked)
+      × (lead ≡ then .lead))
+      × ((s c masters : List ℕ) → Kept s c h masters R T J k → Hears s c p x old new masters R T J (tally left since answers largest above asked lead))
+  promised x new left since answers largest above asked lead a = (
     (
       a .0,
       a .1,
@@ -77,6 +78,7 @@ module _ (p R T old : List ℕ) (h : Hearing) (k : Tally) where
       ap (λ (t : Tally). t .largest) (a .2),
       ap (λ (t : Tally). t .above) (a .2),
       ap (λ (t : Tally). t .asked) (a .2),
+      ap (λ (t : Tally). t .lead) (a .2),
     ),
-    λ s c masters kept. hears kept p x old new (tally left since answers largest above asked) (a .0) (a .1) (a .2),
+    λ s c masters kept. hears kept p x old new (tally left since answers largest above asked lead) (a .0) (a .1) (a .2),
   )

@@ -22,8 +22,9 @@ use Rattle.capture_watch.proofs.Pieces.{in-pieces}
 use Rattle.report_beside.specs.Whole.{Tally, tally, none, unheard, seenAfter, waiting, after}
 
 -- runs that are equal make up tallies that are
-pub tally-same : {l l' s s' a a' g g' b b' q q' : List ℕ} → l ≡ l' → s ≡ s' → a ≡ a' → g ≡ g' → b ≡ b' → q ≡ q' → tally l s a g b q ≡ tally l' s' a' g' b' q'
-tally-same e f g h i j = rw (e, f, g, h, i, j) refl
+pub tally-same : {l l' s s' a a' g g' b b' q q' d d' : List ℕ} → l ≡ l' → s ≡ s' → a ≡ a' → g ≡ g' → b ≡ b' → q ≡ q' → d ≡ d'
+    → tally l s a g b q d ≡ tally l' s' a' g' b' q' d'
+tally-same e f g h i j k = rw (e, f, g, h, i, j, k) refl
 
 -- ---- Nothing heard
 
@@ -36,11 +37,11 @@ unfolding none
 none-at i = zero-at most i
 
 -- no record leaves nothing
-pub seen-none : (T : List ℕ) → seenAfter [] T began none ≡ seen began none
+pub seen-none : (T J : List ℕ) → seenAfter [] T J began none none ≡ seen began none none
 unfolding followed metIn
-seen-none T = refl
+seen-none T J = refl
 
-module _ (R T : List ℕ) where
+module _ (R T J : List ℕ) where
   left-none : leftAfter [] (before none none) ≡ none
   unfolding leftAfter events records up eventsIn Log.left
   left-none = zero-run _ none-at
@@ -61,18 +62,18 @@ module _ (R T : List ℕ) where
   unfolding aboveAfter events records up eventsIn Log.above
   above-none = zero-run (λ i. (getD none i 0 + 0) % 2 ^ 64) (λ i. omega (arith, none-at i))
 
-  pub after-none : after [] R T began unheard ≡ unheard
-  after-none = tally-same left-none since-none answers-none largest-none above-none (ap (λ (x : Seen). x .asked) (seen-none T))
+  pub after-none : after [] R T J began unheard ≡ unheard
+  after-none = tally-same left-none since-none answers-none largest-none above-none (ap (λ (x : Seen). x .asked) (seen-none T J)) (ap (λ (x : Seen). x .lead) (seen-none T J))
 
 -- ---- One piece more
 
 -- c is taken for n streams, and p comes behind it
-module _ (c p : List ℕ) (n : ℕ) (few : n ≤ most) (passes : heard c n fresh ≡ Passed) (R T : List ℕ) where
+module _ (c p : List ℕ) (n : ℕ) (few : n ≤ most) (passes : heard c n fresh ≡ Passed) (R T J : List ℕ) where
   abbrev k : Tally
-  k = after c R T began unheard
+  k = after c R T J began unheard
 
   abbrev w : Watch
-  w = seenAfter c T began none .watch
+  w = seenAfter c T J began none none .watch
 
   whole : length c ≡ size * (length c / size)
   whole = passed-whole c n passes
@@ -103,10 +104,10 @@ module _ (c p : List ℕ) (n : ℕ) (few : n ≤ most) (passes : heard c n fresh
       (split-refused (c ++ p) rest (length c / size + m) long (before none none) n r (length c + q) (both ∙ ap (behind (length c)) e))
 
   -- and the runs and the clock go on
-  pub seen-joined : seenAfter (c ++ p) T began none ≡ seenAfter p T w (k .asked)
-  seen-joined = in-pieces c p (length c / size) whole T (seen began none)
+  pub seen-joined : seenAfter (c ++ p) T J began none none ≡ seenAfter p T J w (k .asked) (k .lead)
+  seen-joined = in-pieces c p (length c / size) whole T J (seen began none none)
 
-  pub after-joined : after (c ++ p) R T began unheard ≡ after p R T w k
+  pub after-joined : after (c ++ p) R T J began unheard ≡ after p R T J w k
   after-joined =
       tally-same
       (split-left c p (length c / size) whole (before none none))
@@ -115,3 +116,4 @@ module _ (c p : List ℕ) (n : ℕ) (few : n ≤ most) (passes : heard c n fresh
       (split-largest c p (length c / size) whole (before none none) none)
       (split-above c p (length c / size) whole (before none none) R none)
       (ap (λ (x : Seen). x .asked) seen-joined)
+      (ap (λ (x : Seen). x .lead) seen-joined)

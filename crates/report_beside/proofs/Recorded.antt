@@ -13,13 +13,14 @@ use Rattle.common.specs.Runs.{tab, filled}
 use Rattle.common.specs.Sums.{when}
 use Rattle.common.proofs.Runs.{length-tab, filled-at, zero-at}
 use Rattle.text.specs.Text.{item}
+use Rattle.sheet_record.specs.declared.Record.{Record}
 use Rattle.sheet_record.specs.Kinds.{nothing}
 use Rattle.sheet_read.specs.Sheets.{Sheet}
 use Rattle.sheet_read.specs.Whole.{Outcome}
 use Rattle.sheet_read.specs.Whole.Outcome.{Read, Not}
 use Rattle.pnet_rules.specs.Segment.{Segment, segmentOf, streamAt}
 use Rattle.pnet_plan.specs.Planned.{atPlace}
-use Rattle.pnet_bounds.specs.Bounded.{boundOf, masterOf, spacingOf}
+use Rattle.pnet_bounds.specs.Bounded.{boundOf, masterOf, spacingOf, jitterOf}
 use Rattle.capture_log.specs.declared.Event.{Event}
 use Rattle.capture_log.specs.Log.{fresh, left, answered, largest, above}
 use Rattle.capture_log.specs.Records.{events, size, eventsIn, heard}
@@ -27,7 +28,7 @@ use Rattle.capture_tally.specs.Pieces.{most}
 use Rattle.capture_compare.proofs.Told.{left-whole, answers-whole, largest-whole, above-whole}
 use Rattle.capture_watch.specs.Ages.{clock, broken, soon, whose, beyond}
 use Rattle.capture_watch.specs.Follow.{began, Seen}
-use Rattle.capture_watch.proofs.Means.{Keeps, overdue-means}
+use Rattle.capture_watch.proofs.Means.{ofStream, Keeps, overdue-means}
 use Rattle.capture_watch.proofs.Passed.{passed-count, passed-means}
 use Rattle.report_capture.proofs.Same.{Agree, clean-same, capture-same}
 use Rattle.report_beside.specs.Whole.{none, seenAfter, lateOf, textOf, cleanOf, laid, figures, tallyOf, watchOf, heardReport, heardClean, laidReport, laidClean, besideReport, besideClean}
@@ -58,16 +59,26 @@ module _ (H : Sheet) where
   figure-at : (figure : Segment → ℕ → ℕ) → Agree n (item (figures H figure)) (atPlace (figure S))
   figure-at figure i l = filled-at (atPlace (figure S)) n i none l
 
-  -- the spacing of every stream, on the sheet or not
-  spacing-of : (i : ℕ) → getD (figures H spacingOf) (i - 1) 0 ≡ spacingOf S i
+  -- a field of every stream, on the sheet or not
+  module _ (figure : Segment → ℕ → ℕ) (field : Record → ℕ) (is : (i : ℕ) → figure S i ≡ field (getD (H .streams) (i - 1) nothing)) (none-there : field nothing ≡ 0) where
+    field-of : (i : ℕ) → ofStream (figures H figure) i ≡ figure S i
+    field-of i = split (decLt (i - 1) n)
+      where
+        split : Dec (i - 1 < n) → ofStream (figures H figure) i ≡ figure S i
+        split (yes l) =
+            let e : i - 1 + 1 - 1 ≡ i - 1 = omega arith in
+            figure-at figure (i - 1) l ∙ (is (i - 1 + 1) ∙ (ap (λ (k : ℕ). field (getD (H .streams) k nothing)) e ∙ sym (is i)))
+        split (no l) =
+            zero-behind (atPlace (figure S)) n (i - 1) (omega (arith, l))
+            ∙ (sym none-there ∙ (sym (ap field (List·getD-eq-default (H .streams) nothing {n = i - 1} (omega (arith, l)))) ∙ sym (is i)))
+
+  spacing-same : _≡_ {A = ℕ → ℕ} (ofStream (figures H spacingOf)) (spacingOf S)
   unfolding segmentOf streamAt
-  spacing-of i = split (decLt (i - 1) n)
-    where
-      split : Dec (i - 1 < n) → getD (figures H spacingOf) (i - 1) 0 ≡ spacingOf S i
-      split (yes l) = let e : i - 1 + 1 - 1 ≡ i - 1 = omega arith in figure-at spacingOf (i - 1) l ∙ ap (λ (k : ℕ). getD (H .streams) k nothing .c) e
-      split (no l) =
-          zero-behind (atPlace (spacingOf S)) n (i - 1) (omega (arith, l))
-          ∙ sym (ap (λ r. r .c) (List·getD-eq-default (H .streams) nothing {n = i - 1} (omega (arith, l))))
+  spacing-same = fun-ext (field-of spacingOf (λ r. r .c) (λ i. refl) refl)
+
+  jitter-same : _≡_ {A = ℕ → ℕ} (ofStream (figures H jitterOf)) (jitterOf S)
+  unfolding segmentOf streamAt
+  jitter-same = fun-ext (field-of jitterOf (λ r. r .e) (λ i. refl) refl)
 
 -- ---- A capture that passes
 
@@ -79,18 +90,21 @@ module _ (s c : List ℕ) (H : Sheet) (is-laid : laid s ≡ Read H) (passes : he
   abbrev T : List ℕ
   T = figures H spacingOf
 
+  abbrev J : List ℕ
+  J = figures H jitterOf
+
   abbrev kept : Seen
-  kept = seenAfter c T began none
+  kept = seenAfter c T J began none none
 
   events-are : eventsIn c (length c / size) ≡ events c
   unfolding events
   events-are = ap (eventsIn c) (sym (passed-count c (n H) passes))
 
-  keeps : Keeps T (events c) kept
+  keeps : Keeps T J (events c) kept
   unfolding none
   keeps =
-      subst (λ (es : List Event). Keeps T es kept) events-are
-      (passed-means c (n H) passes few T none (length-replicate {A = ℕ} most 0) (λ i l. zero-at most i) small (subst (λ (es : List Event). clock es < 2 ^ 64) (sym events-are) short))
+      subst (λ (es : List Event). Keeps T J es kept) events-are
+      (passed-means c (n H) passes few T J none (length-replicate {A = ℕ} most 0) (λ i l. zero-at most i) small (subst (λ (es : List Event). clock es < 2 ^ 64) (sym events-are) short))
 
   left-at : (i : ℕ) → i < most → getD (tallyOf H c .left) i 0 ≡ left fresh (events c) (i + 1)
   unfolding tallyOf none
@@ -116,16 +130,13 @@ module _ (s c : List ℕ) (H : Sheet) (is-laid : laid s ≡ Read H) (passes : he
       overdue-means keeps short (figures H boundOf) (tallyOf H c .left) left-at i (omega (arith, few))
       ∙ ap (λ (R : ℕ). when (beyond R (events c) (i + 1)) 1) (figure-at H boundOf i l)
 
-  spacing-same : _≡_ {A = ℕ → ℕ} (λ i. getD T (i - 1) 0) (spacingOf (segmentOf H))
-  spacing-same = fun-ext (spacing-of H)
-
-  soon-is : watchOf H c .soon ≡ soon (spacingOf (segmentOf H)) (events c)
+  soon-is : watchOf H c .soon ≡ soon (spacingOf (segmentOf H)) (jitterOf (segmentOf H)) (events c)
   unfolding watchOf
-  soon-is = keeps .soon-is ∙ ap (λ (f : ℕ → ℕ). soon f (events c)) spacing-same
+  soon-is = keeps .soon-is ∙ (ap (λ (f : ℕ → ℕ). soon f (ofStream J) (events c)) (spacing-same H) ∙ ap (λ (f : ℕ → ℕ). soon (spacingOf (segmentOf H)) f (events c)) (jitter-same H))
 
-  whose-is : watchOf H c .whose ≡ whose (spacingOf (segmentOf H)) (events c)
+  whose-is : watchOf H c .whose ≡ whose (spacingOf (segmentOf H)) (jitterOf (segmentOf H)) (events c)
   unfolding watchOf
-  whose-is = keeps .whose-is ∙ ap (λ (f : ℕ → ℕ). whose f (events c)) spacing-same
+  whose-is = keeps .whose-is ∙ (ap (λ (f : ℕ → ℕ). whose f (ofStream J) (events c)) (spacing-same H) ∙ ap (λ (f : ℕ → ℕ). whose (spacingOf (segmentOf H)) f (events c)) (jitter-same H))
 
   broken-is : watchOf H c .broken ≡ broken (events c)
   unfolding watchOf

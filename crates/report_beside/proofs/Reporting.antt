@@ -23,8 +23,8 @@ module _ (h : Hearing) (masters R left answers largest above asked late old new 
   abbrev w : Watch
   w = h .watch
 
-  abbrev k : List ℕ → Tally
-  k since = tally left since answers largest above asked
+  abbrev k : List ℕ → List ℕ → Tally
+  k since lead = tally left since answers largest above asked lead
 
   abbrev text : List ℕ → List ℕ
   text run = captureText (item masters) (item R) (item largest) (item answers) (item above) (item left) (item run) (w .soon) (w .whose) (w .broken) n
@@ -34,12 +34,12 @@ module _ (h : Hearing) (masters R left answers largest above asked late old new 
 
   -- both clauses of the contract
   pub promised : (r : Reported) (is-clean : Bool) (m : ℕ) → is-clean ≡ good late → (m ≡ length (text late)) × (new ≡ over (text late) old) → r ≡ reportedAs is-clean m
-      → ((r ≡ reportedAs (cleanOf (h .streams) R w (k none)) (length (textOf (h .streams) masters R w (k none))))
-      × (new ≡ over (textOf (h .streams) masters R w (k none)) old))
-      × ((s c T since : List ℕ) → Kept s c h masters R T (k since) → Reports s c r old new)
+      → ((r ≡ reportedAs (cleanOf (h .streams) R w (k none none)) (length (textOf (h .streams) masters R w (k none none))))
+      × (new ≡ over (textOf (h .streams) masters R w (k none none)) old))
+      × ((s c T J since lead : List ℕ) → Kept s c h masters R T J (k since lead) → Reports s c r old new)
   unfolding textOf cleanOf
   promised r is-clean m g t e =
       let says : r ≡ reportedAs (good (overdueRun (w .clock) R left asked)) (length (text (overdueRun (w .clock) R left asked))) =
       e ∙ (ap (λ (b : Bool). reportedAs b m) g ∙ (ap (reportedAs (good late)) (t .0) ∙ ap (λ (x : List ℕ). reportedAs (good x) (length (text x))) late-is)) in
       let stands : new ≡ over (text (overdueRun (w .clock) R left asked)) old = t .1 ∙ ap (λ (x : List ℕ). over (text x) old) late-is in
-      ((says, stands), λ s c T since kept. reports kept r old new says stands)
+      ((says, stands), λ s c T J since lead kept. reports kept r old new says stands)

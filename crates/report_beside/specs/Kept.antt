@@ -8,7 +8,7 @@ use lib.ListN.{length, take}
 use Rattle.common.specs.Checks.Verdict.{Passed}
 use Rattle.sheet_read.specs.Sheets.{Sheet}
 use Rattle.sheet_read.specs.Whole.Outcome.{Read}
-use Rattle.pnet_bounds.specs.Bounded.{boundOf, masterOf, spacingOf}
+use Rattle.pnet_bounds.specs.Bounded.{boundOf, masterOf, spacingOf, jitterOf}
 use Rattle.capture_log.specs.Log.{fresh}
 use Rattle.capture_log.specs.Records.{size, heard}
 use Rattle.report_beside.specs.declared.Hearing.{Hearing}
@@ -21,7 +21,7 @@ use Rattle.report_beside.specs.Whole.{Tally, tally, laid, figures, tally
 use Rattle.report_beside.specs.Steps.{last, over, reportedAs}
 
 -- neither sheet nor capture is refused so far, and the runs hold what they leave
-pub record Kept (s c : List ℕ) (h : Hearing) (masters R T : List ℕ) (k : Tally) : Type 0 where
+pub record Kept (s c : List ℕ) (h : Hearing) (masters R T J : List ℕ) (k : Tally) : Type 0 where
   pub sheet : Sheet
   pub is-laid : laid s ≡ Read sheet
   pub passes : heard c (length (sheet .streams)) fresh ≡ Passed
@@ -31,6 +31,7 @@ pub record Kept (s c : List ℕ) (h : Hearing) (masters R T : List ℕ) (k : Tal
   pub masters-are : masters ≡ figures sheet masterOf
   pub bounds-are : R ≡ figures sheet boundOf
   pub spacings-are : T ≡ figures sheet spacingOf
+  pub jitters-are : J ≡ figures sheet jitterOf
   pub tally-is : k ≡ tallyOf sheet c
 
 -- the run `new`, that was `old`, begins with the report of sheet and capture, which are refused; n is its length
@@ -47,15 +48,15 @@ pub data Ends (p : List ℕ) : List ℕ → Type 0 where
 -- ---- The steps, by their answers
 
 -- beginning: nothing is heard yet; or the sheet is refused, whatever the capture is
-abbrev pub Begins : List ℕ → Begun → List ℕ → List ℕ → List ℕ → List ℕ → List ℕ → Tally → Type 0
-Begins s (begun.On h) old new masters R T k = Kept s [] h masters R T k
-Begins s (begun.Refused n) old new masters R T k = (c : List ℕ) → Refuses s c old new n
+abbrev pub Begins : List ℕ → Begun → List ℕ → List ℕ → List ℕ → List ℕ → List ℕ → List ℕ → Tally → Type 0
+Begins s (begun.On h) old new masters R T J k = Kept s [] h masters R T J k
+Begins s (begun.Refused n) old new masters R T J k = (c : List ℕ) → Refuses s c old new n
 
 -- hearing: the piece is heard; or the capture is refused, whatever comes behind it; or it is too long to be counted
-abbrev pub Hears : List ℕ → List ℕ → List ℕ → Heard → List ℕ → List ℕ → List ℕ → List ℕ → List ℕ → Tally → Type 0
-Hears s c p (told.On h) old new masters R T k = (length c < last) × Kept s (c ++ p) h masters R T k
-Hears s c p (told.Refused n) old new masters R T k = (rest : List ℕ) → Ends p rest → Refuses s ((c ++ p) ++ rest) old new n
-Hears s c p told.TooLong old new masters R T k = last ≤ length c
+abbrev pub Hears : List ℕ → List ℕ → List ℕ → Heard → List ℕ → List ℕ → List ℕ → List ℕ → List ℕ → List ℕ → Tally → Type 0
+Hears s c p (told.On h) old new masters R T J k = (length c < last) × Kept s (c ++ p) h masters R T J k
+Hears s c p (told.Refused n) old new masters R T J k = (rest : List ℕ) → Ends p rest → Refuses s ((c ++ p) ++ rest) old new n
+Hears s c p told.TooLong old new masters R T J k = last ≤ length c
 
 -- reporting: the run `new`, that was `old`, begins with the whole report, and the answer says how long it is and whether anything is wrong
 pub record Reports (s c : List ℕ) (r : Reported) (old new : List ℕ) : Type 0 where
@@ -65,15 +66,17 @@ pub record Reports (s c : List ℕ) (r : Reported) (old new : List ℕ) : Type 0
 -- ---- What a program holds and writes, of which nobody knows what it read
 
 -- what a sheet and the pieces of some capture leave
-pub record Holds (s : List ℕ) (h : Hearing) (masters R T : List ℕ) (k : Tally) : Type 0 where
+pub record Holds (s : List ℕ) (h : Hearing) (masters R T J : List ℕ) (k : Tally) : Type 0 where
   pub capture : List ℕ
-  pub kept : Kept s capture h masters R T k
+  pub kept : Kept s capture h masters R T J k
 
 -- the same of what is shown alone
 pub record Shows (s : List ℕ) (h : Hearing) (masters R left answers largest above asked : List ℕ) : Type 0 where
   pub spacing : List ℕ
+  pub jitter : List ℕ
   pub since : List ℕ
-  pub held : Holds s h masters R spacing (tally left since answers largest above asked)
+  pub lead : List ℕ
+  pub held : Holds s h masters R spacing jitter (tally left since answers largest above asked lead)
 
 -- the first n bytes of a text are the whole report of the sheet s beside a capture, and `accepted` is what it says
 pub record Tells (s text : List ℕ) (n : ℕ) (accepted : Bool) : Type 0 where

@@ -12,7 +12,7 @@ use Rattle.sheet_read.specs.Whole.{Outcome}
 use Rattle.sheet_read.specs.Whole.Outcome.{Read, Not}
 use Rattle.pnet_rules.specs.Segment.{segmentOf}
 use Rattle.pnet_plan.specs.Planned.{atPlace}
-use Rattle.pnet_bounds.specs.Bounded.{boundOf, masterOf, spacingOf}
+use Rattle.pnet_bounds.specs.Bounded.{boundOf, masterOf, spacingOf, jitterOf}
 use Rattle.capture_log.specs.declared.Event.{Event}
 use Rattle.capture_log.specs.Log.{fresh, left, answered, largest, above}
 use Rattle.capture_log.specs.Records.{events, heard}
@@ -33,10 +33,12 @@ unfoldable pub recordedText : Sheet → List Event → List ℕ
 recordedText H es =
     let S = segmentOf H in
     captureText (atPlace (masterOf S)) (atPlace (boundOf S)) (atPlace (largest fresh es)) (atPlace (answered es)) (aboveAt H es) (atPlace (left fresh es))
-    (lateAt H es) (soon (spacingOf S) es) (whose (spacingOf S) es) (broken es) (length (H .streams))
+    (lateAt H es) (soon (spacingOf S) (jitterOf S) es) (whose (spacingOf S) (jitterOf S) es) (broken es) (length (H .streams))
 
 unfoldable pub recordedClean : Sheet → List Event → Bool
-recordedClean H es = clean (aboveAt H es) (lateAt H es) (atPlace (answered es)) (soon (spacingOf (segmentOf H)) es) (broken es) (length (H .streams))
+recordedClean H es =
+    let S = segmentOf H in
+    clean (aboveAt H es) (lateAt H es) (atPlace (answered es)) (soon (spacingOf S) (jitterOf S) es) (broken es) (length (H .streams))
 
 -- ---- The report
 

@@ -11,7 +11,7 @@ use Rattle.sheet_read.specs.Sheets.{Sheet}
 use Rattle.sheet_read.specs.Whole.{Outcome}
 use Rattle.sheet_read.specs.Whole.Outcome.{Read, Not}
 use Rattle.pnet_rules.specs.Segment.{Segment}
-use Rattle.pnet_bounds.specs.Bounded.{bounded, boundOf, masterOf, spacingOf, streamRun}
+use Rattle.pnet_bounds.specs.Bounded.{bounded, boundOf, masterOf, spacingOf, jitterOf, streamRun}
 use Rattle.capture_log.specs.Log.{Before, fresh}
 use Rattle.capture_log.specs.Records.{size, heard}
 use Rattle.capture_tally.specs.Pieces.{most, before, leftAfter, sinceAfter, answersAfter, largestAfter, aboveAfter}
@@ -22,8 +22,8 @@ use Rattle.report_capture.specs.Shown.{clean, captureText, captureRefusal}
 
 -- ---- What is kept of a capture
 
--- for each stream 1 or 0 requests left open, the stamp of the last one, the answers, the largest response, the answers above the bound, and
--- the clock at the last request; the clock itself and what it showed is a Watch beside it
+-- for each stream 1 or 0 requests left open, the stamp of the last one, the answers, the largest response, the answers above the bound, the
+-- clock at the last request and its lead; the clock itself and what it showed is a Watch beside it
 pub record Tally : Type 0 where
   pub left : List ℕ
   pub since : List ℕ
@@ -31,10 +31,11 @@ pub record Tally : Type 0 where
   pub largest : List ℕ
   pub above : List ℕ
   pub asked : List ℕ
+  pub lead : List ℕ
 
-abbrev pub tally : List ℕ → List ℕ → List ℕ → List ℕ → List ℕ → List ℕ → Tally
-tally left since answers largest above asked =
-    record { left = left; since = since; answers = answers; largest = largest; above = above; asked = asked }
+abbrev pub tally : List ℕ → List ℕ → List ℕ → List ℕ → List ℕ → List ℕ → List ℕ → Tally
+tally left since answers largest above asked lead =
+    record { left = left; since = since; answers = answers; largest = largest; above = above; asked = asked; lead = lead }
 
 -- a run with nothing in it
 unfoldable pub none : List ℕ
@@ -42,25 +43,26 @@ none = replicate most 0
 
 -- before the first record
 abbrev pub unheard : Tally
-unheard = tally none none none none none none
+unheard = tally none none none none none none none
 
--- the clock behind the records of c, for streams with the spacings T
-abbrev pub seenAfter : List ℕ → List ℕ → Watch → List ℕ → Seen
-seenAfter c T w asked = followed T (seen w asked) (metIn c (length c / size))
+-- the clock behind the records of c, for streams with the spacings T and the jitters J
+abbrev pub seenAfter : List ℕ → List ℕ → List ℕ → Watch → List ℕ → List ℕ → Seen
+seenAfter c T J w asked lead = followed T J (seen w asked lead) (metIn c (length c / size))
 
 -- the requests that are open
 abbrev pub waiting : Tally → Before
 waiting k = before (k .left) (k .since)
 
 -- behind the same records, for streams with the bounds R
-abbrev pub after : List ℕ → List ℕ → List ℕ → Watch → Tally → Tally
-after c R T w k = record {
+abbrev pub after : List ℕ → List ℕ → List ℕ → List ℕ → Watch → Tally → Tally
+after c R T J w k = record {
   left = leftAfter c (waiting k);
   since = sinceAfter c (waiting k);
   answers = answersAfter c (k .answers);
   largest = largestAfter c (waiting k) (k .largest);
   above = aboveAfter c (waiting k) R (k .above);
-  asked = seenAfter c T w (k .asked) .asked;
+  asked = seenAfter c T J w (k .asked) (k .lead) .asked;
+  lead = seenAfter c T J w (k .asked) (k .lead) .lead;
 }
 
 -- ---- What is shown of it
@@ -91,10 +93,10 @@ figures H figure = streamRun (Read H) figure none
 
 -- what the whole capture leaves
 unfoldable pub tallyOf : Sheet → List ℕ → Tally
-tallyOf H c = after c (figures H boundOf) (figures H spacingOf) began unheard
+tallyOf H c = after c (figures H boundOf) (figures H spacingOf) (figures H jitterOf) began unheard
 
 unfoldable pub watchOf : Sheet → List ℕ → Watch
-watchOf H c = seenAfter c (figures H spacingOf) began none .watch
+watchOf H c = seenAfter c (figures H spacingOf) (figures H jitterOf) began none none .watch
 
 -- ---- The report
 

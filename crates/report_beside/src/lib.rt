@@ -1,6 +1,6 @@
 // The report of a tester's capture beside a P-NET sheet, page 02 'Ask 1', from the bytes of both. The capture comes piece by piece, each but the
 // last ended by a record: `begin` with the sheet, `hear` each piece, `report` behind the last. What is kept between is one place for each
-// stream in nine runs, which the caller lends to all three.
+// stream in eleven runs, which the caller lends to all three.
 use capture_tally::Taken;
 use capture_watch::Watch;
 use pnet_plan::Plan;
@@ -11,7 +11,7 @@ ghost use mathlib.Core.List.{List};
 ghost use Prim.Native.Nat.{ℕ, _+_, _^_, _<_};
 ghost use lib.Dec.{ltb};
 ghost use lib.ListN.{length};
-ghost use Rattle.pnet_bounds.specs.Bounded.{boundOf, masterOf, spacingOf, streamRun};
+ghost use Rattle.pnet_bounds.specs.Bounded.{boundOf, masterOf, spacingOf, jitterOf, streamRun};
 ghost use Rattle.capture_tally.specs.Pieces.{answerTo};
 ghost use Rattle.report_phrases.specs.Phrases.{refusalText};
 ghost use Rattle.report_capture.specs.Shown.{captureRefusal};
@@ -72,12 +72,14 @@ pub fn begin(
     masters: &mut [u8; MOST],
     bound: &mut [u32; MOST],
     spacing: &mut [u32; MOST],
+    jitter: &mut [u32; MOST],
     left: &mut [u8; MOST],
     since: &mut [u32; MOST],
     answers: &mut [u64; MOST],
     largest: &mut [u32; MOST],
     above: &mut [u64; MOST],
     asked: &mut [u64; MOST],
+    lead: &mut [u32; MOST],
 ) -> Begun
     ensures { λ r.
         let sheet = laid (now (s .entry)) in
@@ -86,26 +88,30 @@ pub fn begin(
         × (now (masters .exit) ≡ streamRun sheet masterOf none)
         × (now (bound .exit) ≡ streamRun sheet boundOf none)
         × (now (spacing .exit) ≡ streamRun sheet spacingOf none)
+        × (now (jitter .exit) ≡ streamRun sheet jitterOf none)
         × (now (left .exit) ≡ none)
         × (now (since .exit) ≡ none)
         × (now (answers .exit) ≡ none)
         × (now (largest .exit) ≡ none)
         × (now (above .exit) ≡ none)
-        × (now (asked .exit) ≡ none) ⌝ }
+        × (now (asked .exit) ≡ none)
+        × (now (lead .exit) ≡ none) ⌝ }
     ensures { λ r.
-        let then = tally (now (left .exit)) (now (since .exit)) (now (answers .exit)) (now (largest .exit)) (now (above .exit)) (now (asked .exit)) in
-        ⌜ Begins (now (s .entry)) r (now (out .entry)) (now (out .exit)) (now (masters .exit)) (now (bound .exit)) (now (spacing .exit)) then ⌝ }
+        let then = tally (now (left .exit)) (now (since .exit)) (now (answers .exit)) (now (largest .exit)) (now (above .exit)) (now (asked .exit)) (now (lead .exit)) in
+        ⌜ Begins (now (s .entry)) r (now (out .entry)) (now (out .exit)) (now (masters .exit)) (now (bound .exit)) (now (spacing .exit)) (now (jitter .exit)) then ⌝ }
 {
     *masters = [0; MOST];
     *bound = [0; MOST];
     *spacing = [0; MOST];
+    *jitter = [0; MOST];
     *left = [0; MOST];
     *since = [0; MOST];
     *answers = [0; MOST];
     *largest = [0; MOST];
     *above = [0; MOST];
     *asked = [0; MOST];
-    match pnet_bounds::bounds(s, MOST, masters, bound, spacing) {
+    *lead = [0; MOST];
+    match pnet_bounds::bounds(s, MOST, masters, bound, spacing, jitter) {
         Plan::Accepted {
             masters: _,
             streams,
@@ -125,33 +131,37 @@ pub fn hear(
     heard: Hearing,
     bound: &[u32; MOST],
     spacing: &[u32; MOST],
+    jitter: &[u32; MOST],
     left: &mut [u8; MOST],
     since: &mut [u32; MOST],
     answers: &mut [u64; MOST],
     largest: &mut [u32; MOST],
     above: &mut [u64; MOST],
     asked: &mut [u64; MOST],
+    lead: &mut [u32; MOST],
 ) -> Heard
     ensures { λ r.
         let p = now (piece .entry) in
-        let was = tally (now (left .entry)) (now (since .entry)) (now (answers .entry)) (now (largest .entry)) (now (above .entry)) (now (asked .entry)) in
+        let was = tally (now (left .entry)) (now (since .entry)) (now (answers .entry)) (now (largest .entry)) (now (above .entry)) (now (asked .entry)) (now (lead .entry)) in
         let short = ltb (heard .bytes) last in
         let answer = answerTo p (heard .streams) (waiting was) in
-        let then = heardTally short answer (after p (now (bound .entry)) (now (spacing .entry)) (heard .watch) was) was in
-        ⌜ (r ≡ heardAs short answer heard (length p) (seenAfter p (now (spacing .entry)) (heard .watch) (was .asked) .watch))
+        let then = heardTally short answer (after p (now (bound .entry)) (now (spacing .entry)) (now (jitter .entry)) (heard .watch) was) was in
+        ⌜ (r ≡ heardAs short answer heard (length p) (seenAfter p (now (spacing .entry)) (now (jitter .entry)) (heard .watch) (was .asked) (was .lead) .watch))
         × (now (out .exit) ≡ heardText short answer (heard .bytes) (now (out .entry)))
         × (now (left .exit) ≡ then .left)
         × (now (since .exit) ≡ then .since)
         × (now (answers .exit) ≡ then .answers)
         × (now (largest .exit) ≡ then .largest)
         × (now (above .exit) ≡ then .above)
-        × (now (asked .exit) ≡ then .asked) ⌝ }
+        × (now (asked .exit) ≡ then .asked)
+        × (now (lead .exit) ≡ then .lead) ⌝ }
     ensures { λ r.
         let R = now (bound .entry) in
         let T = now (spacing .entry) in
-        let was = tally (now (left .entry)) (now (since .entry)) (now (answers .entry)) (now (largest .entry)) (now (above .entry)) (now (asked .entry)) in
-        let then = tally (now (left .exit)) (now (since .exit)) (now (answers .exit)) (now (largest .exit)) (now (above .exit)) (now (asked .exit)) in
-        ⌜ ((s c masters : List ℕ) → Kept s c heard masters R T was → Hears s c (now (piece .entry)) r (now (out .entry)) (now (out .exit)) masters R T then) ⌝ }
+        let J = now (jitter .entry) in
+        let was = tally (now (left .entry)) (now (since .entry)) (now (answers .entry)) (now (largest .entry)) (now (above .entry)) (now (asked .entry)) (now (lead .entry)) in
+        let then = tally (now (left .exit)) (now (since .exit)) (now (answers .exit)) (now (largest .exit)) (now (above .exit)) (now (asked .exit)) (now (lead .exit)) in
+        ⌜ ((s c masters : List ℕ) → Kept s c heard masters R T J was → Hears s c (now (piece .entry)) r (now (out .entry)) (now (out .exit)) masters R T J then) ⌝ }
 {
     let bytes = heard.bytes;
     if LAST <= bytes {
@@ -162,7 +172,7 @@ pub fn hear(
     if let Taken::Refused { no, place } = taken {
         return Heard::Refused(refuse_capture(out, no, bytes, place));
     }
-    let watch = capture_watch::follow(piece, heard.watch, spacing, asked);
+    let watch = capture_watch::follow(piece, heard.watch, spacing, jitter, asked, lead);
     let behind = bytes + piece.len();
     Heard::On(Hearing {
         streams,
@@ -184,10 +194,10 @@ pub fn report(
     asked: &[u64; MOST],
 ) -> Reported
     ensures { λ r.
-        let k = tally (now (left .entry)) none (now (answers .entry)) (now (largest .entry)) (now (above .entry)) (now (asked .entry)) in
+        let k = tally (now (left .entry)) none (now (answers .entry)) (now (largest .entry)) (now (above .entry)) (now (asked .entry)) none in
         let text = textOf (heard .streams) (now (masters .entry)) (now (bound .entry)) (heard .watch) k in
         ⌜ (r ≡ reportedAs (cleanOf (heard .streams) (now (bound .entry)) (heard .watch) k) (length text)) × (now (out .exit) ≡ over text (now (out .entry))) ⌝ }
-    ensures { λ r. ⌜ ((s c T since : List ℕ) → Kept s c heard (now (masters .entry)) (now (bound .entry)) T (tally (now (left .entry)) since (now (answers .entry)) (now (largest .entry)) (now (above .entry)) (now (asked .entry))) → Reports s c r (now (out .entry)) (now (out .exit))) ⌝ }
+    ensures { λ r. ⌜ ((s c T J since lead : List ℕ) → Kept s c heard (now (masters .entry)) (now (bound .entry)) T J (tally (now (left .entry)) since (now (answers .entry)) (now (largest .entry)) (now (above .entry)) (now (asked .entry)) lead) → Reports s c r (now (out .entry)) (now (out .exit))) ⌝ }
 {
     let streams = heard.streams;
     let watch = heard.watch;

@@ -25,14 +25,14 @@ returns c =
     let a = c .before .before .before .before .before .before .before .before .before .args in
     let g = c .before .before .before .before .before .read-gathering .ensures in
     let x = c .before .before .before .read2 .given in
-    returned-refused (now (a .s)) (a .room) (now (a .masters)) (now (a .bound)) (now (a .spacing)) 3 0 (taken-other (answer-taken (now (a .s)) (g .0) (x .1)) (a .room) (λ k. c .if1 .taken (c .before .bus-of .ensures ∙ k)))
+    returned-refused (now (a .s)) (a .room) (now (a .masters)) (now (a .bound)) (now (a .spacing)) (now (a .jitter)) 3 0 (taken-other (answer-taken (now (a .s)) (g .0) (x .1)) (a .room) (λ k. c .if1 .taken (c .before .bus-of .ensures ∙ k)))
 
 returns-2 : tie.Need-returns-2
 returns-2 c =
     let a = c .before .before .before .before .before .before .before .before .before .before .args in
     let g = c .before .before .before .before .before .before .read-gathering .ensures in
     let x = c .before .before .before .before .read2 .given in
-    returned-refused (now (a .s)) (a .room) (now (a .masters)) (now (a .bound)) (now (a .spacing)) 13 (x .0 .1 .0)
+    returned-refused (now (a .s)) (a .room) (now (a .masters)) (now (a .bound)) (now (a .spacing)) (now (a .jitter)) 13 (x .0 .1 .0)
     (taken-short (answer-taken (now (a .s)) (g .0) (x .1)) (a .room) (sym (c .before .before .bus-of .ensures) ∙ c .before .if1 .left) (c .if2 .taken))
 
 cast-bounds-of : tie.Need-cast-bounds-of
@@ -40,17 +40,17 @@ cast-bounds-of c = search needs
 
 bounds-of-requires : tie.Need-bounds-of-requires
 bounds-of-requires c κs =
-    let g = c .before .before .before .before .before .before .before .before .before .before .before .before .read-gathering .ensures in
-    let x = c .before .before .before .before .before .before .before .before .before .before .read2 .given in
-    let s = c .before .before .before .before .before .before .before .before .before .before .before .before .before .before .before .before .args .s in
+    let g = c .before .before .before .before .before .before .before .before .before .before .before .before .before .read-gathering .ensures in
+    let x = c .before .before .before .before .before .before .before .before .before .before .before .read2 .given in
+    let s = c .before .before .before .before .before .before .before .before .before .before .before .before .before .before .before .before .before .args .s in
     let t = answer-taken (now s) (g .0) (x .1) in
-    (sheeted t (sym (c .before .before .before .before .before .before .before .before .bus-of .ensures) ∙ c .before .before .before .before .before .before .before .if1 .left) (replicate 33 0) (replicate 33 0) (g .1 .0) (g .1 .1), c .before .before .before .before .before .before .if2 .left)
+    (sheeted t (sym (c .before .before .before .before .before .before .before .before .before .bus-of .ensures) ∙ c .before .before .before .before .before .before .before .before .if1 .left) (replicate 33 0) (replicate 33 0) (g .1 .0) (g .1 .1), c .before .before .before .before .before .before .before .if2 .left)
 
 returns-3 : tie.Need-returns-3
 returns-3 c =
     let a = c .before .before .before .before .before .before .before .args in
     let x = c .before .read .given in
-    returned-refused (now (a .s)) (a .room) (now (a .masters)) (now (a .bound)) (now (a .spacing)) (x .0 .0) (x .0 .1 .0)
+    returned-refused (now (a .s)) (a .room) (now (a .masters)) (now (a .bound)) (now (a .spacing)) (now (a .jitter)) (x .0 .0) (x .0 .1 .0)
     (answer-refused (now (a .s)) (c .before .before .before .read-gathering .ensures .0) (x .1) (a .room))
 
 returns-4 : tie.Need-returns-4

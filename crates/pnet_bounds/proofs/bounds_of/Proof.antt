@@ -22,26 +22,27 @@ returns c =
     let start = c .before .before .before .before in
     let a = start .args in
     let l = c .before .first-late in
-    returned-late (start .pre .0) (a .room) (start .pre .1) (l .result) (l .ensures) (c .if1 .taken) (now (a .masters)) (now (a .bound)) (now (a .spacing))
+    returned-late (start .pre .0) (a .room) (start .pre .1) (l .result) (l .ensures) (c .if1 .taken) (now (a .masters)) (now (a .bound)) (now (a .spacing)) (now (a .jitter))
 
 by-stream-requires : tie.Need-by-stream-requires
 by-stream-requires c κs =
-    let h = c .before .before .before .before .before .before .before .pre .0 in
-    let v = c .before .before .before .before .before .turn-of in
+    let h = c .before .before .before .before .before .before .before .before .pre .0 in
+    let v = c .before .before .before .before .before .before .turn-of in
     let few = streams-few (h .ready) in
-    let long = c .before .before .by-stream-arg .given .0 .1 in
-    let long-2 = c .before .by-stream-arg2 .given .0 .1 in
-    let long-3 = c .by-stream-arg3 .given .0 .1 in
-    ((h .ready, omega (arith, few, long), omega (arith, few, long-2), omega (arith, few, long-3)), (turn-is h (v .result) (v .ensures), counts-at h))
+    let long = c .before .before .before .by-stream-arg .given .0 .1 in
+    let long-2 = c .before .before .by-stream-arg2 .given .0 .1 in
+    let long-3 = c .before .by-stream-arg3 .given .0 .1 in
+    let long-4 = c .by-stream-arg4 .given .0 .1 in
+    ((h .ready, omega (arith, few, long), omega (arith, few, long-2), omega (arith, few, long-3), omega (arith, few, long-4)), (turn-is h (v .result) (v .ensures), counts-at h))
 
 returns-2 : tie.Need-returns-2
 returns-2 c =
-    let start = c .before .before .before .before .before .before .before .before in
+    let start = c .before .before .before .before .before .before .before .before .before in
     let a = start .args in
-    let l = c .before .before .before .before .before .first-late in
-    let over : a .n < l .result = omega (arith, c .before .before .before .before .if1 .left) in
-    returned-accepted (start .pre .0) (a .room) (start .pre .1) (l .result) (l .ensures) over (now (a .masters)) (now (a .bound)) (now (a .spacing)) _ _ _
-    (c .by-stream .ensures .0) (c .by-stream .ensures .1 .0) (c .by-stream .ensures .1 .1)
+    let l = c .before .before .before .before .before .before .first-late in
+    let over : a .n < l .result = omega (arith, c .before .before .before .before .before .if1 .left) in
+    returned-accepted (start .pre .0) (a .room) (start .pre .1) (l .result) (l .ensures) over (now (a .masters)) (now (a .bound)) (now (a .spacing)) (now (a .jitter)) _ _ _ _
+    (c .by-stream .ensures .0) (c .by-stream .ensures .1 .0) (c .by-stream .ensures .1 .1 .0) (c .by-stream .ensures .1 .1 .1)
 
 pub bounds-of-spec : {M : Type 1} → statement M
 bounds-of-spec =

@@ -26,23 +26,23 @@ refuse-sheet-requires c κs = search needs
 returns : tie.Need-returns
 unfolding none
 returns c =
-    let a = c .before .before .before .before .before .before .before .before .before .before .before .before .before .before .before .before .before .before .args in
+    let a = c .before .before .before .before .before .before .before .before .before .before .before .before .before .before .before .before .before .before .before .before .before .args in
     let b = c .before .before .before .before .bounds .ensures in
     let x = c .before .before .streams .given in
     let f = begun-on (now (a .s)) (now (a .out)) _ _ _ (sym (b .0) ∙ x .1) (c .start .ensures) in (
-      (f .0, f .1, b .1 .0, b .1 .1 .0, b .1 .1 .1, refl, refl, refl, refl, refl, refl),
-      begins (now (a .s)) _ (now (a .out)) _ _ _ _ _ (f .0) (f .1) (b .1 .0) (b .1 .1 .0) (b .1 .1 .1) refl,
+      (f .0, f .1, b .1 .0, b .1 .1 .0, b .1 .1 .1 .0, b .1 .1 .1 .1, refl, refl, refl, refl, refl, refl, refl),
+      begins (now (a .s)) _ (now (a .out)) _ _ _ _ _ _ (f .0) (f .1) (b .1 .0) (b .1 .1 .0) (b .1 .1 .1 .0) (b .1 .1 .1 .1) refl,
     )
 
 returns-2 : tie.Need-returns-2
 unfolding none
 returns-2 c =
-    let a = c .before .before .before .before .before .before .before .before .before .before .before .before .before .before .before .before .before .before .before .args in
+    let a = c .before .before .before .before .before .before .before .before .before .before .before .before .before .before .before .before .before .before .before .before .before .before .args in
     let b = c .before .before .before .before .before .bounds .ensures in
     let x = c .before .before .before .no .given in
     let f = begun-refused (now (a .s)) (now (a .out)) _ _ _ _ (sym (b .0) ∙ x .1) (c .refuse-sheet .ensures .0) (c .refuse-sheet .ensures .1) in (
-      (f .0, f .1, b .1 .0, b .1 .1 .0, b .1 .1 .1, refl, refl, refl, refl, refl, refl),
-      begins (now (a .s)) _ (now (a .out)) _ _ _ _ _ (f .0) (f .1) (b .1 .0) (b .1 .1 .0) (b .1 .1 .1) refl,
+      (f .0, f .1, b .1 .0, b .1 .1 .0, b .1 .1 .1 .0, b .1 .1 .1 .1, refl, refl, refl, refl, refl, refl, refl),
+      begins (now (a .s)) _ (now (a .out)) _ _ _ _ _ _ (f .0) (f .1) (b .1 .0) (b .1 .1 .0) (b .1 .1 .1 .0) (b .1 .1 .1 .1) refl,
     )
 
 pub begin-spec : {M : Type 1} → statement M
