@@ -232,7 +232,8 @@ def pnet_jitter_counts(rng):
     c, other = rng.randint(1, 1548), rng.randint(1, 1548)
     turn = 47 + c + 47 + other
     w = own * turn - (own - count) * (37 + other)
-    t = rng.randint(-(-(w + turn) // count), w // (count - 1) if count > 1 else 3 * w)
+    least = -(-(w + turn) // count)
+    t = rng.randint(least, max(least, w // (count - 1) if count > 1 else 3 * w))
     j = count * t - w - turn + rng.choice([-1, 0, 0, 1])
     streams = [[1, c, BILLION, own * turn] for _ in range(own)]
     streams.append([2, other, t, turn, min(max(0, j), t - turn)])
