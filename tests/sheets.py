@@ -234,7 +234,7 @@ def pnet_jitter_counts(rng):
     w = own * turn - (own - count) * (37 + other)
     least = -(-(w + turn) // count)
     t = rng.randint(least, max(least, w // (count - 1) if count > 1 else 3 * w))
-    j = count * t - w - turn + rng.choice([-1, 0, 0, 1])
+    j = count * t - w - turn + rng.choice([-1, 0, 1, 1, 1])
     streams = [[1, c, BILLION, own * turn] for _ in range(own)]
     streams.append([2, other, t, turn, min(max(0, j), t - turn)])
     rng.shuffle(streams)
