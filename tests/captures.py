@@ -208,7 +208,7 @@ def noise(rng):
 
 
 FAMILIES = [
-    good, kept, damaged, kept, asked_only, damaged, any_sheet, silent_for_long, damaged, beside_a_text, noise, closely_asked,
+    good, kept, damaged, kept, asked_only, damaged, beside_a_text, any_sheet, silent_for_long, damaged, beside_a_text, noise, closely_asked,
 ]
 
 
