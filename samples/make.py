@@ -451,7 +451,7 @@ CAPTURES = [
         "stream 2 M01 bound 1000 bp 13020834 ns largest 0 bp 0 ns 0 answers 0 above 0 open\n"
         "stream 3 M02 bound 500 bp 6510417 ns largest 597 bp 7773438 ns 2 answers 1 above 0 open\n"
         "answers above the bound in 1 streams, first stream 3\n"
-        "requests sooner than T after the one before 1 times, first stream 3\n",
+        "requests sooner than their spacing allows 1 times, first stream 3\n",
     ),
     (
         "capture-jitter-within",
@@ -501,7 +501,7 @@ CAPTURES = [
         "stream 4 M02 bound 1482 bp 19296875 ns largest 0 bp 0 ns 0 answers 0 above 0 open\n"
         "stream 5 M02 bound 1482 bp 19296875 ns largest 0 bp 0 ns 0 answers 0 above 0 open\n"
         "stream 6 M03 bound 741 bp 9648438 ns largest 628 bp 8177084 ns 4 answers 0 above 0 open\n"
-        "requests sooner than T after the one before 1 times, first stream 6\n",
+        "requests sooner than their spacing allows 1 times, first stream 6\n",
     ),
     (
         "capture-not-in-order",

@@ -39,12 +39,12 @@ OF_CAPTURES = [
     "every answer within its bound",
     "answers above the bound",
     "requests open beyond the bound",
-    "requests sooner than T",
+    "requests sooner than their spacing allows",
     "records not in order",
     "no answer in the whole capture",
 ] + [
     "capture refused %d" % number for number in (1, 2, 14, 15, 16)
-] + ["refused 23", "every answer within its bound, by J", "requests sooner than T, by J"]
+] + ["refused 23", "every answer within its bound, by J", "requests sooner than their spacing allows, by J"]
 OF_PATHS = ["accepted, P-NET path", "sheet of a path refused", "text of a path refused 23"] + [
     "path refused %d" % number for number in (4, 17, 18, 19)
 ]
@@ -253,7 +253,7 @@ def compare_all(compare, tasks, count, outcomes, jobs, what):
                 if differing <= 5:
                     print(difference + "\n")
     for one in outcomes:
-        print("%-38s %6d" % (one, met[one]))
+        print("%-48s %6d" % (one, met[one]))
     print("compared %d %s, %d differ" % (sum(met.values()), what, differing))
     rare = [one for one in outcomes if met[one] < LEAST_OF_EACH]
     if count >= COUNT_THAT_MEETS_ALL and rare:

@@ -710,7 +710,7 @@ def capture_findings(data, capture, shown):
         late = [n for n, one in enumerate(shown, start=1) if one.left and times[-1][2] - asked[n] > one.bound]
         found += in_streams("requests open beyond the bound", late)
         if early:
-            found.append("requests sooner than T after the one before %d times, first stream %d" % (len(early), early[0]))
+            found.append("requests sooner than their spacing allows %d times, first stream %d" % (len(early), early[0]))
     if not any(one.answers for one in shown):
         found.append("no answer in the whole capture")
     return found

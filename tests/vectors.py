@@ -602,12 +602,12 @@ PROSE = [
      "stream 1 M01 bound 500 bp 6510417 ns largest 0 bp 0 ns 0 answers 0 above 1 open\n"
      "stream 2 M01 bound 500 bp 6510417 ns largest 2 bp 26042 ns 1 answers 0 above 1 open\n"
      "requests open beyond the bound in 1 streams, first stream 1\n"
-     "requests sooner than T after the one before 1 times, first stream 2\n"),
+     "requests sooner than their spacing allows 1 times, first stream 2\n"),
     ("requests T - J apart: the second is in time, the third too soon, and what follows goes by that one",
      lambda: opinion.capture_report(sheet((1, 1), JITTER), asked_at(0, 700, 1_400, 2_100, 2_800)),
      "P-NET capture\n"
      "stream 1 M01 bound 250 bp 3255209 ns largest 9 bp 117188 ns 5 answers 0 above 0 open\n"
-     "requests sooner than T after the one before 2 times, first stream 1\n"),
+     "requests sooner than their spacing allows 2 times, first stream 1\n"),
     *[
         ("requests of T 1000, J 300 at %s" % (stamps,),
          lambda stamps=stamps: soon(sheet((1, 1), JITTER), asked_at(*stamps)), str(times))
