@@ -90,6 +90,32 @@ static void pnet_chain(uint32_t masters, uint32_t busy, uint32_t own, uint32_t s
     }
 }
 
+static uint32_t be32(const uint8_t *p)
+{
+    return (uint32_t)p[0] << 24 | (uint32_t)p[1] << 16 | (uint32_t)p[2] << 8 | p[3];
+}
+
+/* The P-NET sheet at hand with every stream of kind 7, up to J late. Each T is longer by J, so that a search goes on as it did; where it is the
+   greatest already, D is what J leaves of it. */
+static void with_jitter(uint32_t jitter)
+{
+    static uint8_t from[sizeof sheet];
+    size_t end = length;
+
+    memcpy(from, sheet, end);
+    length = 2;
+    for (size_t at = 2; at < end; at += 12) {
+        uint32_t spacing = be32(from + at + 4), deadline = be32(from + at + 8);
+
+        if (spacing + jitter <= 1000000000)
+            spacing += jitter;
+        else if (deadline > spacing - jitter)
+            deadline = spacing - jitter;
+        put(7, 1), put(from[at + 1], 1), put(from[at + 2], 1), put(from[at + 3], 1);
+        put(spacing, 4), put(deadline, 4), put(jitter, 4);
+    }
+}
+
 static void profibus_sheet(uint32_t masters, uint32_t streams)
 {
     length = 0;
@@ -349,17 +375,30 @@ static void line(const char *name, int (*proved)(void), int (*plain)(void))
     printf(" %s\n", refusal ? "(refused)" : "");
 }
 
-/* a P-NET sheet by its streams, its masters and the greatest round count */
+/* a P-NET sheet by its streams, its masters and the greatest round count; J for one whose streams have it */
 static void pnet_line(void)
 {
     char name[64];
-    uint32_t most = 0;
+    uint32_t most = 0, late = sheet[2] == 7;
 
     their_pnet();
     for (uint32_t k = 0; k < sheet[1]; k++)
         most = theirs[2][k] > most ? theirs[2][k] : most;
-    snprintf(name, sizeof name, "P-NET, %u streams, %u masters, rounds %u", (uint32_t)(length - 2) / 12, sheet[1], most);
+    snprintf(name, sizeof name, "P-NET%s, %u streams, %u masters, rounds %u", late ? " J" : "", (uint32_t)(length - 2) / (late ? 16 : 12), sheet[1], most);
     line(name, our_pnet, their_pnet);
+}
+
+/* its text, written and read */
+static void text_lines(void)
+{
+    char name[64];
+    uint32_t late = sheet[2] == 7, streams = (uint32_t)(length - 2) / (late ? 16 : 12);
+
+    text_of_sheet();
+    snprintf(name, sizeof name, "P-NET%s, %u streams, written as %u bytes", late ? " J" : "", streams, (uint32_t)written);
+    line(name, our_text, their_text);
+    snprintf(name, sizeof name, "P-NET%s, %u streams, read from %u bytes", late ? " J" : "", streams, (uint32_t)written);
+    line(name, our_sheet, their_sheet);
 }
 
 int main(void)
@@ -369,11 +408,13 @@ int main(void)
     pnet_sheet(4, 10, 100000), pnet_line();
     for (uint32_t streams = 100; streams <= 800; streams *= 2)
         pnet_sheet(20, streams, 1000000), pnet_line();
+    with_jitter(500000), pnet_line(); /* the last of these */
     pnet_sheet(32, 800, 1000000), pnet_line();
     pnet_chain(4, 1, 4, 10, 6), pnet_line();
     pnet_chain(32, 1, 30, 100, 70), pnet_line();
     pnet_chain(32, 8, 80, 800, 160), pnet_line();
     pnet_chain(32, 3, 80, 800, 560), pnet_line();
+    with_jitter(500000), pnet_line();
     pnet_chain(15, 5, 80, 800, 400), pnet_line();
     for (uint32_t streams = 100; streams <= 800; streams *= 2)
         pnet_chain(32, 1, streams < 200 ? 40 : 80, streams, 60), pnet_line();
@@ -395,16 +436,9 @@ int main(void)
     line("WorldFIP, 64 variables, 4096 rows, 100 slots", our_worldfip, their_worldfip);
 
     printf("\n%-44s %15s %15s %8s\n", "text", "proved", "plain C", "ratio");
-    for (uint32_t streams = 3; streams <= 800; streams += 797) {
-        char name[64];
-
-        pnet_sheet(streams < 800 ? 2 : 20, streams, 100000);
-        text_of_sheet();
-        snprintf(name, sizeof name, "P-NET, %u streams, written as %u bytes", streams, (uint32_t)written);
-        line(name, our_text, their_text);
-        snprintf(name, sizeof name, "P-NET, %u streams, read from %u bytes", streams, (uint32_t)written);
-        line(name, our_sheet, their_sheet);
-    }
+    pnet_sheet(2, 3, 100000), text_lines();
+    pnet_sheet(20, 800, 100000), text_lines();
+    with_jitter(50000), text_lines();
 
     printf("\n%-44s %15s %15s %8s %21s\n", "capture", "proved", "plain C", "ratio", "ns a record");
     pnet_sheet(2, 3, 100000);
@@ -426,6 +460,8 @@ int main(void)
     printf("\n%s\n", "cut and changed at each byte: numbers, places and results");
     pnet_sheet(10, 100, 100000);
     spoiled("P-NET, 100 streams, 10 masters", sheet, &length, our_pnet, their_pnet);
+    with_jitter(50000);
+    spoiled("P-NET J, 100 streams, 10 masters", sheet, &length, our_pnet, their_pnet);
     profibus_sheet(10, 100);
     spoiled("PROFIBUS, 10 masters, 100 streams", sheet, &length, our_profibus, their_profibus);
     worldfip_sheet(16, 256, 8);
@@ -436,9 +472,14 @@ int main(void)
     spoiled("a capture of 300 records", capture, &captured, our_capture, their_capture);
     pnet_sheet(10, 100, 100000);
     spoiled("a sheet written as text", sheet, &length, our_text, their_text);
+    with_jitter(50000);
+    spoiled("a sheet with J written as text", sheet, &length, our_text, their_text);
     pnet_sheet(4, 10, 100000);
     text_of_sheet();
     spoiled("a text of 11 lines", text, &written, our_sheet, their_sheet);
+    with_jitter(50000);
+    text_of_sheet();
+    spoiled("a text of 11 lines with J", text, &written, our_sheet, their_sheet);
     worldfip_sheet(16, 256, 8);
     text_of_sheet();
     spoiled("a text of 17 lines", text, &written, our_sheet, their_sheet);

@@ -24,6 +24,7 @@ NAMES = {
     4: "PROFIBUS stream",
     5: "WorldFIP",
     6: "WorldFIP variable",
+    7: "P-NET stream with jitter",
 }
 # each field's bytes, name and unit
 FIELDS = {
@@ -39,12 +40,14 @@ FIELDS = {
     5: [(4, "one buffer exchange E", " us")],
     6: [(2, "identifier", ""), (4, "period", " us")],
 }
+FIELDS[7] = FIELDS[2] + [(4, "release jitter J", " bp")]
 
 FOUR_MASTERS = [(1, 4)] + [(2, y, 203, 100_000, 2_000) for y in (1, 1, 2, 2, 3, 3, 4, 4)]
 LATE_THIRD = (2, 2, 203, 100_000, 1_999)
 
 # Source 004's plant: 5 ms are 384 bp, so its spacings are whole numbers of bp
 MS_100, MS_200, MS_300, MS_500 = 7_680, 15_360, 23_040, 38_400
+MS_20, MS_80 = 1_536, 6_144
 
 
 def plant_streams(master, *spacings):
@@ -122,6 +125,31 @@ SAMPLES = [
         "P-NET segment\n"
         "M01 bound 620 bp 8072917 ns refined 620 bp 8072917 ns 1 rounds\n"
         "M03 bound 1240 bp 16145834 ns refined 1000 bp 13020834 ns 1 rounds\n",
+    ),
+    (
+        "pnet-release-jitter",
+        "Accepted. Stream 6, of master 3, is sporadic: a request is due every 100 ms at most\n"
+        "(7,680 bp) and comes up to 80 ms late (J, 6,144 bp), so two may come 20 ms apart. Its\n"
+        "deadline of 20 ms, 1,536 bp, is all that J leaves of T. A J is to be rounded up.\n"
+        "\n"
+        "J changes no bound, but the refined figures of the others. A request of master 3 may\n"
+        "have waited for 741 bp, its bound, and have come J late: 1,462 + 741 + 6,144 bp are more\n"
+        "than T, so two of its requests count while three of master 1 are served, and also while\n"
+        "two of master 2 are. With J = 0 one would, and the refined figures be 1,462 and 1,195 bp.",
+        [
+            (1, 3),
+            (2, 1, 200, MS_100, MS_100),
+            (2, 1, 200, MS_200, MS_200),
+            (2, 1, 200, MS_200, MS_200),
+            (2, 2, 150, MS_500, MS_500),
+            (2, 2, 150, MS_500, MS_500),
+            (7, 3, 250, MS_100, MS_20, MS_80),
+        ],
+        0,
+        "P-NET segment\n"
+        "M01 bound 2223 bp 28945313 ns refined 1749 bp 22773438 ns 2 rounds\n"
+        "M02 bound 1482 bp 19296875 ns refined 1482 bp 19296875 ns 2 rounds\n"
+        "M03 bound 741 bp 9648438 ns refined 741 bp 9648438 ns 1 rounds\n",
     ),
     (
         "profibus-ring",
@@ -423,7 +451,57 @@ CAPTURES = [
         "stream 2 M01 bound 1000 bp 13020834 ns largest 0 bp 0 ns 0 answers 0 above 0 open\n"
         "stream 3 M02 bound 500 bp 6510417 ns largest 597 bp 7773438 ns 2 answers 1 above 0 open\n"
         "answers above the bound in 1 streams, first stream 3\n"
-        "requests sooner than T after the one before 1 times, first stream 3\n",
+        "requests sooner than their spacing allows 1 times, first stream 3\n",
+    ),
+    (
+        "capture-jitter-within",
+        "pnet-release-jitter",
+        "Every answer within its bound, and no request too soon. The second of stream 6 comes\n"
+        "1,536 bp after the first, T - J: the first may have been due at 3,856 bp and have come J\n"
+        "late, and the others at 11,536 and 19,216 bp, T later each, just when they came.",
+        [
+            (16, 6, 10_000),
+            (17, 6, 10_600),
+            (16, 6, 11_536),
+            (16, 1, 11_700),
+            (17, 6, 11_900),
+            (17, 1, 12_300),
+            (16, 6, 19_216),
+            (17, 6, 19_900),
+        ],
+        "P-NET capture\n"
+        "stream 1 M01 bound 2223 bp 28945313 ns largest 600 bp 7812500 ns 1 answers 0 above 0 open\n"
+        "stream 2 M01 bound 2223 bp 28945313 ns largest 0 bp 0 ns 0 answers 0 above 0 open\n"
+        "stream 3 M01 bound 2223 bp 28945313 ns largest 0 bp 0 ns 0 answers 0 above 0 open\n"
+        "stream 4 M02 bound 1482 bp 19296875 ns largest 0 bp 0 ns 0 answers 0 above 0 open\n"
+        "stream 5 M02 bound 1482 bp 19296875 ns largest 0 bp 0 ns 0 answers 0 above 0 open\n"
+        "stream 6 M03 bound 741 bp 9648438 ns largest 684 bp 8906250 ns 3 answers 0 above 0 open\n"
+        "every answer within its bound\n",
+    ),
+    (
+        "capture-jitter-too-soon",
+        "pnet-release-jitter",
+        "Requests of stream 6, each 1,536 bp after the one before, T - J. Two may come so, as in\n"
+        "capture-jitter-within, but no third: the first was due at 3,856 bp at the earliest, so the\n"
+        "third is due at 19,216 bp or later, and it comes at 13,072 bp. The fourth goes by that one.",
+        [
+            (16, 6, 10_000),
+            (17, 6, 10_600),
+            (16, 6, 11_536),
+            (17, 6, 11_900),
+            (16, 6, 13_072),
+            (17, 6, 13_700),
+            (16, 6, 14_608),
+            (17, 6, 15_000),
+        ],
+        "P-NET capture\n"
+        "stream 1 M01 bound 2223 bp 28945313 ns largest 0 bp 0 ns 0 answers 0 above 0 open\n"
+        "stream 2 M01 bound 2223 bp 28945313 ns largest 0 bp 0 ns 0 answers 0 above 0 open\n"
+        "stream 3 M01 bound 2223 bp 28945313 ns largest 0 bp 0 ns 0 answers 0 above 0 open\n"
+        "stream 4 M02 bound 1482 bp 19296875 ns largest 0 bp 0 ns 0 answers 0 above 0 open\n"
+        "stream 5 M02 bound 1482 bp 19296875 ns largest 0 bp 0 ns 0 answers 0 above 0 open\n"
+        "stream 6 M03 bound 741 bp 9648438 ns largest 628 bp 8177084 ns 4 answers 0 above 0 open\n"
+        "requests sooner than their spacing allows 1 times, first stream 6\n",
     ),
     (
         "capture-not-in-order",
@@ -559,11 +637,12 @@ def record(kind, *numbers):
 def record_lines(records, cut):
     lines = []
     place = 0
-    for kind, *numbers in records:
+    for index, (kind, *numbers) in enumerate(records):
         length = len(record(kind, *numbers))
         line = "byte %d: %s" % (place, NAMES[kind])
-        if kind % 2 == 0:
-            line += " %d" % ((place - len(record(*records[0]))) // length + 1)
+        # streams and variables are numbered
+        if index > 0:
+            line += " %d" % index
         if place + length > sum(len(record(*r)) for r in records) - cut:
             line += ", cut after %d of %d bytes" % (length - cut, length)
         else:

@@ -52,17 +52,20 @@ def good_events(rng, bounds, count):
 
 
 def spacings_of(data):
-    return [stream[2] for stream in second_opinion.read(data).streams]
+    """Each stream's T and J."""
+    return [(t, j) for _, _, t, _, j in second_opinion.read(data).streams]
 
 
 def kept_events(rng, data, count):
-    """About so many events in order of time, most of them as the sheet has it: answers within the bound, requests at least T apart."""
+    """About so many events in order of time, most of them as the sheet has it: answers within the bound, each request up to J after a time of its own, and
+    these times at least T apart."""
     made = []
     fault = rng.choice([None, None, "late", "soon", "both"])
     start = rng.choice([0, COUNTER - rng.randint(1, 5_000), rng.randrange(COUNTER)])
     bounds, spacings = bounds_of(data), spacings_of(data)
-    for i, (bound, spacing) in enumerate(zip(bounds, spacings), start=1):
-        now = start + rng.randint(0, spacing)
+    for i, (bound, (spacing, jitter)) in enumerate(zip(bounds, spacings), start=1):
+        due = start + rng.randint(0, spacing)
+        now = due + rng.choice([0, jitter, rng.randint(0, jitter)])
         for _ in range(max(1, count // (2 * len(bounds)))):
             made.append((now, i, REQUEST))
             took = rng.randint(0, bound) if rng.random() < 0.9 else bound
@@ -72,10 +75,12 @@ def kept_events(rng, data, count):
             if rng.random() < 0.03:
                 break
             made.append((answered, i, ANSWER))
-            gap = spacing + rng.choice([0, 1, rng.randint(0, spacing)])
+            # a late answer holds the next request up
+            due = max(due, now - jitter) + spacing + rng.choice([0, 0, 1, rng.randint(0, spacing)])
+            asked = due + rng.choice([0, 0, jitter, rng.randint(0, jitter)])
             if fault in ("soon", "both") and rng.random() < 0.1:
-                gap = spacing - rng.choice([1, 2, spacing // 2])
-            now = max(answered, now + gap)
+                asked = due - rng.choice([1, 2, spacing // 2])
+            now = max(answered, asked)
     return [event(kind, stream, stamp) for stamp, stream, kind in sorted(made, key=lambda one: one[0])]
 
 
@@ -108,12 +113,30 @@ def silent_for_long(rng):
     return data, b"".join(first + second)
 
 
+def closely_asked(rng):
+    """Requests about T - J apart, each answered at once: whether one is too soon goes by those before it."""
+    t = rng.choice([1_000, 5_000, 900_000, sheets.BILLION])
+    j = rng.choice([0, 1, t // 10, t // 2, t - 250])
+    data = sheets.pnet_sheet(1, [(1, 203, t, t - j, j)])
+    now, label = rng.randrange(COUNTER), None
+    made = []
+    for _ in range(rng.randint(2, 30)):
+        # as soon as it can come, then a bp or more beside that
+        if label is not None:
+            now = max(now + 9, label + t - j + rng.choice([0, 0, 0, -1, 1, j, j // 2, rng.randint(0, t)]))
+        label = now if label is None or label + t - now > j else max(now, label + t)
+        made += [event(REQUEST, 1, now), event(ANSWER, 1, now + 9)]
+    return data, b"".join(made)
+
+
 def small_sheet(rng):
+    """Streams of kind 2, and in half of the sheets some of kind 7."""
     masters = rng.randint(1, 6)
-    streams = [
-        (rng.randint(1, masters), rng.randint(1, 300), 900_000, rng.randint(500_000, 900_000))
-        for _ in range(rng.randint(1, 12))
-    ]
+    share = rng.choice([0, 0, 0.3, 1])
+    streams = []
+    for _ in range(rng.randint(1, 12)):
+        stream = [rng.randint(1, masters), rng.randint(1, 300), 900_000, rng.randint(500_000, 900_000)]
+        streams.append(sheets.with_jitter(rng, stream) if rng.random() < share else stream)
     return sheets.pnet_sheet(masters, streams)
 
 
@@ -184,7 +207,9 @@ def noise(rng):
     return small_sheet(rng), rng.randbytes(rng.randint(0, 40))
 
 
-FAMILIES = [good, kept, damaged, kept, asked_only, damaged, any_sheet, silent_for_long, damaged, beside_a_text, noise]
+FAMILIES = [
+    good, kept, damaged, kept, asked_only, damaged, beside_a_text, any_sheet, silent_for_long, damaged, beside_a_text, noise, closely_asked,
+]
 
 
 # ---------------------------------------------------------------- edges
@@ -200,6 +225,15 @@ def edges(rng):
     asked = event(REQUEST, 1, COUNTER - 500) + event(ANSWER, 1, COUNTER - 400)
     for later in (499, 500, 501):
         yield "asked again at %d" % later, one, asked + event(REQUEST, 1, later) + event(ANSWER, 1, later + 9)
+    # J is 300 bp, and the second request comes 700 bp after the first, as soon as it can: then how soon the third, and the fourth
+    jitter = sheets.pnet_sheet(1, [(1, 203, 1_000, 700, 300)])
+    for second in (COUNTER + 199, COUNTER + 200, COUNTER + 500, COUNTER + 800, COUNTER + 801):
+        again = asked + event(REQUEST, 1, second) + event(ANSWER, 1, second + 9)
+        yield "J 300, asked again at %d" % second, jitter, again
+        for third in (second + 699, second + 700, second + 701, COUNTER + 1_199, COUNTER + 1_200, COUNTER + 1_201):
+            more = again + event(REQUEST, 1, third) + event(ANSWER, 1, third + 9)
+            yield "J 300, asked again at %d and %d" % (second, third), jitter, more
+            yield "J 300, asked again at %d, %d and 700 bp later" % (second, third), jitter, more + event(REQUEST, 1, third + 700)
     two = sheets.pnet_sheet(1, [(1, 203, 1_000, 1_000)] * 2)
     for later in (498, 499, 500, 501, 502):
         yield "open until %d" % later, two, event(REQUEST, 1, 0) + event(REQUEST, 2, later) + event(ANSWER, 2, later)

@@ -34,17 +34,17 @@ LEAST_OF_EACH = 10
 ACCEPTED = ["P-NET segment", "PROFIBUS ring", "WorldFIP table", "P-NET path"]
 OF_SHEETS = ["accepted, " + head for head in ACCEPTED[:3]] + [
     "refused %d" % number for number in range(1, 13)
-]
+] + ["accepted, P-NET segment, by J"]
 OF_CAPTURES = [
     "every answer within its bound",
     "answers above the bound",
     "requests open beyond the bound",
-    "requests sooner than T",
+    "requests sooner than their spacing allows",
     "records not in order",
     "no answer in the whole capture",
 ] + [
     "capture refused %d" % number for number in (1, 2, 14, 15, 16)
-] + ["refused 23"]
+] + ["refused 23", "every answer within its bound, by J", "requests sooner than their spacing allows, by J"]
 OF_PATHS = ["accepted, P-NET path", "sheet of a path refused", "text of a path refused 23"] + [
     "path refused %d" % number for number in (4, 17, 18, 19)
 ]
@@ -113,9 +113,19 @@ def compare_one(task):
     return outcome(expected), difference_of(words, name, given, data, expected, status)
 
 
+def without_jitter(data):
+    """The same sheet with each stream of kind 2."""
+    records = second_opinion.read(data).records
+    return b"".join(second_opinion.record_of(2, fields[:4]) if kind == 7 else second_opinion.record_of(kind, fields) for kind, fields in records)
+
+
 def compare_sheet(task):
     program, name, data = task
-    return compare_one((program, "sheet: " + name, data, data, second_opinion.report(data)))
+    expected = second_opinion.report(data)
+    one, difference = compare_one((program, "sheet: " + name, data, data, expected))
+    if one == "accepted, P-NET segment" and second_opinion.report(without_jitter(data)) != expected:
+        one += ", by J"
+    return one, difference
 
 
 def compare_pair(task):
@@ -132,7 +142,10 @@ def compare_pair(task):
             names[way] = "-"
         given = (data, capture, b"")[way]
         label = "sheet %s beside capture: %s" % (shortened(data.hex(), 400), name)
-        return compare_one((program + names, label, capture, given, expected))
+        one, difference = compare_one((program + names, label, capture, given, expected))
+        if one + ", by J" in OF_CAPTURES and second_opinion.capture_report(without_jitter(second_opinion.sheet_given(data)), capture) != expected:
+            one += ", by J"
+        return one, difference
 
 
 def compare_path(task):
@@ -240,7 +253,7 @@ def compare_all(compare, tasks, count, outcomes, jobs, what):
                 if differing <= 5:
                     print(difference + "\n")
     for one in outcomes:
-        print("%-38s %6d" % (one, met[one]))
+        print("%-48s %6d" % (one, met[one]))
     print("compared %d %s, %d differ" % (sum(met.values()), what, differing))
     rare = [one for one in outcomes if met[one] < LEAST_OF_EACH]
     if count >= COUNT_THAT_MEETS_ALL and rare:

@@ -19,9 +19,10 @@ def small_segment(rng):
     """A sheet that is accepted, and one of its senders."""
     masters = rng.randint(1, 6)
     streams = [
-        (rng.randint(1, masters), rng.randint(1, 300), 900_000, rng.randint(500_000, 900_000))
+        [rng.randint(1, masters), rng.randint(1, 300), 900_000, rng.randint(500_000, 900_000)]
         for _ in range(rng.randint(1, 12))
     ]
+    streams = [sheets.with_jitter(rng, stream) if rng.random() < 0.3 else stream for stream in streams]
     return sheets.pnet_sheet(masters, streams), rng.choice(streams)[0]
 
 

@@ -30,18 +30,20 @@ GOOD = {
     4: (1, 400, 8400),
     5: (400,),
     6: (17, 1000),
+    7: (1, 203, second_opinion.BILLION, 1, 0),
 }
-# what a field's greatest value is called, where it stands in another field
+# what a field's greatest value is called, where it stands in another field, with the others as above
 NAMED = {
     "N": second_opinion.MASTERS_LIMIT,
     "n": second_opinion.MASTERS_LIMIT,
     "M": second_opinion.MESSAGE_LIMIT,
     "T": second_opinion.BILLION,
+    "T-1": second_opinion.BILLION - 1,
+    "T-J": second_opinion.BILLION,
 }
 FIRST = second_opinion.FIRST_KINDS
 PHRASES = (
     "The first record is %d, %d or %d;" % FIRST,
-    "all later ones are %d, %d or %d to match" % tuple(kind + 1 for kind in FIRST),
     "at most %d streams" % second_opinion.STREAMS_LIMIT,
     "at most %d for one master" % second_opinion.STREAMS_LIMIT_OF_MASTER,
     "at most %d variables" % second_opinion.VARIABLES_LIMIT,
@@ -65,13 +67,16 @@ PHRASES = (
 # those that a program can show: its own room is never short, so 13 is not among them
 REFUSALS = [number for number in range(1, 20) if number != 13] + [23]
 GOOD_SHEET = bytes.fromhex("0101020100cb000003e8000003e8")
+# T 1000, D 700, J 300
+JITTER_SHEET = bytes.fromhex("0101070100cb000003e8000002bc0000012c")
+LONGEST_SHEET = bytes([1, 32]) + b"".join(bytes([7, 1 + i % 32]) + JITTER_SHEET[4:] for i in range(800))
 RING_SHEET = bytes.fromhex("03010000012c000001f4" "040100000190000020d0")
 BAD_TEXT = slips.TEXT.replace(b"203 bp", b"203bp")
 # 64 variables in each of 4,096 rows: no pipe holds its report
 TABLE = bytes.fromhex("0500000001") + b"".join(
     b"\x06" + (60_000 + n).to_bytes(2, "big") + (1_000 if n else 4_096_000).to_bytes(4, "big") for n in range(64))
 KIND = re.compile(r" {3}(\d) +(\d+)  ([^:]+): (.*)")
-FIELD = re.compile(r"(.+) \((\d)\) (?:(any)|(\d+)\.\.(\w+)(?: (bp|us))?)$")
+FIELD = re.compile(r"(.+) \((\d)\) (?:(any)|(\d+)\.\.(\w+(?: ?- ?\w+)?)(?: (bp|us))?)$")
 UNTIMED = ("masters", "master", "identifier")
 
 
@@ -83,7 +88,7 @@ def run(program, words, data=b""):
 def limits(width, match):
     if match.group(3):
         return 0, 256**width - 1
-    most = match.group(5)
+    most = match.group(5).replace(" ", "")
     return int(match.group(4)), NAMED[most] if most in NAMED else int(most)
 
 
@@ -98,7 +103,7 @@ def field_trouble(kind, place, text):
     timed = match.group(1).split()[0] not in UNTIMED
     if timed != (match.group(6) is not None):
         return "%r: a time has a unit, and nothing else has" % text
-    if timed and match.group(6) != ("us" if kind > 4 else "bp"):
+    if timed and match.group(6) != ("us" if kind in (5, 6) else "bp"):
         return "%r has the wrong unit" % text
     least, most = limits(width, match)
     for value, right in ((least - 1, False), (least, True), (most, True), (most + 1, False)):
@@ -162,6 +167,9 @@ def help_troubles(text):
             if trouble:
                 yield "kind %d: %s" % (kind, trouble)
     flowing = " ".join(text.split())
+    later = re.search(r"all later ones are ([^.;]*) to match", flowing)
+    if not later or sorted(re.findall(r"\d", later.group(1))) != sorted(str(kind) for kinds in second_opinion.STREAM_KINDS.values() for kind in kinds):
+        yield "not told: which kinds stand behind the first record"
     for words in PHRASES:
         if words not in flowing:
             yield "not told: %s" % words
@@ -250,7 +258,7 @@ def exchange_troubles(program, folder, sheet, text):
             done = slips.call(program, words, given, env=AS_BUILT)
             if (done.stdout, done.stderr, done.returncode) != (made, b"", 0):
                 yield "%s: wrote %r, said %r and ended with %d" % (words, done.stdout, done.stderr, done.returncode)
-    for data in (GOOD_SHEET, TABLE, GOOD_SHEET[:2] + GOOD_SHEET[2:] * 80):
+    for data in (GOOD_SHEET, TABLE, GOOD_SHEET[:2] + GOOD_SHEET[2:] * 80, JITTER_SHEET, LONGEST_SHEET):
         name = os.path.join(folder, "any.sheet")
         with open(name, "wb") as file:
             file.write(data)
@@ -366,6 +374,14 @@ def status_troubles(program, sheet):
         for stamp, ending in ((500, 0), (501, 1)):
             capture = asked + event(16, 2, stamp) + event(17, 2, stamp)
             yield from end_troubles(program, [two.name, "-"], ending, capture)
+    # requests T - J apart: the second is in time, and the third is too soon, but T after the second it is not
+    with tempfile.NamedTemporaryFile() as jitter:
+        jitter.write(JITTER_SHEET)
+        jitter.flush()
+        yield from end_troubles(program, [jitter.name], 0)
+        for stamps, ending in (((700,), 0), ((699,), 1), ((700, 1400), 1), ((700, 1699), 1), ((700, 1700), 0)):
+            capture = asked + answered + b"".join(event(16, 1, stamp) + event(17, 1, stamp + 9) for stamp in stamps)
+            yield from end_troubles(program, [jitter.name, "-"], ending, capture)
     path = ["bp", sheet, "1", "5", "bp", sheet, "1"]
     yield from end_troubles(program, ["--path", "510"] + path, 0)
     yield from end_troubles(program, ["--path", "509"] + path, 1)

@@ -18,8 +18,9 @@ from collections import namedtuple
 
 Refusal = namedtuple("Refusal", "number place")
 
-# head: the first record's fields; streams: one tuple of fields per later record
-Sheet = namedtuple("Sheet", "kind head streams")
+# head: the first record's fields; streams: one tuple per later record, of its fields, and for P-NET always with J at the end;
+# records: kind and fields of every record as it stands
+Sheet = namedtuple("Sheet", "kind head streams records")
 
 # one number for each of the masters 1..N
 PnetPlan = namedtuple("PnetPlan", "bound refined rounds")
@@ -65,8 +66,11 @@ WIDTHS = {
     4: (1, 4, 4),
     5: (4,),
     6: (2, 4),
+    7: (1, 2, 4, 4, 4),
 }
 FIRST_KINDS = (1, 3, 5)
+# what may stand behind a first record
+STREAM_KINDS = {1: (2, 7), 3: (4,), 5: (6,)}
 # page 02, Ask 14: how the line of a record begins, and what stands behind the number of each field; kind 3 has no line
 WORDS = {
     1: "pnet-segment",
@@ -74,6 +78,7 @@ WORDS = {
     4: "profibus-stream",
     5: "worldfip-exchange",
     6: "worldfip-variable",
+    7: "pnet-jitter-stream",
 }
 UNITS = {
     1: ("",),
@@ -81,6 +86,7 @@ UNITS = {
     4: ("", " bp", " bp"),
     5: (" us",),
     6: ("", " us"),
+    7: ("", " bp", " bp", " bp", " bp"),
 }
 
 BILLION = 1_000_000_000
@@ -110,6 +116,11 @@ def record_of(kind, fields):
     return bytes([kind]) + b"".join(number.to_bytes(width, "big") for number, width in zip(fields, WIDTHS[kind]))
 
 
+def pnet_stream(kind, fields):
+    """Master, C, T, D and J: kind 2 means J = 0."""
+    return fields if kind == 7 else (*fields, 0)
+
+
 def in_range(kind, fields, masters=MASTERS_LIMIT, message=MESSAGE_LIMIT):
     """Whether the fields keep the page's ranges.
 
@@ -119,13 +130,14 @@ def in_range(kind, fields, masters=MASTERS_LIMIT, message=MESSAGE_LIMIT):
     if kind == 1:
         (n,) = fields
         return 1 <= n <= MASTERS_LIMIT
-    if kind == 2:
-        master, c, t, d = fields
+    if kind in STREAM_KINDS[1]:
+        master, c, t, d, j = pnet_stream(kind, fields)
         return (
             1 <= master <= masters
             and 1 <= c <= 1548
             and 1 <= t <= BILLION
-            and 1 <= d <= t
+            and 0 <= j <= t - 1
+            and 1 <= d <= t - j
         )
     if kind == 3:
         n, latency, longest = fields
@@ -154,6 +166,7 @@ def read(data):
     head_kind = None
     head = None
     streams = []
+    records = []
     per_master = {}
     identifiers = set()
     place = 0
@@ -164,7 +177,7 @@ def read(data):
         if head_kind is None:
             if kind not in FIRST_KINDS:
                 return Refusal(3, place)
-        elif kind != head_kind + 1:
+        elif kind not in STREAM_KINDS[head_kind]:
             return Refusal(3, place)
         end = place + 1 + body_length(kind)
         if end > len(data):
@@ -185,7 +198,7 @@ def read(data):
             identifiers.add(fields[0])
             streams.append(fields)
         else:
-            if kind == 2:
+            if head_kind == 1:
                 ranged = in_range(kind, fields, masters=head[0])
             else:
                 ranged = in_range(kind, fields, masters=head[0], message=head[2])
@@ -196,11 +209,12 @@ def read(data):
             if len(streams) == STREAMS_LIMIT or count == STREAMS_LIMIT_OF_MASTER:
                 return Refusal(5, place)
             per_master[master] = count + 1
-            streams.append(fields)
+            streams.append(pnet_stream(kind, fields) if head_kind == 1 else fields)
+        records.append((kind, fields))
         place = end
     if not streams:
         return Refusal(6, len(data))
-    return Sheet(head_kind, head, streams)
+    return Sheet(head_kind, head, streams, records)
 
 
 def read_for(data, head_kind):
@@ -252,7 +266,7 @@ def export_sheet(data, lent=None):
         return sheet
     if sheet.kind not in WORDS:
         return Refusal(2, 0)
-    text = line_of(sheet.kind, sheet.head) + b"".join(line_of(sheet.kind + 1, stream) for stream in sheet.streams)
+    text = b"".join(line_of(kind, fields) for kind, fields in sheet.records)
     if lent is not None and lent < len(text):
         return Refusal(13, len(text))
     return text
@@ -330,9 +344,9 @@ def plan_pnet(data, lent=None):
     masters = range(1, n + 1)
     cycles = {y: [] for y in masters}
     spacings = {y: [] for y in masters}
-    for master, c, t, _ in sheet.streams:
+    for master, c, t, _, j in sheet.streams:
         cycles[master].append(c)
-        spacings[master].append(t)
+        spacings[master].append((t, j))
 
     hold = {}
     for y in masters:
@@ -343,7 +357,7 @@ def plan_pnet(data, lent=None):
     turn = sum(hold.values())
     bound = {k: len(cycles[k]) * turn for k in masters}
 
-    for number, (master, _, _, d) in enumerate(sheet.streams, start=1):
+    for number, (master, _, _, d, _) in enumerate(sheet.streams, start=1):
         if bound[master] > d:
             return Refusal(8, number)
 
@@ -360,8 +374,8 @@ def plan_pnet(data, lent=None):
             value = s * turn
             for y in masters:
                 if y != k:
-                    # a request may have waited since R(y) before the window
-                    a = sum(ceiling(w + bound[y], t) for t in spacings[y])
+                    # a request may have waited since R(y) before the window, and have come J late
+                    a = sum(ceiling(w + bound[y] + j, t) for t, j in spacings[y])
                     value -= (s - min(s, a)) * (hold[y] - UNUSED_VISIT)
             return value
 
@@ -663,6 +677,24 @@ def in_streams(what, streams):
     return ["%s in %d streams, first stream %d" % (what, len(streams), streams[0])] if streams else []
 
 
+def too_soon(streams, times):
+    """The stream of each request that came too soon, in the order of the records.
+
+    A request may stand up to J before its label, and labels of a stream are at least T apart; each is the earliest that there can be. So with J = 0 a
+    request is too soon where it comes sooner than T after the one before. One that is too soon is its own label, and what follows goes by that.
+    """
+    early, labels = [], {}
+    for kind, stream, now in times:
+        if kind == REQUEST:
+            _, _, t, _, j = streams[stream - 1]
+            label = max(now, labels[stream] + t) if stream in labels else now
+            if label - now > j:
+                early.append(stream)
+                label = now
+            labels[stream] = label
+    return early
+
+
 def capture_findings(data, capture, shown):
     """The last lines of a capture's report that say what is wrong; none where nothing is."""
     found = in_streams("answers above the bound", [n for n, one in enumerate(shown, start=1) if one.above])
@@ -673,17 +705,12 @@ def capture_findings(data, capture, shown):
             % (COUNTER // 2, ns_up(COUNTER // 2))
         )
     else:
-        streams = read(data).streams
-        asked, early = {}, []
-        for kind, stream, now in times:
-            if kind == REQUEST:
-                if stream in asked and now - asked[stream] < streams[stream - 1][2]:
-                    early.append(stream)
-                asked[stream] = now
+        early = too_soon(read(data).streams, times)
+        asked = {stream: now for kind, stream, now in times if kind == REQUEST}
         late = [n for n, one in enumerate(shown, start=1) if one.left and times[-1][2] - asked[n] > one.bound]
         found += in_streams("requests open beyond the bound", late)
         if early:
-            found.append("requests sooner than T after the one before %d times, first stream %d" % (len(early), early[0]))
+            found.append("requests sooner than their spacing allows %d times, first stream %d" % (len(early), early[0]))
     if not any(one.answers for one in shown):
         found.append("no answer in the whole capture")
     return found

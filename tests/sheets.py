@@ -8,8 +8,10 @@ at random would almost always be refused for its first bytes.
 import math
 import random
 
-WIDTHS = {1: (1,), 2: (1, 2, 4, 4), 3: (1, 4, 4), 4: (1, 4, 4), 5: (4,), 6: (2, 4)}
+WIDTHS = {1: (1,), 2: (1, 2, 4, 4), 3: (1, 4, 4), 4: (1, 4, 4), 5: (4,), 6: (2, 4), 7: (1, 2, 4, 4, 4)}
 BILLION = 1_000_000_000
+# the greatest number of four bytes
+ONES = 2**32 - 1
 MEGABYTE = 1 << 20
 
 
@@ -22,6 +24,26 @@ def record(kind, *numbers):
 
 def sheet(records):
     return b"".join(record(*r) for r in records)
+
+
+def records_of(data):
+    """A sound sheet cut into its records."""
+    out = []
+    at = 0
+    while at < len(data):
+        end = at + 1 + sum(WIDTHS[data[at]])
+        out.append(data[at:end])
+        at = end
+    return out
+
+
+def numbers_of(data):
+    """The numbers of a record."""
+    at, numbers = 1, []
+    for width in WIDTHS[data[0]]:
+        numbers.append(int.from_bytes(data[at : at + width], "big"))
+        at += width
+    return numbers
 
 
 # ---------------------------------------------------------------- P-NET
@@ -59,7 +81,8 @@ def pnet_streams(rng, n, total):
 
 
 def pnet_sheet(n, streams):
-    return sheet([(1, n)] + [(2, *s) for s in streams])
+    """A stream is of kind 7 where J stands behind its D."""
+    return sheet([(1, n)] + [(7 if len(s) == 5 else 2, *s) for s in streams])
 
 
 def pnet_roomy(rng):
@@ -179,15 +202,76 @@ def pnet_many(rng):
     return pnet_sheet(n, streams)
 
 
-def full_segment(rng, n, counts):
+def with_jitter(rng, stream):
+    """J is all or part of what D leaves of T; or any, and T longer by it, so that the window passes T just where it did."""
+    master, c, t, d = stream
+    if rng.random() < 0.5:
+        j = rng.choice([0, 1, t - d, t - d, rng.randint(0, t - d)])
+        return [master, c, t, d, min(j, t - d)]
+    j = min(rng.choice([1, 7, d, t - 1, rng.randint(0, 3 * t)]), BILLION - t)
+    return [master, c, t + j, d, j]
+
+
+def parts_of(data):
+    """N and the streams of a P-NET sheet, each with its numbers."""
+    masters, *streams = records_of(data)
+    return numbers_of(masters)[0], [numbers_of(stream) for stream in streams]
+
+
+def pnet_jitter(rng):
+    """Any of the sheets above with some or all of its streams of kind 7."""
+    n, streams = parts_of(rng.choice([pnet_roomy, pnet_tight, pnet_busy_master, pnet_chain, pnet_links, pnet_late, pnet_many])(rng))
+    share = rng.choice([0.1, 0.5, 0.9, 1])
+    return pnet_sheet(n, [with_jitter(rng, s) if rng.random() < share else s for s in streams])
+
+
+def pnet_jitter_counts(rng):
+    """Two masters. J of the second's only stream is just so long that `count` of its requests come in between those of the first, or one more does."""
+    own = rng.choice([2, 3, 10, 80])
+    count = rng.randint(1, own)
+    c, other = rng.randint(1, 1548), rng.randint(1, 1548)
+    turn = 47 + c + 47 + other
+    w = own * turn - (own - count) * (37 + other)
+    least = -(-(w + turn) // count)
+    t = rng.randint(least, max(least, w // (count - 1) if count > 1 else 3 * w))
+    j = count * t - w - turn + rng.choice([-1, 0, 1, 1, 1])
+    streams = [[1, c, BILLION, own * turn] for _ in range(own)]
+    streams.append([2, other, t, turn, min(max(0, j), t - turn)])
+    rng.shuffle(streams)
+    return pnet_sheet(2, streams)
+
+
+def jitter_edges(t, d):
+    """J at the ends of its range, where D is just as long as it leaves, and beyond them."""
+    return [0, 1, t - 2, t - 1, t, t + 1, t - d - 1, t - d, t - d + 1, t - d + 2, ONES - d, ONES - 1, ONES, 2**31]
+
+
+def pnet_jitter_edge(rng):
+    """One stream with J at an edge, or with D at one, among good ones."""
+    n, streams = parts_of(rng.choice([pnet_roomy, pnet_tight, pnet_late, pnet_jitter])(rng))
+    at = rng.randrange(len(streams))
+    master, c, t, d, *_ = streams[at]
+    t, d = rng.choice([(t, d), (t, d), (t, 1), (t, t), (1, 1), (BILLION, d), (BILLION, BILLION), (BILLION, 1)])
+    j = rng.choice([j for j in jitter_edges(t, d) if 0 <= j <= ONES])
+    if rng.random() < 0.3:
+        # what J leaves of T, as numbers of 32 bits have it
+        left = (t - j) % 2**32
+        d = rng.choice([d for d in (left - 1, left, left + 1, t, t + 1) if 0 <= d <= ONES])
+    streams[at] = [master, c, t, d, j]
+    return pnet_sheet(n, streams)
+
+
+def full_segment(rng, n, counts, kinds=(2,)):
     """Streams of the given counts for masters 1, 2, ..., all accepted."""
     streams = [[y, rng.randint(1, 1548)] for y, c in enumerate(counts, start=1) for _ in range(c)]
     rng.shuffle(streams)
-    return pnet_sheet(n, [s + [5_000_000, 4_500_000] for s in streams])
+    ends = {2: [5_000_000, 4_500_000], 7: [5_000_000, 4_500_000, 500_000]}
+    return pnet_sheet(n, [s + ends[rng.choice(kinds)] for s in streams])
 
 
 def pnet_over(rng):
-    """The 81st stream of a master or the 801st in all, and then anything."""
+    """The 81st stream of a master or the 801st in all, of one kind or of both, and then anything."""
+    ends = rng.choice([[(9_000_000, 9_000_000)], [(9_000_000, 9_000_000, 0)], [(9_000_000, 9_000_000), (9_000_000, 8_000_000, 1_000_000)]])
     if rng.random() < 0.5:
         n = rng.randint(1, 32)
         master = rng.randint(1, n)
@@ -199,8 +283,8 @@ def pnet_over(rng):
         counts = [80] * 10 if n == 10 else [25] * n if n == 32 else [73] * 10 + [70]
         streams = [[y, 9] for y, c in enumerate(counts, start=1) for _ in range(c)]
     rng.shuffle(streams)
-    body = pnet_sheet(n, [s + [9_000_000, 9_000_000] for s in streams])
-    last = record(2, master, 9, 9_000_000, 9_000_000)
+    body = pnet_sheet(n, [s + list(rng.choice(ends)) for s in streams])
+    last = rng.choice([record(2, master, 9, 9_000_000, 9_000_000), record(7, master, 9, 9_000_000, 8_000_000, 1_000_000)])
     return body + last + rng.choice([b"", last * 5, rng.randbytes(20)])
 
 
@@ -456,20 +540,9 @@ def worldfip_repeated(rng):
 # ---------------------------------------------------------------- damage
 
 SOUND = [
-    pnet_roomy, pnet_tight, pnet_late, profibus_random, profibus_ties,
+    pnet_roomy, pnet_tight, pnet_late, pnet_jitter, profibus_random, profibus_ties,
     worldfip_harmonic, worldfip_mixed, worldfip_one_slot,
 ]
-
-
-def records_of(data):
-    """A sound sheet cut into its records."""
-    out = []
-    at = 0
-    while at < len(data):
-        end = at + 1 + sum(WIDTHS[data[at]])
-        out.append(data[at:end])
-        at = end
-    return out
 
 
 def damaged(rng):
@@ -544,6 +617,7 @@ SOUND_RECORD = {
     4: [2, 400, 80_000],
     5: [400],
     6: [17, 1_000],
+    7: [2, 203, 100_000, 60_000, 30_000],
 }
 RANGES = {
     1: [(1, 32)],
@@ -552,7 +626,10 @@ RANGES = {
     4: [(1, 3), (1, 500), (1, BILLION)],
     5: [(1, 1_000_000)],
     6: [(0, 65_535), (1, BILLION)],
+    # T has to hold D and J
+    7: [(1, 4), (1, 1_548), (90_000, BILLION), (1, 70_000), (0, 40_000)],
 }
+HEAD_OF = {2: 1, 4: 3, 6: 5, 7: 1}
 
 
 def with_field(kind, field, value, before=(), after=()):
@@ -562,23 +639,23 @@ def with_field(kind, field, value, before=(), after=()):
     if kind in (1, 3, 5):
         rest = [1] + SOUND_RECORD[kind + 1][1:] if kind != 5 else SOUND_RECORD[6]
         return sheet([(kind, *numbers), (kind + 1, *rest)])
-    head = (kind - 1, *SOUND_RECORD[kind - 1])
+    head = (HEAD_OF[kind], *SOUND_RECORD[HEAD_OF[kind]])
     return sheet([head, *before, (kind, *numbers), *after])
 
 
 def around(kind, field):
     least, greatest = RANGES[kind][field]
     ones = 256 ** WIDTHS[kind][field] - 1
-    values = {0, least, least + 1, greatest - 1, greatest, greatest + 1, ones, (ones >> 1) + 1}
+    values = {0, least - 1, least, least + 1, greatest - 1, greatest, greatest + 1, ones, (ones >> 1) + 1}
     return sorted(v for v in values if 0 <= v <= ones)
 
 
 def field_edge(rng):
-    kind = rng.randint(1, 6)
+    kind = rng.choice(list(WIDTHS))
     field = rng.randrange(len(WIDTHS[kind]))
     value = rng.choice(around(kind, field))
     before = []
-    if kind in (2, 4, 6):
+    if kind in HEAD_OF:
         before = [(kind, *SOUND_RECORD[kind]) for _ in range(rng.choice([0, 0, 1, 3]))]
         if kind == 6:
             before = [(6, 100 + i, 1_000) for i in range(len(before))]
@@ -605,6 +682,12 @@ def edges(rng):
     # D is held by T, and T alone can make D too great
     for t, d in [(1, 1), (1, 2), (BILLION, BILLION), (BILLION, BILLION + 1), (89_999, 90_000)]:
         yield "T %d D %d" % (t, d), pnet_sheet(1, [(1, 1, t, d)])
+    # and by T - J, which must not be worked out where J is above T
+    for t, d in [(1, 1), (2, 1), (1_000, 1), (1_000, 400), (1_000, 1_000), (BILLION, 1), (BILLION, 400), (BILLION, BILLION)]:
+        for j in sorted({j for j in jitter_edges(t, d) if 0 <= j <= ONES}):
+            yield "T %d D %d J %d" % (t, d, j), pnet_sheet(1, [(1, 1, t, d, j)])
+    for t, d, j in [(1_000, ONES, 1_001), (1_000, ONES - 1, 1_001), (1, ONES, 2), (1_000, 0, 1_000), (1_000, 0, 999), (0, 0, 0), (0, 1, 0), (0, 1, ONES)]:
+        yield "T %d D %d J %d" % (t, d, j), pnet_sheet(1, [(1, 1, t, d, j)])
     for longest, c in [(1, 1), (1, 2), (100_000, 100_000), (100_000, 100_001)]:
         yield "M %d C %d" % (longest, c), profibus_sheet(1, 1, longest, [(1, c, BILLION)])
 
@@ -616,6 +699,10 @@ def edges(rng):
         late[i] = (late[i][0], 203, 100_000, 1_999)
         yield "four masters, stream %d late" % (i + 1), pnet_sheet(4, late)
     yield "two masters", pnet_sheet(2, [(y, 203, 100_000, 100_000) for y in (1, 1, 2)])
+    # master 2's request may have waited 500 bp and come up to J late: 760 + 500 + J is T, or one more or less
+    for t, j in [(1_560, 299), (1_560, 300), (1_560, 301), (3_000, 1_739), (3_000, 1_740), (3_000, 1_741), (3_000, 2_500)]:
+        yield "two masters, T %d J %d" % (t, j), pnet_sheet(2, [(1, 203, 100_000, 100_000)] * 2 + [(2, 203, t, 500, j)])
+    yield "the greatest J", pnet_sheet(2, [(1, 203, BILLION, 1_000, BILLION - 1_000)] * 2 + [(2, 203, BILLION, 500, BILLION - 500)])
     ring = [(1, 400, 8_400), (1, 500, 10_000), (2, 300, 5_000)]
     yield "ring", profibus_sheet(3, 300, 500, ring)
     for latency in (2_499, 2_500, 2_501):
@@ -633,6 +720,8 @@ def edges(rng):
                 yield "N %d only master %d D %d" % (n, master, d), pnet_sheet(n, [(master, 1548, d, d)])
     for count in (79, 80, 81):
         yield "%d streams on one master" % count, full_segment(rng, 1, [count])
+        yield "%d streams of kind 7 on one master" % count, full_segment(rng, 1, [count], kinds=(7,))
+        yield "%d streams of kinds 2 and 7 on one master" % count, full_segment(rng, 1, [count], kinds=(2, 7))
         yield "%d ring streams on one master" % count, profibus_sheet(
             1, 1, 1, [(1, 1, 1_000_000)] * count)
     eighty = full_segment(rng, 10, [80] * 10)
@@ -646,8 +735,20 @@ def edges(rng):
     yield "the 801st, out of range", full_segment(rng, 32, [25] * 32) + record(2, 33, 1, 9, 9)
     yield "the 801st, cut", full_segment(rng, 32, [25] * 32) + one_more[:-1]
     yield "the 801st, wrong kind", full_segment(rng, 32, [25] * 32) + bytes([4])
-    yield "the 801st, unknown kind", full_segment(rng, 32, [25] * 32) + bytes([7])
+    yield "the 801st, unknown kind", full_segment(rng, 32, [25] * 32) + bytes([8])
     yield "the 801st and 81st at once", eighty + one_more
+    longest = full_segment(rng, 32, [25] * 32, kinds=(7,))
+    one_late = record(7, 1, 200, 5_000_000, 4_500_000, 500_000)
+    yield "the longest sheet", longest
+    yield "800 streams of kinds 2 and 7", full_segment(rng, 10, [80] * 10, kinds=(2, 7))
+    yield "the 801st, kind 7 behind kind 2", full_segment(rng, 32, [25] * 32) + one_late
+    yield "the 801st, kind 7 behind kind 7", longest + one_late
+    yield "the 801st, kind 2 behind kind 7", longest + one_more
+    yield "the 801st of kind 7, out of range", longest + record(7, 1, 200, 5_000_000, 4_500_000, 500_001)
+    yield "the 801st of kind 7, cut", longest + one_late[:-1]
+    yield "the 801st behind kind 7, wrong kind", longest + bytes([4])
+    yield "the 801st behind kind 7, unknown kind", longest + bytes([8])
+    yield "the 801st of kinds 2 and 7", full_segment(rng, 32, [25] * 32, kinds=(2, 7)) + one_late
     ring800 = profibus_sheet(32, 1, 1, [(y, 1, 1_000_000) for y in range(1, 33) for _ in range(25)])
     yield "800 ring streams", ring800
     yield "the 801st ring stream", ring800 + record(4, 5, 1, 1_000_000)
@@ -658,6 +759,8 @@ def edges(rng):
         full_segment(rng, 1, [80]) + one_more * (2 * MEGABYTE // 12))
     yield "801st, then megabytes of noise", (
         full_segment(rng, 32, [25] * 32) + one_more + rng.randbytes(3 * MEGABYTE))
+    yield "81st, then megabytes of kind 7", full_segment(rng, 1, [80], kinds=(7,)) + one_late * (2 * MEGABYTE // 16)
+    yield "801st, then megabytes of kind 7", longest + one_late * (3 * MEGABYTE // 16)
     yield "801st ring stream, then a megabyte", ring800 + record(4, 5, 1, 1_000_000) * (MEGABYTE // 10)
     many = [(i, 10_000) for i in range(64)]
     yield "65th, then megabytes", worldfip_sheet(1, many) + record(6, 99, 10_000) * (2 * MEGABYTE // 7)
@@ -715,6 +818,7 @@ def edges(rng):
 
 FAMILIES = [
     pnet_roomy, pnet_tight, pnet_busy_master, pnet_chain, pnet_links, pnet_late, pnet_many, pnet_over,
+    pnet_jitter, pnet_jitter, pnet_jitter_counts, pnet_jitter_edge, pnet_jitter_edge,
     profibus_random, profibus_exact, profibus_ties, profibus_below, profibus_short, profibus_over,
     worldfip_harmonic, worldfip_mixed, worldfip_one_slot, worldfip_many_slots,
     worldfip_full_row, worldfip_last_row, worldfip_many_rows, worldfip_huge,

@@ -9,10 +9,12 @@ import second_opinion
 STREAM = b"pnet-stream,1,203 bp,1000 bp,1000 bp\n"
 SEGMENT = b"pnet-segment,1\n"
 TEXT = SEGMENT + STREAM
+JITTER = b"pnet-jitter-stream,1,203 bp,1000 bp,700 bp,300 bp\n"
 # the form that is told beside a slip
 FORMS = {
     b"pnet-se": "pnet-segment,MASTERS\n",
     b"pnet-st": "pnet-stream,MASTER,CYCLE bp,SPACING bp,DEADLINE bp\n",
+    b"pnet-ji": "pnet-jitter-stream,MASTER,CYCLE bp,SPACING bp,DEADLINE bp,JITTER bp\n",
     b"profibu": "profibus-stream,MASTER,CYCLE bp,DEADLINE bp\n",
     b"worldfi": ("worldfip-exchange,EXCHANGE us\n", "worldfip-variable,IDENTIFIER,PERIOD us\n"),
 }
@@ -32,6 +34,7 @@ RING = "a PROFIBUS ring of kind 3 has no text form"
 BYTES = "this begins as the bytes of a sheet do"
 DIGITS = "a number is decimal digits alone"
 WORDS = "; wanted there: a word of these, and a comma"
+LISTED = "planner: " + ", ".join(second_opinion.WORDS.values()) + "\n"
 BIG = "a number too big for its field, at most %s there"
 
 # a line that is not of the form, and what is told of it behind its number: where, what stands there, what was wanted; then the advice, if any
@@ -68,6 +71,17 @@ LINES = (
     (b"pnet-stream,1,65536 bp,1000 bp,1000 bp\n", ", column 15 has '65536 bp'; " + BIG % "65535 bp", None),
     (b"pnet-stream,1,203 bp,4294967296 bp,1000 bp\n", ", column 22 has '4294967296 bp'; " + BIG % "4294967295 bp", None),
     (b"pnet-stream,1,203 bp,1000 bp,42949672950 bp\n", ", column 30 has '42949672950 bp'; " + BIG % "4294967295 bp", None),
+    (JITTER[:-4] + b"\n", ", column 47 is the end of the line; wanted there: a blank and the unit bp", UNIT),
+    (JITTER[:-4] + b"bp\n", ", column 47 has 'bp'; wanted there: a blank and the unit bp", BLANK),
+    (JITTER[:-4] + b" us\n", ", column 48 has 'us'; wanted there: the unit bp", UNIT),
+    (JITTER[:-1] + b",0 bp\n", ", column 50 has ',0 bp'; wanted there: the end of the line", None),
+    (b"pnet-jitter-stream,1,203 bp,1000 bp,700 bp\n", ", column 43 is the end of the line; wanted there: a comma and the next cell", None),
+    (b"pnet-jitter-stream,1,203 bp,1000 bp,700 bp,\n", ", column 44 is the end of the line; wanted there: a number", None),
+    (b"pnet-jitter-stream,1,203 bp,1000 bp,700 bp,0300 bp\n", ", column 44 has '0300 bp'; wanted there: a number", ZERO),
+    (b"pnet-jitter-stream,256,203 bp,1000 bp,700 bp,300 bp\n", ", column 20 has '256'; " + BIG % "255", None),
+    (b"pnet-jitter-stream,1,65536 bp,1000 bp,700 bp,300 bp\n", ", column 22 has '65536 bp'; " + BIG % "65535 bp", None),
+    (b"pnet-jitter-stream,1,203 bp,1000 bp,700 bp,4294967296 bp\n", ", column 44 has '4294967296 bp'; " + BIG % "4294967295 bp", None),
+    (JITTER[:-1], ", column 50 is the end of the text; wanted there: the end of the line", UNENDED),
     (b"profibus-stream,300,400 bp,8400 bp\n", ", column 17 has '300'; " + BIG % "255", None),
     (b"profibus-stream,1,9999999999 bp,8400 bp\n", ", column 19 has '9999999999 bp'; " + BIG % "4294967295 bp", None),
     (b"worldfip-exchange,4294967296 us\n", ", column 19 has '4294967296 us'; " + BIG % "4294967295 us", None),
@@ -89,6 +103,9 @@ STRANGE_LINES = (
     (b"PNET-STREAM,1\n", ", column 1 has 'PNET-STREAM'" + WORDS, SMALL),
     (b"profibus-ring,1,300 bp,500 bp\n", ", column 1 has 'profibus-ring'" + WORDS, RING),
     (b"pnet-segmen", ", column 1 has 'pnet-segmen'" + WORDS, None),
+    (b"pnet-jitter,1,203 bp,1000 bp,700 bp,300 bp\n", ", column 1 has 'pnet-jitter'" + WORDS, None),
+    (b"PNET-JITTER-STREAM,1\n", ", column 1 has 'PNET-JITTER-STREAM'" + WORDS, SMALL),
+    (b" " + JITTER, ", column 1 has ' pnet-jitter-stream'" + WORDS, AROUND),
     (b"# a plant\n", ", column 1 has '# a plant'" + WORDS, None),
     (b"\xe9t\xe9\x00\n", ", column 1 has '\\xe9t\\xe9\\x00'" + WORDS, None),
 )
@@ -98,14 +115,19 @@ REFUSED = (
     (STREAM, "refused 3 at byte 0\n", "byte 0 of the sheet is line 1 of the text\n"),
     (b"pnet-segment,33\n", "refused 4 at byte 0\n", "byte 0 of the sheet is line 1 of the text\n"),
     (TEXT + STREAM.replace(b",1,", b",2,"), "refused 4 at byte 14\n", "byte 14 of the sheet is line 3 of the text\n"),
+    (TEXT + JITTER.replace(b"700", b"701"), "refused 4 at byte 14\n", "byte 14 of the sheet is line 3 of the text\n"),
+    (TEXT + JITTER.replace(b"300", b"1000"), "refused 4 at byte 14\n", "byte 14 of the sheet is line 3 of the text\n"),
+    (TEXT + JITTER + STREAM.replace(b",1,", b",2,"), "refused 4 at byte 30\n", "byte 30 of the sheet is line 4 of the text\n"),
+    (JITTER, "refused 3 at byte 0\n", "byte 0 of the sheet is line 1 of the text\n"),
     (TEXT + b"worldfip-variable,1,1 us\n", "refused 3 at byte 14\n", "byte 14 of the sheet is line 3 of the text\n"),
     (TEXT * 2, "refused 3 at byte 14\n", "byte 14 of the sheet is line 3 of the text\n"),
     (SEGMENT + STREAM * 81, "refused 5 at byte 962\n", "byte 962 of the sheet is line 82 of the text\n"),
+    (SEGMENT + (STREAM + JITTER) * 40 + JITTER, "refused 5 at byte 1122\n", "byte 1122 of the sheet is line 82 of the text\n"),
     (b"worldfip-exchange,1 us\n" + b"worldfip-variable,1,1 us\n" * 2, "refused 7 at byte 12\n", "byte 12 of the sheet is line 3 of the text\n"),
     (b"profibus-stream,1,1 bp,1 bp\n", "refused 3 at byte 0\n", "byte 0 of the sheet is line 1 of the text\n"),
 )
 # bytes that no one takes for a text
-PLAIN = (b"\x07", b"\x00pnet-segment,1\n", b"p\x00n\x00e\x00t\x00", b"\x80pnet-segment,1\n", b"\xef\xbb", b"pnet\x7f", b"\nx", TEXT[:5] + b"\x01" + TEXT[5:])
+PLAIN = (b"\x08", b"\x00pnet-segment,1\n", b"p\x00n\x00e\x00t\x00", b"\x80pnet-segment,1\n", b"\xef\xbb", b"pnet\x7f", b"\nx", TEXT[:5] + b"\x01" + TEXT[5:])
 
 
 def call(program, words, data=b"", **more):
@@ -143,7 +165,7 @@ def trouble(done, report, parts):
 def line_troubles(program, folder):
     for line, place, advice in LINES + STRANGE_LINES:
         form = told_form(line)
-        parts = ([advice] if advice else []) + ["the form of that line: " + form if form else ": pnet-segment, pnet-stream, "]
+        parts = ([advice] if advice else []) + ["the form of that line: " + form if form else LISTED]
         for name, done in both_ways(program, folder, TEXT + line):
             yield trouble(done, "refused 23 at line 3\n", ["planner: %s: line 3%s" % (name, place)] + parts)
             if not advice and done.stderr.count(b"\n") != 2:

@@ -17,11 +17,11 @@ PIECES = (4_096, 16_384, 65_534, 65_536)
 
 # sheets that read and have a text
 SHORT_SHEETS = [
-    sheets.pnet_roomy, sheets.pnet_tight, sheets.pnet_late,
+    sheets.pnet_roomy, sheets.pnet_tight, sheets.pnet_late, sheets.pnet_jitter_counts,
     sheets.worldfip_mixed, sheets.worldfip_one_slot, sheets.worldfip_harmonic,
 ]
 SHEETS = SHORT_SHEETS + [
-    sheets.pnet_busy_master, sheets.pnet_links, sheets.pnet_many,
+    sheets.pnet_busy_master, sheets.pnet_links, sheets.pnet_many, sheets.pnet_jitter, sheets.pnet_jitter,
     sheets.worldfip_many_slots, sheets.worldfip_full_row, sheets.worldfip_many_rows, sheets.worldfip_huge, sheets.worldfip_no_fit,
 ]
 # sheets that read and have none
@@ -97,7 +97,7 @@ def blank(rng, line):
 
 
 def no_unit(rng, line):
-    return line.replace(b" bp", b"", rng.choice([1, 3])).replace(b" us", b"")
+    return line.replace(b" bp", b"", rng.choice([1, 3, 4])).replace(b" us", b"")
 
 
 def other_unit(rng, line):
@@ -128,7 +128,7 @@ def upper_case(rng, line):
 def other_word(rng, line):
     words = [
         b"", b"pnet", b"pnet-", b"pnet-streams", b"worldfip", b"1", b"#",
-        b"profibus-ring", b"profibus-message", b"pnet-edition", b"pnet-jitter-stream",
+        b"profibus-ring", b"profibus-message", b"pnet-edition", b"pnet-jitter", b"pnet-stream", b"pnet-jitter-stream",
     ]
     return joined([rng.choice(words)] + line[:-1].split(b",")[1:])
 
@@ -259,7 +259,11 @@ def over(rng):
     if n == 0:
         records = [(5, [1])] + [(6, [i, 10_000]) for i in rng.sample(range(65_536), 64 + more)]
     else:
-        records = [(1, [n])] + [(2, [1 + i % n, 9, 9_000_000, 9_000_000]) for i in range(min(80 * n, 800) + more)]
+        ends = rng.choice([[(2, 9_000_000)], [(7, 9_000_000, 0)], [(2, 9_000_000), (7, 8_000_000, 1_000_000)]])
+        records = [(1, [n])]
+        for i in range(min(80 * n, 800) + more):
+            kind, *end = rng.choice(ends)
+            records.append((kind, [1 + i % n, 9, 9_000_000, *end]))
     text = written(records)
     return with_slips(rng, text, 1) if rng.random() < 0.4 else text
 
@@ -312,6 +316,9 @@ def long_edges():
         yield "%d bytes, the last line without its end" % length, text[:-1]
     most = sheets.MEGABYTE // len(GOOD_LINE)
     yield "megabytes of streams", HEAD_LINE + GOOD_LINE * (3 * most)
+    late = b"pnet-jitter-stream,1,203 bp,1000 bp,700 bp,300 bp\n"
+    yield "megabytes of streams of kind 7", HEAD_LINE + late * (3 * sheets.MEGABYTE // len(late))
+    yield "megabytes of streams of kind 7, then a bad line", HEAD_LINE + late * (3 * sheets.MEGABYTE // len(late)) + late[:-4] + b"\n"
     yield "megabytes of streams, then a bad line", HEAD_LINE + GOOD_LINE * (3 * most) + b"pnet-stream,1,203 bp,1000 bp,1000\n"
     yield "a megabyte of streams, then one without an end", HEAD_LINE + GOOD_LINE * most + GOOD_LINE[:-1]
     yield "a megabyte of streams without a segment", GOOD_LINE * most
@@ -329,12 +336,25 @@ def edges(rng):
     for name, line in vectors.slips():
         yield name, HEAD_LINE + line + GOOD_LINE
     # each field at the ends of its bytes and its range; kind 4 follows kind 3 alone, which has no line
-    for kind in (1, 2, 5, 6):
+    for kind in (1, 2, 5, 6, 7):
         for field in range(len(WIDTHS[kind])):
             for value in sheets.around(kind, field):
                 yield "kind %d field %d is %d" % (kind, field + 1, value), written(records_of(sheets.with_field(kind, field, value)))
-    yield "the longest text", written([(1, [32])] + [(2, [10 + i % 23, 1_548, sheets.BILLION, sheets.BILLION]) for i in range(800)])
+    for j in (0, 1, 999, 1_000, 1_001, sheets.ONES):
+        for d in sorted({1, 1_000 - j, 1_001 - j}):
+            if 0 <= d:
+                yield "T 1000 D %d J %d" % (d, j), HEAD_LINE + written([(7, [1, 203, 1_000, d, j])])
+    yield "the longest lines of kind 2", written([(1, [32])] + [(2, [10 + i % 23, 1_548, sheets.BILLION, sheets.BILLION]) for i in range(800)])
+    half = sheets.BILLION // 2
+    longest = [(1, [32])] + [(7, [10 + i % 23, 1_548, sheets.BILLION, half, half]) for i in range(800)]
+    yield "the longest text", written(longest)
+    yield "the longest text, then a stream of kind 2", written(longest) + GOOD_LINE
+    yield "the longest text, then a stream of kind 7", written(longest + longest[-1:])
+    yield "the longest text, then a bad line", written(longest) + b"pnet-jitter-stream,1,203 bp,1000 bp,700 bp,300\n"
+    yield "the longest line that is of the form", HEAD_LINE + written([(7, [255, 65_535, *[sheets.ONES] * 3])])
     yield "800 streams", written(records_of(sheets.full_segment(rng, 32, [25] * 32)))
+    yield "800 streams of kind 7", written(records_of(sheets.full_segment(rng, 32, [25] * 32, kinds=(7,))))
+    yield "800 streams of kinds 2 and 7", written(records_of(sheets.full_segment(rng, 32, [25] * 32, kinds=(2, 7))))
     yield "64 variables", written([(5, [1_000_000])] + [(6, [65_535 - i, sheets.BILLION]) for i in range(64)])
     yield from long_edges()
 

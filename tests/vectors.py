@@ -80,6 +80,8 @@ TWO_MASTERS = [
 ]
 # master 2's request may have waited 500 bp when master 1's window opens
 WAITING = TWO_MASTERS[:3] + [(2, 2, 203, 1_000, 1_000)]
+# page 02, Ask 7: D of 700 bp is all that J of 300 bp leaves of T
+JITTER = (7, 1, 203, 1_000, 700, 300)
 RING = [(3, 3, 300, 500), (4, 1, 400, 8_400), (4, 1, 500, 10_000), (4, 2, 300, 5_000)]
 TABLE = [(5, 400), (6, 17, 1_000), (6, 18, 2_000), (6, 19, 4_000), (6, 20, 4_000)]
 TABLE_LATE = TABLE[:3] + [(6, 19, 2_000)] + TABLE[4:]
@@ -87,6 +89,8 @@ E210 = [(5, 210)] + [(6, i, 1_000) for i in (1, 2, 3, 4)] + [(6, 5, 3_000)]
 EIGHTY_EACH = [(1, 10)] + [
     (2, y, 200, 1_000_000, 1_000_000) for y in range(1, 11) for _ in range(80)
 ]
+
+JITTERS = sheet((1, 32), *[(7, 1 + i % 32, 203, 1_000, 700, 300) for i in range(800)])
 
 EIGHTY_LINES = b"pnet-segment,10\n" + b"".join(
     b"pnet-stream,%d,200 bp,1000000 bp,1000000 bp\n" % y for y in range(1, 11) for _ in range(80)
@@ -128,7 +132,48 @@ pnet | 05 00000190 | 6 at 5
 pnet | 05 | 1 at 0
 worldfip | 01 21 | 4 at 0
 pnet | 05 00000190 06 0011 000003e8 | 3 at 0
-read | 07 | 2 at 0
+read | 07 | 3 at 0
+read | 08 | 2 at 0
+read | 10 | 2 at 0
+read | 0104 0801 | 2 at 2
+read | 0104 07 01 00cb 000003e8 000003e8 00000000 | accepted
+read | 0104 07 01 00cb 000003e8 00000001 000003e7 | accepted
+read | 0104 07 01 00cb 000003e8 00000001 000003e8 | 4 at 2
+read | 0104 07 01 00cb 000003e8 00000001 000003e9 | 4 at 2
+read | 0104 07 01 00cb 000003e8 00000001 ffffffff | 4 at 2
+read | 0104 07 01 00cb 000003e8 00000000 000003e7 | 4 at 2
+read | 0104 07 01 00cb 000003e8 00000000 000003e8 | 4 at 2
+read | 0104 07 01 00cb 000003e8 000001f4 000001f4 | accepted
+read | 0104 07 01 00cb 000003e8 000001f5 000001f4 | 4 at 2
+read | 0104 07 01 00cb 000003e8 000003e9 00000000 | 4 at 2
+read | 0104 07 01 00cb 000003e8 ffffffff 000003e9 | 4 at 2
+read | 0104 07 01 00cb 00000001 00000001 00000000 | accepted
+read | 0104 07 01 00cb 00000001 ffffffff 00000002 | 4 at 2
+read | 0104 07 01 00cb 00000000 00000000 00000000 | 4 at 2
+read | 0104 07 01 00cb 00000000 00000001 00000000 | 4 at 2
+read | 0104 07 01 00cb 3b9aca00 00000001 3b9ac9ff | accepted
+read | 0104 07 01 00cb 3b9aca01 00000001 00000000 | 4 at 2
+read | 0104 07 05 00cb 000003e8 000003e8 00000000 | 4 at 2
+read | 0104 07 01 060d 000003e8 000003e8 00000000 | 4 at 2
+read | 0104 07 01 00cb 000003e8 000003e8 000000 | 1 at 2
+read | 0104 07 01 00cb 000003e8 000003e8 | 1 at 2
+read | 0104 07 | 1 at 2
+read | 0104 02 01 00cb 000003e8 000003e8 00000000 | 2 at 14
+read | 0104 07 01 00cb 000003e8 000003e8 00000000 02 01 00cb 000003e8 000003e9 | 4 at 18
+read | 0104 02 01 00cb 000003e8 000003e8 07 01 00cb 000003e8 000003e8 00000001 | 4 at 14
+read | 03 01 00000001 00000001 07 | 3 at 10
+read | 05 00000190 07 | 3 at 5
+profibus | 0101 070100cb000003e8000003e800000000 | 3 at 0
+worldfip | 0101 070100cb000003e8000003e800000000 | 3 at 0
+pnet | 0101 020100cb000186a0000186a0 070100cb00000bb80000000100000000 | 8 at 2
+pnet | 0102 020100cb000186a0000186a0 020100cb000186a0000186a0 070200cb00000bb8000001f4000009c4 | R 1000 500; W 1000 500; rounds 2 1
+write | 0 | 16 | 7 32 1548 1000000000 1 999999999 | 0720060c3b9aca00000000013b9ac9ff then 16
+write | 5 | 20 | 7 1 203 1000 700 300 | 13 at 21
+write | 5 | 0 | 7 1 203 1000 701 300 | 4 at 5
+write | 5 | 0 | 7 1 203 1000 1 1000 | 4 at 5
+write | 5 | 0 | 7 1 203 1000 1 4294967295 | 4 at 5
+write | 18446744073709551599 | 9 | 7 1 203 1000 700 300 | 13 at 18446744073709551615
+write | 18446744073709551600 | 9 | 7 1 203 1000 700 300 | 13 at 0
 write | 5 | 20 | 2 1 70000 99 99 | 4 at 5
 write | 18446744073709551613 | 9 | 1 4 | 13 at 18446744073709551615
 write | 18446744073709551614 | 9 | 1 4 | 13 at 0
@@ -150,6 +195,9 @@ worldfip | 05 00000001 06 0001 00000011 06 0002 000000f1 | 11 at 0
 worldfip | 05 00000001 06 0001 3b9ac9c1 06 0002 3b9ac9ff | 11 at 0
 capture | 0101 020100cb000003e8000003e8 | - | 0 0 0 0
 capture | 0101 020100cb000003e8000003e8 | 02 | 2 at 0
+capture | 0101 070100cb000003e8000002bc0000012c | 07 | 2 at 0
+capture | 0101 070100cb000003e8000002bc0000012c | 10 0001 00000000 11 0001 000000fa | 1 250 0 0
+capture | 0102 070100cb000003e8000000630000012c | 02 | 8 at 1
 capture | 0101 020100cb000003e8000003e8 | 10 0001 00000000 11 0001 000000fa 10 0001 00000200 11 0001 000002fb | 2 251 1 0
 capture | 0102 020100cb0000006300000063 | 02 | 8 at 1
 capture | 0101 020100cb000003e8000003e8 | 11 0002 | 1 at 0
@@ -183,6 +231,9 @@ A:1, 0103 020200cb0000270f0000270f:1 | 0 | 1000 | 18 at 2
 A:1, 05 00000190 06 0011 000003e8:1 | 0 | 1000 | 3 at 0
 A:1, 05 00000190:1 | 0 | 1000 | 6 at 5
 2*0102 020100cb0000270f0000270f 020200cc0000270f0000270f:1 | 0 | 1002 | total 1002
+A:1, 0102 070100cb0000270f00001388000003e8 020200cb0000270f0000270f:1 | 0 | 1000 | total 1000
+A:1, 0102 020100cb0000270f0000270f 070200cb0000270f000000630000270e:2 | 0 | 1000 | 4 at 14
+A:1, 0102 020100cb0000270f0000270f 070200cb0000270f0000006300000000:2 | 0 | 1000 | 8 at 2
 """
 
 
@@ -195,7 +246,8 @@ import | \n | 23 at 1
 export | 03 | 1 at 0
 export | 03 01 00000001 00000001 | 6 at 10
 export | 03 01 00000001 00000001 04 01 00000001 000003e8 | 2 at 0
-import | pnet-segment,2\npnet-jitter-stream,1,9 bp,99 bp,9 bp,0 bp\n | 23 at 2
+import | pnet-segment,2\npnet-jitter-stream,1,9 bp,99 bp,9 bp,0 bp\n | 010207010009000000630000000900000000
+import | pnet-segment,1\npnet-edition,1\npnet-jitter-stream,1,9 bp,99 bp,9 bp,0 bp\n | 23 at 2
 import | pnet-segment,33\n | 4 at 0
 import | pnet-segment,256\n | 23 at 1
 import | pnet-segment,2\npnet-stream,1,65535 bp,9 bp,9 bp\n | 4 at 2
@@ -205,16 +257,23 @@ import | pnet-segment,2\npnet-stream,1,9 bp,999 bp,999 bp | 23 at 2
 import | x\npnet-stream,1,9 bp,999 bp,999 bp | 23 at 1
 export | 0101 020100cb000003e8000003e8 | pnet-segment,1\npnet-stream,1,203 bp,1000 bp,1000 bp\n
 import | pnet-segment,1\npnet-stream,1,203 bp,1000 bp,1000 bp\n | 0101020100cb000003e8000003e8
+export | 0101 070100cb000003e8000002bc0000012c | pnet-segment,1\npnet-jitter-stream,1,203 bp,1000 bp,700 bp,300 bp\n
+import | pnet-segment,1\npnet-jitter-stream,1,203 bp,1000 bp,700 bp,300 bp\n | 0101070100cb000003e8000002bc0000012c
+export | 0101 070100cb000003e8000003e800000000 020100cb000003e8000003e8 | pnet-segment,1\npnet-jitter-stream,1,203 bp,1000 bp,1000 bp,0 bp\npnet-stream,1,203 bp,1000 bp,1000 bp\n
+import | pnet-segment,1\npnet-jitter-stream,1,203 bp,1000 bp,1000 bp,0 bp\npnet-stream,1,203 bp,1000 bp,1000 bp\n | 0101070100cb000003e8000003e800000000020100cb000003e8000003e8
 export | 05 00000190 06 0000 000003e8 06 ffff 3b9aca00 | worldfip-exchange,400 us\nworldfip-variable,0,1000 us\nworldfip-variable,65535,1000000000 us\n
 import | worldfip-exchange,400 us\nworldfip-variable,0,1000 us\nworldfip-variable,65535,1000000000 us\n | 0500000190060000000003e806ffff3b9aca00
 export | - | 1 at 0
-export | 07 | 2 at 0
+export | 07 | 3 at 0
+export | 08 | 2 at 0
+export | 0101 070100cb000003e8000002bd0000012c | 4 at 2
 export | 0104 04 | 3 at 2
 export | 0121 | 4 at 0
 export | 03 21 00000001 00000001 | 4 at 0
 export | 0500000190 060011000003e8 060011000003e8 | 7 at 12
 export | 0104 | 6 at 2
 import | pnet-stream,1,203 bp,1000 bp,1000 bp\n | 3 at 0
+import | pnet-jitter-stream,1,203 bp,1000 bp,700 bp,300 bp\n | 3 at 0
 import | profibus-stream,1,400 bp,8400 bp\n | 3 at 0
 import | worldfip-variable,17,1000 us\n | 3 at 0
 import | pnet-segment,4\nprofibus-stream,1,400 bp,8400 bp\n | 3 at 2
@@ -227,6 +286,12 @@ import | pnet-segment,4\npnet-stream,5,203 bp,1000 bp,1000 bp\n | 4 at 2
 import | pnet-segment,4\npnet-stream,1,203 bp,1000 bp,1001 bp\n | 4 at 2
 import | pnet-segment,4\npnet-stream,1,203 bp,4294967295 bp,4294967295 bp\n | 4 at 2
 import | pnet-segment,4\npnet-stream,1,203 bp,4294967296 bp,1000 bp\n | 23 at 2
+import | pnet-segment,4\npnet-jitter-stream,1,203 bp,1000 bp,1 bp,999 bp\n | 0104070100cb000003e800000001000003e7
+import | pnet-segment,4\npnet-jitter-stream,1,203 bp,1000 bp,1 bp,1000 bp\n | 4 at 2
+import | pnet-segment,4\npnet-jitter-stream,1,203 bp,1000 bp,701 bp,300 bp\n | 4 at 2
+import | pnet-segment,4\npnet-jitter-stream,1,203 bp,1000 bp,1 bp,4294967295 bp\n | 4 at 2
+import | pnet-segment,4\npnet-jitter-stream,1,203 bp,1000 bp,1 bp,4294967296 bp\n | 23 at 2
+import | worldfip-exchange,400 us\npnet-jitter-stream,1,203 bp,1000 bp,700 bp,300 bp\n | 3 at 5
 import | worldfip-exchange,0 us\n | 4 at 0
 import | worldfip-exchange,4294967295 us\n | 4 at 0
 import | worldfip-exchange,4294967296 us\n | 23 at 1
@@ -346,7 +411,26 @@ profibus-ring,3,300 bp,500 bp
 profibus-ring,3,300 bp
 profibus-message,1,500 bp
 pnet-edition,2
-pnet-jitter-stream,1,203 bp,1000 bp,900 bp,0 bp
+pnet-jitter-stream,1,203 bp,1000 bp,900 bp
+pnet-jitter-stream,1,203 bp,1000 bp,900 bp,
+pnet-jitter-stream,1,203 bp,1000 bp,900 bp,0
+pnet-jitter-stream,1,203 bp,1000 bp,900 bp,0 us
+pnet-jitter-stream,1,203 bp,1000 bp,900 bp,00 bp
+pnet-jitter-stream,1,203 bp,1000 bp,900 bp,-1 bp
+pnet-jitter-stream,1,203 bp,1000 bp,900 bp,0 bp,
+pnet-jitter-stream,1,203 bp,1000 bp,900 bp,0 bp,0 bp
+pnet-jitter-stream,1,203 bp,1000 bp,,0 bp
+pnet-jitter-stream,1,203 bp,1000 bp,900 bp,4294967296 bp
+pnet-jitter-stream,1,203 bp,1000 bp,4294967296 bp,0 bp
+pnet-jitter-stream,1,65536 bp,1000 bp,900 bp,0 bp
+pnet-jitter-stream,256,203 bp,1000 bp,900 bp,0 bp
+pnet-jitter-stream
+pnet-jitter-stream,
+pnet-jitter,1,203 bp,1000 bp,900 bp,0 bp
+pnet-stream-jitter,1,203 bp,1000 bp,900 bp,0 bp
+pnet-jitter_stream,1,203 bp,1000 bp,900 bp,0 bp
+Pnet-jitter-stream,1,203 bp,1000 bp,900 bp,0 bp
+\x20pnet-jitter-stream,1,203 bp,1000 bp,900 bp,0 bp
 #
 x
 
@@ -391,6 +475,16 @@ def path_of(text):
     return made, [int(time) for time in repeated(times)], int(deadline), expected
 
 
+def asked_at(*stamps):
+    """Requests of stream 1 at these stamps, each answered 9 bp later."""
+    return events(*[(kind, 1, (stamp + later) % 2**32) for stamp in stamps for kind, later in ((16, 0), (17, 9))])
+
+
+def soon(data, capture):
+    """How many requests came too soon."""
+    return len(opinion.too_soon(opinion.read(data).streams, opinion.instants(capture)))
+
+
 # what the page or the readings say in prose, without an input of their own
 PROSE = [
     # 13 comes after 3, 10 and 11, and before 8 and 12
@@ -416,6 +510,43 @@ PROSE = [
     ("a window that holds one request",
      lambda: opinion.plan_pnet(sheet(*TWO_MASTERS[:3], (2, 2, 203, 1_260, 1_260))),
      "R 1000 500; W 760 500; rounds 1 1"),
+    # and 760 bp, the 500 bp and J are exactly T here, or one more
+    ("a window that holds one request, up to J late",
+     lambda: opinion.plan_pnet(sheet(*TWO_MASTERS[:3], (7, 2, 203, 1_560, 1_260, 300))),
+     "R 1000 500; W 760 500; rounds 1 1"),
+    ("a window that holds two requests, the first up to J late",
+     lambda: opinion.plan_pnet(sheet(*TWO_MASTERS[:3], (7, 2, 203, 1_560, 1_259, 301))),
+     "R 1000 500; W 1000 500; rounds 2 1"),
+    ("a master's own J counts for the others alone",
+     lambda: opinion.plan_pnet(
+         sheet((1, 2), (7, 1, 203, 100_000, 1_000, 99_000), (7, 1, 203, 100_000, 1_000, 99_000), *TWO_MASTERS[3:])),
+     "R 1000 500; W 760 500; rounds 1 1"),
+    ("kind 7 with J = 0 is kind 2",
+     lambda: opinion.plan_pnet(sheet(*WAITING[:3], (7, 2, 203, 1_000, 1_000, 0))),
+     "R 1000 500; W 1000 500; rounds 2 1"),
+    ("the greatest J",
+     lambda: opinion.plan_pnet(sheet(*TWO_MASTERS[:3], (7, 2, 203, 1_000_000_000, 500, 999_999_500))),
+     "R 1000 500; W 1000 500; rounds 2 1"),
+    ("the greatest J, and a deadline too short for it",
+     lambda: opinion.plan_pnet(sheet(*TWO_MASTERS[:3], (7, 2, 203, 1_000_000_000, 1, 999_999_999))), "8 at 3"),
+    ("80 of a master, by turns of kinds 2 and 7",
+     lambda: opinion.read(sheet((1, 2), *[(2, 1, 203, 1_000, 700), JITTER] * 40)), "accepted"),
+    ("the 81st of a master, of kind 2",
+     lambda: opinion.read(sheet((1, 2), *[(2, 1, 203, 1_000, 700), JITTER] * 40, (2, 1, 203, 1_000, 700))), "5 at 1122"),
+    ("the 81st of a master, of kind 7",
+     lambda: opinion.read(sheet((1, 2), *[(2, 1, 203, 1_000, 700), JITTER] * 40, JITTER)), "5 at 1122"),
+    ("79 of kind 2, and two of kind 7", lambda: opinion.read(sheet((1, 2), *TWO_MASTERS[1:2] * 79, JITTER, JITTER)), "5 at 966"),
+    ("the 81st of kind 7", lambda: opinion.read(sheet((1, 2), *[JITTER] * 81)), "5 at 1282"),
+    ("80 of one master and one of another", lambda: opinion.read(sheet((1, 2), *[JITTER] * 80, (7, 2, 203, 1_000, 700, 300))), "accepted"),
+    ("the longest sheet", lambda: len(JITTERS), "12802"),
+    ("the longest sheet is read", lambda: opinion.read(JITTERS), "accepted"),
+    ("the 801st stream, of kind 7", lambda: opinion.read(JITTERS + sheet((7, 32, 203, 1_000, 700, 300))), "5 at 12802"),
+    ("the 801st stream, of kind 2", lambda: opinion.read(JITTERS + sheet((2, 32, 203, 1_000, 700))), "5 at 12802"),
+    ("the 801st stream of kind 7, out of range", lambda: opinion.read(JITTERS + sheet((7, 32, 203, 1_000, 701, 300))), "4 at 12802"),
+    ("the 801st stream of kind 7, cut", lambda: opinion.read(JITTERS + b"\x07"), "1 at 12802"),
+    ("streams of both kinds are numbered together",
+     lambda: opinion.report(sheet((1, 1), (2, 1, 203, 9_999, 9_999), JITTER, (2, 1, 203, 1_000, 999), JITTER)),
+     "refused 8 at stream 2\n"),
     ("a 65th variable met before",
      lambda: opinion.read(
          sheet((5, 1), *[(6, i, 9) for i in range(64)], (6, 0, 9))), "5 at 453"),
@@ -471,7 +602,40 @@ PROSE = [
      "stream 1 M01 bound 500 bp 6510417 ns largest 0 bp 0 ns 0 answers 0 above 1 open\n"
      "stream 2 M01 bound 500 bp 6510417 ns largest 2 bp 26042 ns 1 answers 0 above 1 open\n"
      "requests open beyond the bound in 1 streams, first stream 1\n"
-     "requests sooner than T after the one before 1 times, first stream 2\n"),
+     "requests sooner than their spacing allows 1 times, first stream 2\n"),
+    ("requests T - J apart: the second is in time, the third too soon, and what follows goes by that one",
+     lambda: opinion.capture_report(sheet((1, 1), JITTER), asked_at(0, 700, 1_400, 2_100, 2_800)),
+     "P-NET capture\n"
+     "stream 1 M01 bound 250 bp 3255209 ns largest 9 bp 117188 ns 5 answers 0 above 0 open\n"
+     "requests sooner than their spacing allows 2 times, first stream 1\n"),
+    *[
+        ("requests of T 1000, J 300 at %s" % (stamps,),
+         lambda stamps=stamps: soon(sheet((1, 1), JITTER), asked_at(*stamps)), str(times))
+        for stamps, times in [
+            ((0, 700), 0),
+            ((0, 699), 1),
+            ((0, 700, 1_700), 0),
+            ((0, 700, 1_699), 1),
+            ((0, 1_000, 1_700), 0),
+            ((0, 1_000, 1_699), 1),
+            ((0, 1_300, 2_000), 0),
+            ((0, 900, 1_700, 2_700), 0),
+            ((0, 900, 1_700, 2_699), 1),
+            # one that comes late enough is its own label, however far ahead the one before was
+            ((0, 700, 2_000, 2_700), 0),
+            ((0, 700, 2_001, 2_700), 1),
+            ((0, 699, 1_399), 1),
+            ((0, 699, 1_398), 2),
+            ((0, 100, 200, 300), 3),
+            # around the counter's end
+            ((4_294_966_796, 200, 1_200), 0),
+            ((4_294_966_796, 200, 1_199), 1),
+            ((4_294_966_796, 199), 1),
+        ]
+    ],
+    ("J of one stream is not the other's",
+     lambda: soon(sheet((1, 1), (2, 1, 203, 1_000, 700), JITTER),
+                  events((16, 1, 0), (17, 1, 5), (16, 2, 5), (17, 2, 9), (16, 1, 700), (17, 1, 701), (16, 2, 705))), "1"),
     ("a refused capture", lambda: opinion.capture_report(sheet(*TWO_MASTERS), events((17, 1, 0))),
      "refused 15 at capture byte 0\n"),
     ("the report of a path",
@@ -551,7 +715,11 @@ PROSE = [
     ("a bad line in a path, behind a refused sheet",
      lambda: opinion.path_report([(sheet(*FOUR_MASTERS_LATE), 1), (b"pnet-segment,\n", 2)], [0], 1),
      "refused 8 at stream 5 of segment 1\n"),
-    ("unknown kind to the writer", lambda: opinion.write_record(0, 9, 7, ()), "2 at 9"),
+    ("the most room that a sheet takes", lambda: opinion.import_text(opinion.export_sheet(JITTERS), 12_801), "13 at 12802"),
+    ("the 801st line of a stream, behind lines of kind 7",
+     lambda: opinion.import_text(opinion.export_sheet(JITTERS) + GOOD_LINE), "5 at 12802"),
+    ("the word of kind 7 makes a text", lambda: opinion.report(b"pnet-jitter-stream,"), "refused 23 at line 1\n"),
+    ("unknown kind to the writer", lambda: opinion.write_record(0, 9, 8, ()), "2 at 9"),
     ("a whole record", lambda: opinion.write_record(14, 2, 2, (32, 1_548, 9, 9)),
      "0220060c0000000900000009 then 14"),
     ("one byte short", lambda: opinion.write_record(13, 2, 2, (32, 1_548, 9, 9)), "13 at 14"),
