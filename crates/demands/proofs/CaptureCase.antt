@@ -87,8 +87,8 @@ pub none-counts-as-too-soon : followed (streamRun (bounded bytes most) spacingOf
     ≡ 0
 unfolding capture
 none-counts-as-too-soon =
-    no-request-counts-as-too-soon bytes lent lent lent sheet accepts run 4294967196 spaced close (omega arith) capture 2 (omega arith) refl capture-is-the-log
-    zeros zeros zeros
+    no-request-counts-as-too-soon bytes lent lent lent sheet accepts run 4294967196 close (omega arith) capture 2 (omega arith) refl capture-is-the-log
+    zeros zeros zeros spaced
 
 -- stream 2 asks with stream 1, and still waits when that one has its answer
 unfoldable pub both : Run page 210 (toward (next (page .masters) 1) 40) (put (join (join (λ y. []) 1 (request 1 0)) 1 (request 2 0)) 1 (request 2 0 ∷ []))

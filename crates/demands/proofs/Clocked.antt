@@ -357,11 +357,10 @@ module _ (T J : ℕ → ℕ) where
   dues z (serve e x c run p a b k f g o) close timed-all i = dues z run close timed-all i
   dues z (skip e run p a b) close timed-all i = dues z run close timed-all i
 
-pub timely-spaced : {S : Segment} {t : ℕ} {y : Token} {q : Queues} {came : List Request} {went : List Answer} (z : ℕ) (run : Run S t y q came went)
-    → Close (instantsOf run) → Timely (λ i. S .stream i .spacing) (λ i. S .stream i .jitter) (logOf z run) → (k : ℕ) → Spaced S k came
-timely-spaced {S} z run close timed-all k i b =
-    let p = dues (λ j. S .stream j .spacing) (λ j. S .stream j .jitter) z run close timed-all i in
-    (p .due, p .kept)
+-- of each stream, with the spacing T i and the jitter J i
+pub timely-kept : (T J : ℕ → ℕ) {S : Segment} {t : ℕ} {y : Token} {q : Queues} {came : List Request} {went : List Answer} (z : ℕ) (run : Run S t y q came went)
+    → Close (instantsOf run) → Timely T J (logOf z run) → (i : ℕ) → (due : List ℕ) × Kept (T i) (J i) i came due
+timely-kept T J z run close timed-all i = let p = dues T J z run close timed-all i in (p .due, p .kept)
 
 -- ---- Requests that are open
 

@@ -15,7 +15,7 @@ use Rattle.pnet_run.specs.Promise.{Spaced, Accepted}
 use Rattle.capture_watch.specs.Ages.{clock, broken, soon, whose, beyond}
 use Rattle.capture_watch.proofs.True.{true-clock}
 use Rattle.demands.specs.Logged.{logOf, instantsOf, first, Close}
-use Rattle.demands.proofs.Clocked.{recorded, timed, unbroken, Timely, timely, timely-spaced, soon-none, whose-none, none-soon, open-within}
+use Rattle.demands.proofs.Clocked.{recorded, timed, unbroken, Timely, timely, timely-kept, soon-none, whose-none, none-soon, open-within}
 
 -- a run of any segment S, the counter at its start, and its records' instants
 module _ (S : Segment) {now : ℕ} {token : Token} {queues : Queues} {came : List Request} {went : List Answer} (run : Run S now token queues came went) (z : ℕ)
@@ -49,7 +49,7 @@ module _ (S : Segment) {now : ℕ} {token : Token} {queues : Queues} {came : Lis
 
   -- where that count is 0, every master keeps its spacing: nominal times can be found for all requests
   pub none-too-soon-is-spacing-kept : soon spacings jitters (logOf z run) ≡ 0 → (k : ℕ) → Spaced S k came
-  none-too-soon-is-spacing-kept none = timely-spaced z run close (none-soon spacings jitters (logOf z run) none)
+  none-too-soon-is-spacing-kept none k i own = timely-kept spacings jitters z run close (none-soon spacings jitters (logOf z run) none) i
 
   -- The segment is accepted, master k keeps its spacing, and stream i is one of its own. Nothing is supposed of the other masters.
   module _ (accepted : Accepted S) (k : ℕ) (spaced : Spaced S k came) (i : ℕ) (own : Belongs S k i) where

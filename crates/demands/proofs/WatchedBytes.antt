@@ -1,11 +1,12 @@
 -- Page 02, 'Ask 1', beside docs/DECISIONS.md, 'What a capture's bounds rest on', from the bytes of a sheet and of a capture: where a capture is
 -- the log of a fault-free run of the model on an accepted sheet whose masters keep their spacing, and its successive records are less than
 -- 2^31 bp apart, following it counts no request as too soon and no two records as too far apart, and finds no request open beyond its bound.
--- So of such a capture no line of the report says any of these. `planned` is what the planner answers, `bounded` and `streamRun` are what the
+-- So of such a capture no line of the report says any of these. And where the log of a run is not refused as a capture and counts no request as
+-- too soon, its masters keep their spacing: the line on these stands there exactly if some master breaks it. `planned` is what the planner answers, `bounded` and `streamRun` are what the
 -- sheet gives to lay a capture beside, `followed` is what is kept of a capture, `answerTo` is what taking it answers, and `runBy` with `leftAfter`,
 -- and `overdueRun`, are the runs of open requests and of those open for too long: all are words of contracts. Assumes nothing.
 use Prim.Native.Nat.{ℕ, _+_, _-_, _*_, _/_, _^_, _≤_, _<_}
-use mathlib.Core.Path.{_≡_, refl, ap, _∙_}
+use mathlib.Core.Path.{_≡_, refl, sym, ap, _∙_}
 use mathlib.Core.Bool.{false}
 use mathlib.Core.List.{List}
 use native.Mathlib.Omega.{arith}
@@ -27,7 +28,7 @@ use Rattle.capture_tally.specs.declared.Taken.{Taken}
 use Rattle.capture_tally.specs.declared.Taken.the-variants as answer
 use Rattle.capture_tally.specs.Pieces.{before, answerTo, runBy, leftAfter}
 use Rattle.capture_compare.proofs.Told.{whole-taken, left-whole}
-use Rattle.capture_watch.specs.Ages.{clock, beyond}
+use Rattle.capture_watch.specs.Ages.{clock, soon, beyond}
 use Rattle.capture_watch.specs.Follow.{most, began, Seen, seen, followed, metIn, overdueRun}
 use Rattle.capture_watch.proofs.Means.{ofStream, Keeps, overdue-means}
 use Rattle.capture_watch.proofs.Passed.{passed-count, passed-means}
@@ -35,7 +36,7 @@ use Rattle.demands.specs.Logged.{logOf, instantsOf, Close}
 use Rattle.demands.proofs.Demand3.{accepted-as-demanded}
 use Rattle.demands.proofs.Captured.{the-capture-passes}
 use Rattle.demands.proofs.CapturedBytes.{at-its-place}
-use Rattle.demands.proofs.Clocked.{recorded, clock-within, Timely, timely, soon-none, whose-none}
+use Rattle.demands.proofs.Clocked.{recorded, clock-within, Timely, timely, timely-kept, soon-none, whose-none, none-soon}
 use Rattle.demands.proofs.Watched.{no-gap-counts, no-request-open-beyond-the-bound}
 
 -- 800 places that hold nothing yet
@@ -52,9 +53,8 @@ zeros-each i l = zero-at most i
 
 -- the bytes s, and the planner's three lent runs; it accepts the sheet H that the bytes say
 module _ (s bounds refined rounds : List ℕ) (H : Sheet) (accepts : planned s (length bounds) (length refined) (length rounds) ≡ Read H)
-    -- a run of its bus that found the tester's counter at z, in which every master keeps its spacing
+    -- a run of its bus that found the tester's counter at z
     {now : ℕ} {token : Token} {queues : Queues} {came : List Request} {went : List Answer} (run : Run (segmentOf H) now token queues came went) (z : ℕ)
-    (spaced : (k : ℕ) → Spaced (segmentOf H) k came)
     -- its successive records are less than 2^31 bp apart, and it lasts for less than 2^64 - 1 bp
     (close : Close (instantsOf run)) (lasts : now + 1 < 2 ^ 64)
     -- the bytes c, fewer than 2^64, have n records, those of the run's log
@@ -100,62 +100,80 @@ module _ (s bounds refined rounds : List ℕ) (H : Sheet) (accepts : planned s (
 
   -- ---- The records
 
-  passes : heard c (length (H .streams)) fresh ≡ Passed
-  unfolding segmentOf
-  passes = the-capture-passes (segmentOf H) as-demanded run z spaced c n long logged
-
   all-records : eventsIn c (length c / size) ≡ logOf z run
   all-records = let e : length c / size ≡ n = omega arith in ap (eventsIn c) e ∙ logged
 
   short : clock (eventsIn c (length c / size)) < 2 ^ 64
   short = rw all-records (omega (arith, clock-within (recorded z run close)))
 
-  keeps : Keeps T J (eventsIn c (length c / size)) kept
-  keeps = passed-means c (length (H .streams)) passes streams-few T J zeros zeros-long zeros-each few short
-
-  -- all of them are taken
-  pub the-capture-is-taken : told ≡ answer.All
-  unfolding zeros
-  the-capture-is-taken = whole-taken c (length (H .streams)) streams-few passes
-
-  left-at : (i : ℕ) → i < most → getD lefts i 0 ≡ left fresh (eventsIn c (length c / size)) (i + 1)
-  unfolding zeros events
-  left-at i l =
-      rw the-capture-is-taken
-      (left-whole c i l ∙ ap (λ (j : ℕ). left fresh (eventsIn c j) (i + 1)) (passed-count c (length (H .streams)) passes))
-
-  in-time : Timely (ofStream T) (ofStream J) (logOf z run)
+  -- T and J of a stream of the segment
+  spacing-is : {k i : ℕ} → Belongs (segmentOf H) k i → ofStream T i ≡ spacingOf (segmentOf H) i
   unfolding segmentOf
-  in-time =
-      timely (ofStream T) (ofStream J) (as-demanded .declared)
-      (λ k i own. omega (arith, at-its-place the-sheet-is-taken i (own .from-one) (own .to-last) spacingOf spacings))
-      (λ k i own. omega (arith, at-its-place the-sheet-is-taken i (own .from-one) (own .to-last) jitterOf jitters)) z run close spaced
+  spacing-is {i = i} own = at-its-place the-sheet-is-taken i (own .from-one) (own .to-last) spacingOf spacings
 
-  -- ---- What is shown
+  jitter-is : {k i : ℕ} → Belongs (segmentOf H) k i → ofStream J i ≡ jitterOf (segmentOf H) i
+  unfolding segmentOf
+  jitter-is {i = i} own = at-its-place the-sheet-is-taken i (own .from-one) (own .to-last) jitterOf jitters
 
-  -- the count of requests that came too soon is 0, so no stream is named
-  pub no-request-counts-as-too-soon : kept .watch .soon ≡ 0
-  no-request-counts-as-too-soon = keeps .soon-is ∙ rw all-records (soon-none in-time)
+  -- ---- A capture that is not refused
 
-  pub no-stream-is-named-as-too-soon : kept .watch .whose ≡ 0
-  no-stream-is-named-as-too-soon = keeps .whose-is ∙ rw all-records (whose-none in-time)
+  module _ (passes : heard c (length (H .streams)) fresh ≡ Passed) where
+    keeps : Keeps T J (eventsIn c (length c / size)) kept
+    keeps = passed-means c (length (H .streams)) passes streams-few T J zeros zeros-long zeros-each few short
 
-  -- no two successive records count as out of order or 2^31 bp apart
-  pub ages-and-gaps-are-known : kept .watch .broken ≡ false
-  ages-and-gaps-are-known = keeps .broken-is ∙ rw all-records (no-gap-counts (segmentOf H) run z close)
+    -- where it counts no request as too soon, every master keeps its spacing
+    pub none-counted-is-spacing-kept : kept .watch .soon ≡ 0 → (k : ℕ) → Spaced (segmentOf H) k came
+    none-counted-is-spacing-kept none k i own =
+        let all : soon (ofStream T) (ofStream J) (logOf z run) ≡ 0 = rw all-records at (sym (keeps .soon-is) ∙ none) in
+        let d = timely-kept (ofStream T) (ofStream J) z run close (none-soon (ofStream T) (ofStream J) (logOf z run) all) i in
+        (d .0, rw (spacing-is own, jitter-is own) at (d .1))
 
-  -- of each stream
-  module _ (i : ℕ) (from : 1 ≤ i) (to : i ≤ length (H .streams)) where
-    within-its-bound : (figure : ℕ) → figure ≡ boundOf (segmentOf H) i → beyond figure (logOf z run) i ≡ false
-    unfolding boundOf segmentOf
-    within-its-bound figure is =
-        let k = segmentOf H .stream i .master in
-        let own : Belongs (segmentOf H) k i = record { from-one = from; to-last = to; own = refl } in
-        rw is (no-request-open-beyond-the-bound (segmentOf H) run z close as-demanded k (spaced k) i own)
+  -- ---- Every master keeps its spacing
 
-    -- no request counts as open for longer than the bound
-    pub no-request-counts-as-open-too-long : getD (overdueRun (kept .watch .clock) R lefts (kept .asked)) (i - 1) 0 ≡ 0
-    no-request-counts-as-open-too-long =
-        let e : i - 1 + 1 ≡ i = omega arith in
-        overdue-means keeps short R lefts left-at (i - 1) (omega (arith, streams-few))
-        ∙ rw (all-records, e, within-its-bound _ (at-its-place the-sheet-is-taken i from to boundOf limits)) refl
+  module _ (spaced : (k : ℕ) → Spaced (segmentOf H) k came) where
+    passes : heard c (length (H .streams)) fresh ≡ Passed
+    unfolding segmentOf
+    passes = the-capture-passes (segmentOf H) as-demanded run z spaced c n long logged
+
+    -- all of its records are taken
+    pub the-capture-is-taken : told ≡ answer.All
+    unfolding zeros
+    the-capture-is-taken = whole-taken c (length (H .streams)) streams-few passes
+
+    left-at : (i : ℕ) → i < most → getD lefts i 0 ≡ left fresh (eventsIn c (length c / size)) (i + 1)
+    unfolding zeros events
+    left-at i l =
+        rw the-capture-is-taken
+        (left-whole c i l ∙ ap (λ (j : ℕ). left fresh (eventsIn c j) (i + 1)) (passed-count c (length (H .streams)) passes))
+
+    in-time : Timely (ofStream T) (ofStream J) (logOf z run)
+    in-time =
+        timely (ofStream T) (ofStream J) (as-demanded .declared) (λ k i own. omega (arith, spacing-is own)) (λ k i own. omega (arith, jitter-is own)) z run close
+        spaced
+
+    -- the count of requests that came too soon is 0, so no stream is named
+    pub no-request-counts-as-too-soon : kept .watch .soon ≡ 0
+    no-request-counts-as-too-soon = keeps passes .soon-is ∙ rw all-records (soon-none in-time)
+
+    pub no-stream-is-named-as-too-soon : kept .watch .whose ≡ 0
+    no-stream-is-named-as-too-soon = keeps passes .whose-is ∙ rw all-records (whose-none in-time)
+
+    -- no two successive records count as out of order or 2^31 bp apart
+    pub ages-and-gaps-are-known : kept .watch .broken ≡ false
+    ages-and-gaps-are-known = keeps passes .broken-is ∙ rw all-records (no-gap-counts (segmentOf H) run z close)
+
+    -- of each stream
+    module _ (i : ℕ) (from : 1 ≤ i) (to : i ≤ length (H .streams)) where
+      within-its-bound : (figure : ℕ) → figure ≡ boundOf (segmentOf H) i → beyond figure (logOf z run) i ≡ false
+      unfolding boundOf segmentOf
+      within-its-bound figure is =
+          let k = segmentOf H .stream i .master in
+          let own : Belongs (segmentOf H) k i = record { from-one = from; to-last = to; own = refl } in
+          rw is (no-request-open-beyond-the-bound (segmentOf H) run z close as-demanded k (spaced k) i own)
+
+      -- no request counts as open for longer than the bound
+      pub no-request-counts-as-open-too-long : getD (overdueRun (kept .watch .clock) R lefts (kept .asked)) (i - 1) 0 ≡ 0
+      no-request-counts-as-open-too-long =
+          let e : i - 1 + 1 ≡ i = omega arith in
+          overdue-means (keeps passes) short R lefts left-at (i - 1) (omega (arith, streams-few))
+          ∙ rw (all-records, e, within-its-bound _ (at-its-place the-sheet-is-taken i from to boundOf limits)) refl

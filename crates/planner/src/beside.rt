@@ -67,14 +67,16 @@ fn listen(
     masters: &[u8; MOST],
     bound: &[u32; MOST],
     spacing: &[u32; MOST],
+    jitter: &[u32; MOST],
     left: &mut [u8; MOST],
     since: &mut [u32; MOST],
     answers: &mut [u64; MOST],
     largest: &mut [u32; MOST],
     above: &mut [u64; MOST],
     asked: &mut [u64; MOST],
+    lead: &mut [u32; MOST],
 ) -> u8
-    requires { ⌜ Holds (now sheet) begun (now masters) (now bound) (now spacing) (tally (now left) (now since) (now answers) (now largest) (now above) (now asked)) ⌝ }
+    requires { ⌜ Holds (now sheet) begun (now masters) (now bound) (now spacing) (now jitter) (tally (now left) (now since) (now answers) (now largest) (now above) (now asked) (now lead)) ⌝ }
 {
     let mut heard = begun;
     let mut piece = [0u8; PIECE];
@@ -91,12 +93,14 @@ fn listen(
             heard,
             bound,
             spacing,
+            jitter,
             left,
             since,
             answers,
             largest,
             above,
             asked,
+            lead,
         );
         match told {
             Heard::Refused(m) => return write(sheet, text, m, false),
@@ -131,24 +135,28 @@ pub(crate) fn compare(sheet: &[u8], fd: i32, name: &[u8]) -> u8 {
     let mut masters = [0u8; MOST];
     let mut bound = [0u32; MOST];
     let mut spacing = [0u32; MOST];
+    let mut jitter = [0u32; MOST];
     let mut left = [0u8; MOST];
     let mut since = [0u32; MOST];
     let mut answers = [0u64; MOST];
     let mut largest = [0u32; MOST];
     let mut above = [0u64; MOST];
     let mut asked = [0u64; MOST];
+    let mut lead = [0u32; MOST];
     let begun = report_beside::begin(
         sheet,
         &mut text,
         &mut masters,
         &mut bound,
         &mut spacing,
+        &mut jitter,
         &mut left,
         &mut since,
         &mut answers,
         &mut largest,
         &mut above,
         &mut asked,
+        &mut lead,
     );
     match begun {
         Begun::Refused(n) => write(sheet, &text, n, false),
@@ -161,12 +169,14 @@ pub(crate) fn compare(sheet: &[u8], fd: i32, name: &[u8]) -> u8 {
             &masters,
             &bound,
             &spacing,
+            &jitter,
             &mut left,
             &mut since,
             &mut answers,
             &mut largest,
             &mut above,
             &mut asked,
+            &mut lead,
         ),
     }
 }

@@ -146,7 +146,7 @@ true below 4294967296 bp. Its report has a line for each stream: bound and
 largest response, both in bp and in ns, rounded up; answers, answers above the
 bound, and 1 or 0 requests left open. Its last lines say what is wrong: answers
 above the bound; requests open beyond the bound at the last record; requests
-that came sooner after the one before than T, on which the bound rests; no
+that came sooner than their spacing allows, on which the bound rests; no
 answer at all. Ages and gaps are true while records follow each other within
 2147483648 bp; where they do not, the last lines say that instead.
 ",

@@ -54,12 +54,19 @@ fn take_by(
 }
 
 // Follows it in the same pieces.
-fn follow_by(c: &[u8], size: usize, spacing: &[u32; 800], asked: &mut [u64; 800]) -> Watch {
+fn follow_by(
+    c: &[u8],
+    size: usize,
+    spacing: &[u32; 800],
+    jitter: &[u32; 800],
+    asked: &mut [u64; 800],
+    lead: &mut [u32; 800],
+) -> Watch {
     let mut w = capture_watch::start();
     let mut at: usize = 0;
     while at < c.len() {
         let end = end_of(c.len(), at, size);
-        w = capture_watch::follow(&c[at..end], w, spacing, asked);
+        w = capture_watch::follow(&c[at..end], w, spacing, jitter, asked, lead);
         at = end;
     }
     w
@@ -72,18 +79,27 @@ fn try_watch(
     n: usize,
     bound: &[u32; 800],
     spacing: &[u32; 800],
+    jitter: &[u32; 800],
     left: &[u8; 800],
 ) {
     let mut asked = [0u64; 800];
+    let mut lead = [0u32; 800];
     let mut late = [170u64; 800];
-    let w = follow_by(c, size, spacing, &mut asked);
+    let w = follow_by(c, size, spacing, jitter, &mut asked, &mut lead);
     capture_watch::overdue(w, bound, left, &asked, &mut late);
     say_watch(w);
     say_run(b"; overdue", n, &late);
 }
 
 // Its figures, beside the bounds of a sheet that is accepted; behind a refused piece, those of the pieces before.
-fn try_takes(c: &[u8], size: usize, n: usize, bound: &[u32; 800], spacing: &[u32; 800]) {
+fn try_takes(
+    c: &[u8],
+    size: usize,
+    n: usize,
+    bound: &[u32; 800],
+    spacing: &[u32; 800],
+    jitter: &[u32; 800],
+) {
     let mut left = [0u8; 800];
     let mut since = [0u32; 800];
     let mut answers = [0u64; 800];
@@ -102,7 +118,7 @@ fn try_takes(c: &[u8], size: usize, n: usize, bound: &[u32; 800], spacing: &[u32
     );
     say_figures(n, 0, &answers, &largest, &above, &left);
     if all {
-        try_watch(c, size, n, bound, spacing, &left);
+        try_watch(c, size, n, bound, spacing, jitter, &left);
     }
 }
 
@@ -111,9 +127,10 @@ pub(crate) fn try_pieces(s: &[u8], c: &[u8], size: usize) {
     let mut masters = [0u8; 800];
     let mut bound = [0u32; 800];
     let mut spacing = [0u32; 800];
-    let plan = pnet_bounds::bounds(s, 800, &mut masters, &mut bound, &mut spacing);
+    let mut jitter = [0u32; 800];
+    let plan = pnet_bounds::bounds(s, 800, &mut masters, &mut bound, &mut spacing, &mut jitter);
     let n = say_plan(plan);
     if n != 0 {
-        try_takes(c, size, n, &bound, &spacing);
+        try_takes(c, size, n, &bound, &spacing, &jitter);
     }
 }

@@ -14,11 +14,11 @@ use Rattle.planner.proofs.beside.listen.Statement.{statement}
 use Rattle.planner.proofs.beside.listen.Tie as tie
 
 abbrev Inv-loop : tie.InvT-loop
-Inv-loop sheet fd name text₀ masters bound spacing left₀ since₀ answers₀ largest₀ above₀ asked₀ heard₀ piece₀ t22 text left since answers largest above asked heard piece =
-    Holds sheet heard masters bound spacing (tally left since answers largest above asked) × (length piece ≡ 65534)
+Inv-loop sheet fd name text₀ masters bound spacing jitter left₀ since₀ answers₀ largest₀ above₀ asked₀ lead₀ heard₀ piece₀ t22 text left since answers largest above asked lead heard piece =
+    Holds sheet heard masters bound spacing jitter (tally left since answers largest above asked lead) × (length piece ≡ 65534)
 
 abbrev μ-loop : tie.MeasureT-loop
-μ-loop sheet fd name text₀ masters bound spacing left₀ since₀ answers₀ largest₀ above₀ asked₀ heard₀ piece₀ t22 text left since answers largest above asked heard piece =
+μ-loop sheet fd name text₀ masters bound spacing jitter left₀ since₀ answers₀ largest₀ above₀ asked₀ lead₀ heard₀ piece₀ t22 text left since answers largest above asked lead heard piece =
     2 ^ 63 + 65534 - heard .bytes
 
 loop-holds : tie.Need-loop-holds Inv-loop μ-loop
@@ -59,7 +59,7 @@ enum-known-told c = search needs
 write-requires : tie.Need-write-requires Inv-loop μ-loop
 write-requires c κs =
     let h = c .before .before .before .before .hear in
-    heard-tells (c .before .before .before .before .before .before .before .before .before .before .before .before .before .before .before .before .before .loop .inv .0) _ _ _ _ _ (h .ensures .1) _ (c .before .before .told .given .1)
+    heard-tells (c .before .before .before .before .before .before .before .before .before .before .before .before .before .before .before .before .before .before .loop .inv .0) _ _ _ _ _ (h .ensures .1) _ (c .before .before .told .given .1)
 
 returns-2 : tie.Need-returns-2 Inv-loop μ-loop
 returns-2 c = search needs
@@ -80,23 +80,23 @@ enum-known-told-2 : tie.Need-enum-known-told-2 Inv-loop μ-loop
 enum-known-told-2 c = search needs
 
 -- the piece was heard: the runs hold what it leaves too
-goes : (c : tie.After-told2 Inv-loop μ-loop) → Holds (now (c .before .before .before .before .before .before .before .before .before .before .before .before .before .before .before .before .before .before .args .sheet)) (c .told2 .given .0 .0) (now (c .before .before .before .before .before .before .before .before .before .before .before .before .before .before .before .before .before .before .args .masters)) (now (c .before .before .before .before .before .before .before .before .before .before .before .before .before .before .before .before .before .before .args .bound)) (now (c .before .before .before .before .before .before .before .before .before .before .before .before .before .before .before .before .before .before .args .spacing)) (tally (c .before .before .hear .last .1 .1 .1 .1 .1 .0) (c .before .before .hear .last .1 .1 .1 .1 .1 .1 .0) (c .before .before .hear .last .1 .1 .1 .1 .1 .1 .1 .0) (c .before .before .hear .last .1 .1 .1 .1 .1 .1 .1 .1 .0) (c .before .before .hear .last .1 .1 .1 .1 .1 .1 .1 .1 .1 .0) (c .before .before .hear .last .1 .1 .1 .1 .1 .1 .1 .1 .1 .1 .0))
-goes c = heard-holds (c .before .before .before .before .before .before .before .before .before .before .before .before .before .before .before .loop .inv .0) _ _ _ _ _ (c .before .before .hear .ensures .1) _ (c .told2 .given .1)
+goes : (c : tie.After-told2 Inv-loop μ-loop) → Holds (now (c .before .before .before .before .before .before .before .before .before .before .before .before .before .before .before .before .before .before .before .args .sheet)) (c .told2 .given .0 .0) (now (c .before .before .before .before .before .before .before .before .before .before .before .before .before .before .before .before .before .before .before .args .masters)) (now (c .before .before .before .before .before .before .before .before .before .before .before .before .before .before .before .before .before .before .before .args .bound)) (now (c .before .before .before .before .before .before .before .before .before .before .before .before .before .before .before .before .before .before .before .args .spacing)) (now (c .before .before .before .before .before .before .before .before .before .before .before .before .before .before .before .before .before .before .before .args .jitter)) (tally (c .before .before .hear .last .1 .1 .1 .1 .1 .1 .0) (c .before .before .hear .last .1 .1 .1 .1 .1 .1 .1 .0) (c .before .before .hear .last .1 .1 .1 .1 .1 .1 .1 .1 .0) (c .before .before .hear .last .1 .1 .1 .1 .1 .1 .1 .1 .1 .0) (c .before .before .hear .last .1 .1 .1 .1 .1 .1 .1 .1 .1 .1 .0) (c .before .before .hear .last .1 .1 .1 .1 .1 .1 .1 .1 .1 .1 .1 .0) (c .before .before .hear .last .1 .1 .1 .1 .1 .1 .1 .1 .1 .1 .1 .1 .0))
+goes c = heard-holds (c .before .before .before .before .before .before .before .before .before .before .before .before .before .before .before .before .loop .inv .0) _ _ _ _ _ (c .before .before .hear .ensures .1) _ (c .told2 .given .1)
 
 finish-requires : tie.Need-finish-requires Inv-loop μ-loop
-finish-requires c κs = record { spacing = _; since = _; held = goes (c .before .before .before .before .before .before .before .before) }
+finish-requires c κs = record { spacing = _; jitter = _; since = _; lead = _; held = goes (c .before .before .before .before .before .before .before .before) }
 
 returns-4 : tie.Need-returns-4 Inv-loop μ-loop
 returns-4 c = search needs
 
 loop-less : tie.Need-loop-less Inv-loop μ-loop
 loop-less c =
-    let read = c .before .before .before .before .before .before .before .before .before .before .before .before .before .before .before in
-    let counted = heard-counts (c .before .before .before .before .before .before .before .before .before .before .before .before .before .before .before .before .before .loop .inv .0) _ _ _ _ _ (c .before .before .before .before .hear .ensures .1) _ (c .before .before .told2 .given .1) in
+    let read = c .before .before .before .before .before .before .before .before .before .before .before .before .before .before .before .before in
+    let counted = heard-counts (c .before .before .before .before .before .before .before .before .before .before .before .before .before .before .before .before .before .before .loop .inv .0) _ _ _ _ _ (c .before .before .before .before .hear .ensures .1) _ (c .before .before .told2 .given .1) in
     omega (arith, counted, length-take-le (read .read-all .result .length) (read .read-all .last .1 .0) (within read), c .if2 .left)
 
 loop-again : tie.Need-loop-again Inv-loop μ-loop
-loop-again c = (goes (c .before .before), long (c .before .before .before .before .before .before .before .before .before .before .before .before .before .before .before))
+loop-again c = (goes (c .before .before), long (c .before .before .before .before .before .before .before .before .before .before .before .before .before .before .before .before))
 
 pub listen-spec : {M : Type 1} → statement M
 listen-spec =

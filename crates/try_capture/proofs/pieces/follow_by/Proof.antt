@@ -6,10 +6,10 @@ use Rattle.try_capture.proofs.pieces.follow_by.Statement.{statement}
 use Rattle.try_capture.proofs.pieces.follow_by.Tie as tie
 
 abbrev Inv-loop : tie.InvT-loop
-Inv-loop c size spacing asked₀ w₀ at₀ asked w at = at ≤ length c
+Inv-loop c size spacing jitter asked₀ lead₀ w₀ at₀ asked lead w at = at ≤ length c
 
 abbrev μ-loop : tie.MeasureT-loop
-μ-loop c size spacing asked₀ w₀ at₀ asked w at = length c - at
+μ-loop c size spacing jitter asked₀ lead₀ w₀ at₀ asked lead w at = length c - at
 
 start-requires : tie.Need-start-requires Inv-loop μ-loop
 start-requires c κs = search needs
