@@ -83,8 +83,9 @@ fn rules() -> bool {
         b"
 The first record is 1, 3 or 5; all later ones are 2 or 7, 4 or 6 to match. P-NET
 and PROFIBUS: at most 800 streams, at most 80 for one master. WorldFIP: at most
-64 variables, no identifier twice. us are microseconds and ns nanoseconds. bp are
-bit periods: of P-NET, 48 in 625 us or 6 in 78125 ns; of that ring for PROFIBUS.
+64 variables, no identifier twice. us are microseconds and ns nanoseconds.
+bp are bit periods: of P-NET, 48 in 625 us or 6 in 78125 ns; of that ring for
+PROFIBUS.
 
 A P-NET stream keeps its spacing if each request comes 0 to J after a nominal
 time of its own, and these are at least T apart; without jitter, if its requests
@@ -174,7 +175,7 @@ fn refusals() -> bool {
         b"
 A sheet that cannot be planned is refused with a number and a place:
 
-   1  it is empty, or ends inside a record    2  a kind that is not 1..6
+   1  it is empty, or ends inside a record    2  a kind that is not 1..7
    3  a kind in the wrong position            4  a field out of range
    5  one stream more than a limit allows     6  a first record and no stream
    7  an identifier met before                8  a P-NET bound above a deadline

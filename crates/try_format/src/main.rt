@@ -24,10 +24,10 @@ fn say_place(at: usize, room: usize) {
 
 // The unit of a record's times, by its bus.
 fn say_unit(kind: u8) {
-    if kind < 5 {
-        say(b", times in bp: ");
-    } else {
+    if (kind == 5) | (kind == 6) {
         say(b", times in us: ");
+    } else {
+        say(b", times in bp: ");
     }
 }
 
