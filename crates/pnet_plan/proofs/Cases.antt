@@ -32,7 +32,8 @@ use Rattle.pnet_plan.specs.Planned.{firstLate, planChecks, plannedBy, pl
 use Rattle.units.specs.Units.{capped}
 use Rattle.units.specs.declared.BitPeriods.{BitPeriods}
 use Rattle.pnet_turn.specs.Turn.{at, chargeIn, turnOf}
-use Rattle.pnet_plan.specs.Arrays.{segmentIn, Sheeted, SetOut, Grouped, turnIn, boundIn, refinedIn, roundsIn, Kept, Slack}
+use Rattle.pnet_search.specs.Arrays.{turnIn, boundIn, refinedIn, roundsIn, Kept, Slack}
+use Rattle.pnet_plan.specs.Arrays.{segmentIn, Sheeted, SetOut, Grouped}
 use Rattle.pnet_plan.proofs.Bytes.{declares, number-is}
 use Rattle.pnet_plan.proofs.Gathering.{grouped-none}
 use Rattle.pnet_plan.proofs.Tied.{Laid, kept, turn-tied, slack-tied, bound-tied, rounds-tied, refined-tied}

@@ -14,7 +14,8 @@ use Rattle.common.proofs.Sums.{upto-more, upto-same, upto-part, upto-even, upto
 use Rattle.pnet_rules.specs.Segment.{Segment, owns, count}
 use Rattle.pnet_rules.specs.Limits.{Declared}
 use Rattle.pnet_turn.specs.Turn.{at}
-use Rattle.pnet_plan.specs.Arrays.{part, spacingAt, jitterAt, Grouped}
+use Rattle.pnet_search.specs.Arrays.{spacingAt, jitterAt}
+use Rattle.pnet_plan.specs.Arrays.{part, Grouped}
 
 -- ---- Where the pairs of a master stand
 

@@ -1,6 +1,3 @@
-pub mod Looks
-pub mod Arrays
-pub mod Searching
 pub mod Masters
 pub mod Gathering
 pub mod Bytes

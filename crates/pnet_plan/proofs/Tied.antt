@@ -13,7 +13,8 @@ use Rattle.pnet_rules.specs.Refined.{saving, rightBy, mostRounds, askedBy, righ
 use Rattle.pnet_rules.specs.Limits.{Declared}
 use Rattle.pnet_rules.proofs.Holds.{hold-at-least, hold-at-most, bound-at-most}
 use Rattle.pnet_turn.specs.Turn.{at}
-use Rattle.pnet_plan.specs.Arrays.{spacingAt, jitterAt, Grouped, askedIn, askedAt, turnIn, boundIn, savedIn, rightIn, roundsIn, refinedIn, Spaced, Served, Kept, Slack}
+use Rattle.pnet_search.specs.Arrays.{spacingAt, jitterAt, askedIn, askedAt, turnIn, boundIn, savedIn, rightIn, roundsIn, refinedIn, Spaced, Served, Kept, Slack}
+use Rattle.pnet_plan.specs.Arrays.{Grouped}
 use Rattle.pnet_plan.proofs.Gathering.{start, start-inside}
 
 -- the arrays hold a segment: what each master has, and all its streams placed

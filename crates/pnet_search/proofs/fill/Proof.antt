@@ -4,18 +4,17 @@ use Prim.Native.Nat.{_+_, _-_, _≤_}
 use native.Mathlib.Omega.{arith}
 use borrow.Author.Needs.{needs}
 use Rattle.common.proofs.Runs.{Filling, filling-none, filling-more, filling-done}
-use Rattle.pnet_plan.specs.Planned.{atPlace}
-use Rattle.pnet_plan.specs.Arrays.{boundIn, refinedIn, roundsIn}
-use Rattle.pnet_plan.proofs.Arrays.{bound-is, bound-small}
-use Rattle.pnet_plan.proofs.fill.Statement.{statement}
-use Rattle.pnet_plan.proofs.fill.Tie as tie
+use Rattle.pnet_search.specs.Arrays.{boundIn, refinedIn, roundsIn, byPlace}
+use Rattle.pnet_search.proofs.Arrays.{bound-is, bound-small}
+use Rattle.pnet_search.proofs.fill.Statement.{statement}
+use Rattle.pnet_search.proofs.fill.Tie as tie
 
 abbrev Inv-loop : tie.InvT-loop
 Inv-loop counts holds ends slacks pairs n turn bound₀ refined₀ rounds₀ i₀ bound refined rounds i =
     (i ≤ n)
-    × Filling (atPlace (boundIn counts holds n)) i bound₀ bound
-    × Filling (atPlace (refinedIn counts holds ends pairs n)) i refined₀ refined
-    × Filling (atPlace (roundsIn counts holds ends pairs n)) i rounds₀ rounds
+    × Filling (byPlace (boundIn counts holds n)) i bound₀ bound
+    × Filling (byPlace (refinedIn counts holds ends pairs n)) i refined₀ refined
+    × Filling (byPlace (roundsIn counts holds ends pairs n)) i rounds₀ rounds
 
 abbrev μ-loop : tie.MeasureT-loop
 μ-loop counts holds ends slacks pairs n turn bound₀ refined₀ rounds₀ i₀ bound refined rounds i =
@@ -34,11 +33,11 @@ cast-r : tie.Need-cast-r Inv-loop μ-loop
 cast-r c = omega (arith, c .before .before .before .before .before .before .before .pre .0 .0 .each (c .before .before .loop .i + 1) (omega arith) (omega arith) .count-to)
 
 mul-r : tie.Need-mul-r Inv-loop μ-loop
-mul-r c = omega (arith, bound-small (c .before .before .before .before .before .before .before .pre .0 .0) (c .before .before .loop .i + 1) (omega arith) (omega arith))
+mul-r c = omega (arith, bound-small (c .before .before .before .before .before .before .before .before .pre .0 .0) (c .before .before .before .loop .i + 1) (omega arith) (omega arith))
 
 search-requires : tie.Need-search-requires Inv-loop μ-loop
 search-requires c κs =
-    let p = c .before .before .before .before .before .before .before .pre .0 in
+    let p = c .before .before .before .before .before .before .before .before .pre .0 in
     (search needs, search needs, p .0, p .1)
 
 mul-bound : tie.Need-mul-bound Inv-loop μ-loop
@@ -67,11 +66,11 @@ loop-less c = search needs
 
 loop-again : tie.Need-loop-again Inv-loop μ-loop
 loop-again c =
-    let a = c .before .before .before .before .before .before .before .before .args in
-    let p = c .before .before .before .before .before .before .before .before .pre .0 .0 in
-    let l = c .before .before .before .loop in (
+    let a = c .before .before .before .before .before .before .before .before .before .args in
+    let p = c .before .before .before .before .before .before .before .before .before .pre .0 .0 in
+    let l = c .before .before .before .before .loop in (
       search needs,
-      filling-more _ (l .inv .1) (omega arith) (bound-is (a .counts .now) (a .holds .now) (a .n) (l .i + 1) (a .turn) (p .turn-is)),
+      filling-more _ (l .inv .1) (omega arith) (bound-is (a .counts .now) (a .holds .now) (a .n) (l .i + 1) (a .turn .0) (p .turn-is)),
       filling-more _ (l .inv .2) (omega arith) (c .search .ensures .0),
       filling-more _ (l .inv .3) (omega arith) (c .search .ensures .1),
     )

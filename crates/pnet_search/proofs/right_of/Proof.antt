@@ -9,11 +9,11 @@ use borrow.Author.Needs.{needs}
 use Rattle.common.specs.Sums.{upto}
 use Rattle.common.proofs.Sums.{upto-none, upto-more}
 use Rattle.pnet_turn.specs.Turn.{at}
-use Rattle.pnet_plan.specs.Arrays.{turnIn, boundIn, savedIn, rightIn, Fresh}
-use Rattle.pnet_plan.proofs.Arrays.{turn-small, saved-in-small, saved-at-most, bound-is, bound-small}
-use Rattle.pnet_plan.proofs.Searching.{Renewed, renewed-still, renewed-anew}
-use Rattle.pnet_plan.proofs.right_of.Statement.{statement}
-use Rattle.pnet_plan.proofs.right_of.Tie as tie
+use Rattle.pnet_search.specs.Arrays.{turnIn, boundIn, savedIn, rightIn, Fresh}
+use Rattle.pnet_search.proofs.Arrays.{turn-small, saved-in-small, saved-at-most, bound-is, bound-small}
+use Rattle.pnet_search.proofs.Searching.{Renewed, renewed-still, renewed-anew}
+use Rattle.pnet_search.proofs.right_of.Statement.{statement}
+use Rattle.pnet_search.proofs.right_of.Tie as tie
 
 abbrev Inv-loop : tie.InvT-loop
 Inv-loop counts holds ends pairs n turn k w saved₀ until₀ s all₀ y₀ saved until all y =

@@ -4,10 +4,10 @@ use native.Mathlib.Omega.{arith}
 use borrow.Author.Needs.{needs}
 use Rattle.common.specs.Sums.{up}
 use Rattle.common.proofs.Sums.{up-less, up-covers}
-use Rattle.pnet_plan.specs.Arrays.{spacingAt, jitterAt}
-use Rattle.pnet_plan.proofs.Looks.{up-short, Looking, looking-none, looking-more, looking-enough, looking-done}
-use Rattle.pnet_plan.proofs.look.Statement.{statement}
-use Rattle.pnet_plan.proofs.look.Tie as tie
+use Rattle.pnet_search.specs.Arrays.{spacingAt, jitterAt}
+use Rattle.pnet_search.proofs.Looks.{up-short, Looking, looking-none, looking-more, looking-enough, looking-done}
+use Rattle.pnet_search.proofs.look.Statement.{statement}
+use Rattle.pnet_search.proofs.look.Tie as tie
 
 abbrev Inv-loop : tie.InvT-loop
 Inv-loop pairs from n window s asked₀ until₀ j₀ asked until j = (j ≤ n) × Looking pairs from window j s asked until

@@ -13,8 +13,8 @@ use Rattle.pnet_rules.specs.Refined.{saving, valueOf, roundsOf}
 use Rattle.pnet_rules.proofs.Sequence.{Moving, moving-ends, settles-is-rounds, value-rises}
 use Rattle.pnet_rules.proofs.Right.{rightOf, savings-at-most, right-rises, right-value-at-most, right-moves-at-most}
 use Rattle.pnet_turn.specs.Turn.{at}
-use Rattle.pnet_plan.specs.Arrays.{askedAt, turnIn, boundIn, savedIn, rightIn, roundsIn, refinedIn, Kept}
-use Rattle.pnet_plan.proofs.Looks.{asked-rises}
+use Rattle.pnet_search.specs.Arrays.{askedAt, turnIn, boundIn, savedIn, rightIn, roundsIn, refinedIn, Kept}
+use Rattle.pnet_search.proofs.Looks.{asked-rises}
 
 -- ---- What is saved at a master
 

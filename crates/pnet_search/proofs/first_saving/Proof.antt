@@ -3,9 +3,9 @@ use mathlib.Core.Path.{refl}
 use native.Mathlib.Omega.{arith}
 use borrow.Author.Needs.{needs}
 use Rattle.pnet_turn.specs.Turn.{at}
-use Rattle.pnet_plan.proofs.Arrays.{saved-small, product-small}
-use Rattle.pnet_plan.proofs.first_saving.Statement.{statement}
-use Rattle.pnet_plan.proofs.first_saving.Tie as tie
+use Rattle.pnet_search.proofs.Arrays.{saved-small, product-small}
+use Rattle.pnet_search.proofs.first_saving.Statement.{statement}
+use Rattle.pnet_search.proofs.first_saving.Tie as tie
 
 element-copy-out-s : tie.Need-element-copy-out-s
 element-copy-out-s c = search needs

@@ -2,9 +2,9 @@
 use Prim.Native.Nat.{_+_, _-_, _≤_}
 use native.Mathlib.Omega.{arith}
 use borrow.Author.Needs.{needs}
-use Rattle.pnet_plan.proofs.Searching.{Opened, opened-more}
-use Rattle.pnet_plan.proofs.begin.Statement.{statement}
-use Rattle.pnet_plan.proofs.begin.Tie as tie
+use Rattle.pnet_search.proofs.Searching.{Opened, opened-more}
+use Rattle.pnet_search.proofs.begin.Statement.{statement}
+use Rattle.pnet_search.proofs.begin.Tie as tie
 
 abbrev Inv-loop : tie.InvT-loop
 Inv-loop counts holds slacks n turn k saved₀ until₀ y₀ saved until y = (y ≤ n) × Opened counts holds slacks turn k y saved until

@@ -4,10 +4,10 @@ use Prim.Native.Nat.{ℕ, _+_, _*_, _≤_, min}
 use native.Mathlib.Omega.{arith}
 use borrow.Author.Needs.{needs}
 use Rattle.pnet_turn.specs.Turn.{at}
-use Rattle.pnet_plan.specs.Arrays.{askedAt}
-use Rattle.pnet_plan.proofs.Arrays.{left-same, saved-small, product-small}
-use Rattle.pnet_plan.proofs.saving_at.Statement.{statement}
-use Rattle.pnet_plan.proofs.saving_at.Tie as tie
+use Rattle.pnet_search.specs.Arrays.{askedAt}
+use Rattle.pnet_search.proofs.Arrays.{left-same, saved-small, product-small}
+use Rattle.pnet_search.proofs.saving_at.Statement.{statement}
+use Rattle.pnet_search.proofs.saving_at.Tie as tie
 
 element-copy-out-count : tie.Need-element-copy-out-count
 element-copy-out-count c = search needs

@@ -5,11 +5,11 @@ use Prim.Native.Nat.{ℕ, _+_, _-_, _*_, _≤_}
 use native.Mathlib.Omega.{arith}
 use Rattle.pnet_rules.proofs.Sequence.{Moving, moving-none, moving-more}
 use Rattle.pnet_turn.specs.Turn.{at}
-use Rattle.pnet_plan.specs.Arrays.{rightIn, Fresh}
-use Rattle.pnet_plan.proofs.Arrays.{turn-small, moving-small, moving-few, moving-rises, rounds-small, found}
-use Rattle.pnet_plan.proofs.Searching.{fresh-opens, fresh-later}
-use Rattle.pnet_plan.proofs.search.Statement.{statement}
-use Rattle.pnet_plan.proofs.search.Tie as tie
+use Rattle.pnet_search.specs.Arrays.{rightIn, Fresh}
+use Rattle.pnet_search.proofs.Arrays.{turn-small, moving-small, moving-few, moving-rises, rounds-small, found}
+use Rattle.pnet_search.proofs.Searching.{fresh-opens, fresh-later}
+use Rattle.pnet_search.proofs.search.Statement.{statement}
+use Rattle.pnet_search.proofs.search.Tie as tie
 
 abbrev Inv-loop : tie.InvT-loop
 Inv-loop counts holds ends slacks pairs n turn k saved₀ until₀ w₀ rounds₀ saved until w rounds =

@@ -7,7 +7,7 @@ use native.Mathlib.Omega.{arith}
 use Rattle.common.specs.Sums.{upto, up}
 use Rattle.common.proofs.Sums.{upto-more, upto-part, upto-mono, upto-even, up-at-most, up-covers, up-rises}
 use Rattle.pnet_turn.specs.Turn.{at}
-use Rattle.pnet_plan.specs.Arrays.{spacingAt, jitterAt, askedIn, Spaced}
+use Rattle.pnet_search.specs.Arrays.{spacingAt, jitterAt, askedIn, Spaced}
 
 -- ---- A quotient rounded up
 

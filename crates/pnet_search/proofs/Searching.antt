@@ -10,9 +10,9 @@ use lib.ListN.{length, set, length-set}
 use lib.Seq.{getD-set-same, getD-set-other}
 use Rattle.common.proofs.Sums.{upto-term}
 use Rattle.pnet_turn.specs.Turn.{at}
-use Rattle.pnet_plan.specs.Arrays.{askedAt, turnIn, savedIn, Kept, Slack, Opens, Fresh}
-use Rattle.pnet_plan.proofs.Looks.{asked-each, asked-once}
-use Rattle.pnet_plan.proofs.Arrays.{saved-own, saved-other, left-same}
+use Rattle.pnet_search.specs.Arrays.{askedAt, turnIn, savedIn, Kept, Slack, Opens, Fresh}
+use Rattle.pnet_search.proofs.Looks.{asked-each, asked-once}
+use Rattle.pnet_search.proofs.Arrays.{saved-own, saved-other, left-same}
 
 -- ---- At W = 0
 
