@@ -1,4 +1,4 @@
--- How the code sets out a segment and places its streams, before the searches (pnet_search): at place y master y's count s, its charge H, its slack,
+-- How the code sets out a segment and places its streams, before the search (pnet_search): at place y master y's count s, its charge H, its slack,
 -- the least T - J of its streams, and the end of its pairs; up to that end, as many as the count, stand the pairs of T and J of its streams in sheet
 -- order. Words of inner contracts alone. Assumes nothing.
 use Prim.Native.Nat.{ℕ, _+_, _-_, _*_, _≤_}

@@ -1,6 +1,6 @@
 -- Page 01, 'P-NET bounds': the page's figures, read off the arrays by which the code keeps a segment: at place y master y's count s, its charge H,
 -- its slack, no more than T - J of any of its streams, and the end of its pairs; up to that end, as many as the count, stand the pairs of T and J of
--- its streams. And what keeps the code's sums within 32 bits. Words of inner contracts alone. Assumes nothing.
+-- its streams. And what keeps the code's sums within 32 bits. Words of inner contracts, and of `fill`, which only the planner calls. Assumes nothing.
 use Prim.Native.Nat.{ℕ, _+_, _-_, _*_, _≤_, _<_}
 use mathlib.Core.Path.{_≡_}
 use mathlib.Core.List.{List}

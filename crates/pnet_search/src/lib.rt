@@ -1,4 +1,4 @@
-// The refined search, page 01 'P-NET bounds': W of each master of a segment and its rounds, from the arrays that the planner sets out and fills.
+// The refined search, page 01 'P-NET bounds': R, W and rounds of a segment's masters, from the arrays in which the planner sets the segment out.
 use units::BitPeriods;
 ghost use mathlib.Core.Path.{_≡_};
 ghost use Prim.Native.Nat.{ℕ, _+_, _-_, _*_, _≤_, _<_, min};
@@ -213,7 +213,8 @@ fn search(
     }
 }
 
-// R, W and rounds of the n masters, into the three runs; turn is V.
+// R, W and rounds of the n masters, into the three runs; turn is V. Only the planner calls it: what it asks for holds once the masters are set
+// out and every stream is placed.
 pub fn fill(
     counts: &[u8; 33],
     holds: &[u32; 33],
