@@ -13,3 +13,4 @@ pub mod Watched
 pub mod WatchedBytes
 pub mod CaptureCase
 pub mod Relayed
+pub mod Demand2Pnet
