@@ -14,3 +14,4 @@ pub mod WatchedBytes
 pub mod CaptureCase
 pub mod Relayed
 pub mod Demand2Pnet
+pub mod JitterCase
