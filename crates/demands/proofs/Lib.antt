@@ -15,3 +15,5 @@ pub mod CaptureCase
 pub mod Relayed
 pub mod Demand2Pnet
 pub mod JitterCase
+pub mod Lines
+pub mod Shown
