@@ -69,11 +69,11 @@ module _ (P : Path) (k : ℕ → List ℕ) (same : (i : ℕ) → reading (P .hop
   report-from-alike (suc n) i =
       ap (λ (o : Outcome). sheetOr i o (reportFrom P n (suc i))) (sheet-alike i) ∙ ap (sheetOr i (sheetAt Q i)) (report-from-alike n (suc i))
 
-  pub report-alike : pathReport P ≡ pathReport Q
+  pub report-alike : pathReport P ≡ pathReport (keeping P k)
   unfolding pathReport
   report-alike = report-from-alike (P .segments) 1
 
-  pub accepts-alike : pathAccepts P ≡ pathAccepts Q
+  pub accepts-alike : pathAccepts P ≡ pathAccepts (keeping P k)
   unfolding pathAccepts
   accepts-alike = ap isWithin crossed-alike
 
