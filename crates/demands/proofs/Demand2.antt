@@ -34,6 +34,7 @@ use Rattle.worldfip_plan.proofs.Refusals as worldfip
 
 -- ---- 'P-NET bounds and the least refined solution'
 
+-- from the bytes and the three lent runs: Demand2Pnet.antt
 pub bound-is-s-times-V : (S : Segment) (k : ℕ) → bound S k ≡ count S k * turn S
 unfolding bound turn
 bound-is-s-times-V S k = refl
