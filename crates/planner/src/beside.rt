@@ -1,11 +1,11 @@
 // A tester's capture beside the bounds of a sheet, read piece by piece: nothing is kept of a capture but what `report_beside::hear` keeps.
-use crate::input::read_all;
-use crate::output;
-use crate::output::ACCEPTED;
-use crate::output::FAILED;
-use crate::output::REFUSED;
-use crate::words::fail;
 use planner_complaints::complain;
+use planner_io::input::read_all;
+use planner_io::output;
+use planner_io::output::ACCEPTED;
+use planner_io::output::FAILED;
+use planner_io::output::REFUSED;
+use planner_io::words::fail;
 use report_beside::Begun;
 use report_beside::Heard;
 use report_beside::Hearing;

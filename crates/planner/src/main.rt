@@ -4,19 +4,18 @@
 mod along;
 mod beside;
 mod exchange;
-mod help;
-mod input;
-mod output;
-mod words;
 
-use input::open;
-use input::read_sheet;
 use libc::STDIN_FILENO;
-use output::ACCEPTED;
-use output::FAILED;
-use output::REFUSED;
-use output::unless_cut;
 use planner_complaints::complain;
+use planner_io::help;
+use planner_io::input::open;
+use planner_io::input::read_sheet;
+use planner_io::output;
+use planner_io::output::ACCEPTED;
+use planner_io::output::FAILED;
+use planner_io::output::REFUSED;
+use planner_io::output::unless_cut;
+use planner_io::words;
 use report_sheet::Reported;
 
 // ---- Reports

@@ -1,4 +1,4 @@
--- `planner::input::read_text` takes what was read first as the first piece, and what follows. Assumes nothing.
+-- `planner_io::input::read_text` takes what was read first as the first piece, and what follows. Assumes nothing.
 use mathlib.Core.Path.{_≡_, sym}
 use Prim.Native.Nat.{_≤_}
 use native.Mathlib.Omega.{arith}
@@ -8,10 +8,10 @@ use borrow.Author.Needs.{needs}
 use Rattle.text.proofs.Writing.{wrote-inside}
 use Rattle.sheet_text.proofs.Kept.{room-is}
 use Rattle.sheet_text.proofs.Stepped.{state}
-use Rattle.planner.specs.Made.{Took}
-use Rattle.planner.proofs.Made.{took-word}
-use Rattle.planner.proofs.input.read_text.Statement.{statement}
-use Rattle.planner.proofs.input.read_text.Tie as tie
+use Rattle.planner_io.specs.Made.{Took}
+use Rattle.planner_io.proofs.Made.{took-word}
+use Rattle.planner_io.proofs.input.read_text.Statement.{statement}
+use Rattle.planner_io.proofs.input.read_text.Tie as tie
 
 large-buffer-requires : tie.Need-large-buffer-requires
 large-buffer-requires c κs = search needs

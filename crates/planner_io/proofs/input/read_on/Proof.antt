@@ -1,14 +1,14 @@
--- `planner::input::read_on` takes one piece after the other. The invariant: what is at hand is what the pieces so far leave. Assumes nothing.
+-- `planner_io::input::read_on` takes one piece after the other. The invariant: what is at hand is what the pieces so far leave. Assumes nothing.
 use mathlib.Core.Path.{_≡_, refl, sym}
 use native.Mathlib.Omega.{arith}
 use lib.ListN.{length}
 use lib.Seq.{length-take-le}
 use borrow.Author.Needs.{needs}
 use Rattle.sheet_text.proofs.Stepped.{state}
-use Rattle.planner.specs.Made.Made.{nothing}
-use Rattle.planner.proofs.Made.{Further, further-none, further-more}
-use Rattle.planner.proofs.input.read_on.Statement.{statement}
-use Rattle.planner.proofs.input.read_on.Tie as tie
+use Rattle.planner_io.specs.Made.Made.{nothing}
+use Rattle.planner_io.proofs.Made.{Further, further-none, further-more}
+use Rattle.planner_io.proofs.input.read_on.Statement.{statement}
+use Rattle.planner_io.proofs.input.read_on.Tie as tie
 
 abbrev Inv-loop : tie.InvT-loop
 Inv-loop fd name piece₀ front₀ sheet₀ taken₀ left₀ t11 piece front sheet taken left =

@@ -12,15 +12,15 @@ ghost use mathlib.Core.Bool.{true};
 ghost use Prim.Native.Nat.{ℕ, _≤_};
 ghost use lib.ListN.{length, take};
 ghost use Rattle.sheet_text.specs.Steps.{State, room};
-ghost use Rattle.planner.specs.Made.{Took, Made, GivenAs};
+ghost use Rattle.planner_io.specs.Made.{Took, Made, GivenAs};
 
 // So many pieces of a text are counted: 64 bits count no more bytes than are in them.
 const PIECES: usize = 281_474_976_710_656;
 
 // What was read: how many bytes, and whether a read failed.
-pub(crate) struct Input {
-    pub(crate) length: usize,
-    pub(crate) failed: bool,
+pub struct Input {
+    pub length: usize,
+    pub failed: bool,
 }
 
 // One read behind the first `at` bytes.
@@ -38,7 +38,7 @@ fn read_more(fd: i32, buf: &mut [u8], at: usize) -> Input
 }
 
 // Reads until the input ends, a read fails or the buffer is full.
-pub(crate) fn read_all(fd: i32, buf: &mut [u8]) -> Input
+pub fn read_all(fd: i32, buf: &mut [u8]) -> Input
     ensures { λ r. ⌜ r .length ≤ length (now (buf .entry)) ⌝ }
 {
     let mut at = 0;
@@ -59,7 +59,7 @@ pub(crate) fn read_all(fd: i32, buf: &mut [u8]) -> Input
 }
 
 // The file of a name, or less than 0, and then it is said why; `-` is standard input.
-pub(crate) fn open(name: &[u8]) -> i32 {
+pub fn open(name: &[u8]) -> i32 {
     if check::same(name, b"-") {
         return libc::STDIN_FILENO;
     }
@@ -74,14 +74,14 @@ pub(crate) fn open(name: &[u8]) -> i32 {
 
 // What was given as a sheet: how many bytes of it are kept; the number of a line that is not of a text's form, 0 if there is none; and whether a
 // read failed. What went wrong is then said.
-pub(crate) struct Given {
-    pub(crate) length: usize,
-    pub(crate) line: usize,
-    pub(crate) failed: bool,
+pub struct Given {
+    pub length: usize,
+    pub line: usize,
+    pub failed: bool,
 }
 
 // Nothing, as a read failed.
-pub(crate) fn failed() -> Given
+pub fn failed() -> Given
     ensures { λ r. ⌜ (r .length ≡ 0) × (r .failed ≡ true) ⌝ }
 {
     Given {
@@ -170,7 +170,7 @@ fn read_text(fd: i32, name: &[u8], sheet: &mut [u8], n: usize) -> Given
 
 // Reads a sheet, as much as decides its report, or says why it cannot. What begins with one of the words of texts and a comma is a text, and so is all
 // that is asked for as one.
-pub(crate) fn read_sheet(fd: i32, name: &[u8], sheet: &mut [u8], as_text: bool) -> Given
+pub fn read_sheet(fd: i32, name: &[u8], sheet: &mut [u8], as_text: bool) -> Given
     requires { ⌜ room ≡ length (now sheet) ⌝ }
     ensures { λ r. ⌜ r .length ≤ length (now (sheet .entry)) ⌝ }
     ensures { λ r. ⌜ GivenAs as_text (now (sheet .exit)) r ⌝ }

@@ -7,7 +7,7 @@ ghost use Prim.Native.Nat.{_≤_, _<_};
 ghost use lib.ListN.{length};
 
 // Says of which input a call failed, and why; `-` is standard input.
-pub(crate) fn fail(name: &[u8]) {
+pub fn fail(name: &[u8]) {
     complain(b"planner: ");
     if check::same(name, b"-") {
         os::fail(b"standard input");
@@ -18,7 +18,7 @@ pub(crate) fn fail(name: &[u8]) {
 }
 
 // Word i on standard error; of one that is longer than a file's name can be, the first 60 bytes.
-pub(crate) fn show_word(i: usize) {
+pub fn show_word(i: usize) {
     let mut word = io::buffer();
     let n = os::arg(i, &mut word);
     if os::errno() == libc::ENAMETOOLONG {
@@ -31,14 +31,14 @@ pub(crate) fn show_word(i: usize) {
 
 // ---- What a word is
 
-pub(crate) fn is_word(i: usize, text: &[u8]) -> bool {
+pub fn is_word(i: usize, text: &[u8]) -> bool {
     let mut word = io::buffer();
     let n = os::arg(i, &mut word);
     check::same(&word[..n], text)
 }
 
 // It begins as an option does, and is not `-`.
-pub(crate) fn is_option(i: usize) -> bool {
+pub fn is_option(i: usize) -> bool {
     let mut word = io::buffer();
     let n = os::arg(i, &mut word);
     if os::errno() == libc::ENAMETOOLONG {
@@ -48,14 +48,14 @@ pub(crate) fn is_option(i: usize) -> bool {
 }
 
 // 1 where word i stands for standard input, else 0.
-pub(crate) fn from_standard_input(i: usize) -> usize
+pub fn from_standard_input(i: usize) -> usize
     ensures { λ r. ⌜ r ≤ 1 ⌝ }
 {
     if is_word(i, b"-") { 1 } else { 0 }
 }
 
 // How many of two words stand for standard input; one word may be given as both.
-pub(crate) fn standard_inputs(first: usize, last: usize) -> usize {
+pub fn standard_inputs(first: usize, last: usize) -> usize {
     if first == last {
         return from_standard_input(first);
     }
@@ -64,7 +64,7 @@ pub(crate) fn standard_inputs(first: usize, last: usize) -> usize {
 
 // Standard input serves for so many words; else it is said why it does not. Ask before a file is opened: the first that is opened where
 // standard input is closed gets its number.
-pub(crate) fn serves(inputs: usize) -> bool {
+pub fn serves(inputs: usize) -> bool {
     if inputs == 0 {
         return true;
     }
@@ -82,7 +82,7 @@ pub(crate) fn serves(inputs: usize) -> bool {
 }
 
 // Says that a word is too long for a name.
-pub(crate) fn too_long(i: usize) -> u8 {
+pub fn too_long(i: usize) -> u8 {
     complain(b"planner: ");
     show_word(i);
     complain(b": longer than a file's name can be\n");
@@ -90,7 +90,7 @@ pub(crate) fn too_long(i: usize) -> u8 {
 }
 
 // Says that an option is none.
-pub(crate) fn unknown(i: usize) -> u8 {
+pub fn unknown(i: usize) -> u8 {
     complain(b"planner: unknown option ");
     show_word(i);
     complain(b"; planner --help lists them\n");
@@ -100,7 +100,7 @@ pub(crate) fn unknown(i: usize) -> u8 {
 // ---- Commands
 
 // The place behind the next end of a line.
-pub(crate) fn next_line(list: &[u8], from: usize) -> usize
+fn next_line(list: &[u8], from: usize) -> usize
     requires { ⌜ from < length (now list) ⌝ }
     ensures { λ r. ⌜ (from < r) × (r ≤ length (now (list .entry))) ⌝ }
 {
@@ -141,7 +141,7 @@ fn line_of(list: &[u8], word: &[u8]) -> usize {
 }
 
 // The number of the command that word i is, 0 if it is none.
-pub(crate) fn command(i: usize) -> usize {
+pub fn command(i: usize) -> usize {
     let mut word = io::buffer();
     let n = os::arg(i, &mut word);
     line_of(&COMMANDS, &word[..n])

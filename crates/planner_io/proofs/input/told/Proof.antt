@@ -1,11 +1,11 @@
--- `planner::input::told` says what the text came to: a line that is not of the form, or the sheet that is kept. Assumes nothing.
+-- `planner_io::input::told` says what the text came to: a line that is not of the form, or the sheet that is kept. Assumes nothing.
 use mathlib.Core.Path.{refl, sym, _∙_}
 use native.Mathlib.Omega.{arith}
 use lib.Seq.{length-take-le}
 use borrow.Author.Needs.{needs}
-use Rattle.planner.proofs.Made.{took-bad, took-sheet}
-use Rattle.planner.proofs.input.told.Statement.{statement}
-use Rattle.planner.proofs.input.told.Tie as tie
+use Rattle.planner_io.proofs.Made.{took-bad, took-sheet}
+use Rattle.planner_io.proofs.input.told.Statement.{statement}
+use Rattle.planner_io.proofs.input.told.Tie as tie
 
 end-requires : tie.Need-end-requires
 end-requires c κs = search needs

@@ -19,9 +19,9 @@ use Rattle.sheet_text.specs.declared.Taken.{Taken}
 use Rattle.sheet_text.specs.declared.Ended.the-variants as ending
 use Rattle.sheet_text.proofs.Stepped.{state, TakenAll, taken-is}
 use Rattle.sheet_text.proofs.Whole.{steps-append, comes-to}
-use Rattle.planner.specs.declared.input.Given.{Given}
-use Rattle.planner.specs.Made.{Took, Made}
-use Rattle.planner.specs.Made.Made.{no-text, a-sheet}
+use Rattle.planner_io.specs.declared.input.Given.{Given}
+use Rattle.planner_io.specs.Made.{Took, Made}
+use Rattle.planner_io.specs.Made.Made.{no-text, a-sheet}
 
 -- ---- Pieces
 

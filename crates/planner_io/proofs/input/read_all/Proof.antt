@@ -1,10 +1,10 @@
--- `planner::input::read_all` reads no more than the buffer holds. The loop's invariant: `at` is within the buffer, whose length stays. Assumes nothing.
+-- `planner_io::input::read_all` reads no more than the buffer holds. The loop's invariant: `at` is within the buffer, whose length stays. Assumes nothing.
 use mathlib.Core.Path.{_≡_}
 use Prim.Native.Nat.{_-_, _≤_}
 use borrow.Author.Needs.{needs}
 use lib.ListN.{length}
-use Rattle.planner.proofs.input.read_all.Statement.{statement}
-use Rattle.planner.proofs.input.read_all.Tie as tie
+use Rattle.planner_io.proofs.input.read_all.Statement.{statement}
+use Rattle.planner_io.proofs.input.read_all.Tie as tie
 
 abbrev Inv-loop : tie.InvT-loop
 Inv-loop fd buf₀ at₀ buf at = (at ≤ length buf) × (length buf ≡ length buf₀)

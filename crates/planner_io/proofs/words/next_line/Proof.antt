@@ -1,9 +1,9 @@
--- `planner::words::next_line` looks at one byte after the other. Assumes nothing.
+-- `planner_io::words::next_line` looks at one byte after the other. Assumes nothing.
 use Prim.Native.Nat.{_-_, _≤_}
 use lib.ListN.{length}
 use borrow.Author.Needs.{needs}
-use Rattle.planner.proofs.words.next_line.Statement.{statement}
-use Rattle.planner.proofs.words.next_line.Tie as tie
+use Rattle.planner_io.proofs.words.next_line.Statement.{statement}
+use Rattle.planner_io.proofs.words.next_line.Tie as tie
 
 abbrev Inv-loop : tie.InvT-loop
 Inv-loop list from i₀ i = (from ≤ i) × (i ≤ length list)

@@ -12,7 +12,7 @@ use Rattle.sheet_line.specs.Said.{kindIn}
 use Rattle.sheet_text.specs.Texts.{meaning}
 use Rattle.sheet_text.specs.Texts.Meaning.{Stands, Bad}
 use Rattle.sheet_text.specs.Steps.{State, started, room, steps}
-use Rattle.planner.specs.declared.input.Given.{Given}
+use Rattle.planner_io.specs.declared.input.Given.{Given}
 
 -- `first` and some pieces behind it are taken, in runs with room for a line and for what decides a sheet
 pub record Took (first : List ℕ) (st : State) : Type 0 where

@@ -5,24 +5,24 @@ use planner_complaints::complain;
 use planner_complaints::end_of;
 
 // How a call of the program ends, as the digit that it says.
-pub(crate) const ACCEPTED: u8 = b'0';
+pub const ACCEPTED: u8 = b'0';
 
-pub(crate) const REFUSED: u8 = b'1';
+pub const REFUSED: u8 = b'1';
 
-pub(crate) const FAILED: u8 = b'2';
+pub const FAILED: u8 = b'2';
 
-pub(crate) const UNWRITTEN: u8 = b'3';
+const UNWRITTEN: u8 = b'3';
 
 const STATUS_FILENO: i32 = 3;
 
 // Says how the call ended, to whoever listens.
-pub(crate) fn end(status: u8) {
+pub fn end(status: u8) {
     let said = [status];
     io::write_all(STATUS_FILENO, &said);
 }
 
 // Writes the first n bytes of a text, or all where it has fewer, and answers whether all of them went out.
-pub(crate) fn put_first(fd: i32, text: &[u8], n: usize) -> bool {
+fn put_first(fd: i32, text: &[u8], n: usize) -> bool {
     let end = end_of(text.len(), n);
     io::write_all(fd, &text[..end])
 }
@@ -32,14 +32,14 @@ pub(crate) fn put(text: &[u8]) -> bool {
 }
 
 // Writes a refusal's line.
-pub(crate) fn put_refusal(fd: i32, no: u8, place: usize) -> bool {
+pub fn put_refusal(fd: i32, no: u8, place: usize) -> bool {
     let mut text = [0u8; 64];
     let n = report_phrases::put_refusal(&mut text, 0, no, place as u64);
     put_first(fd, &text, n)
 }
 
 // How a call ends whose report went out whole, or did not.
-pub(crate) fn unless_cut(whole: bool, status: u8) -> u8 {
+pub fn unless_cut(whole: bool, status: u8) -> u8 {
     if whole {
         return status;
     }
@@ -49,11 +49,11 @@ pub(crate) fn unless_cut(whole: bool, status: u8) -> u8 {
 }
 
 // Writes a finished report, the first n bytes of a text, and answers how the call ends.
-pub(crate) fn report(text: &[u8], n: usize, status: u8) -> u8 {
+pub fn report(text: &[u8], n: usize, status: u8) -> u8 {
     unless_cut(put_first(STDOUT_FILENO, text, n), status)
 }
 
 // Reports a text that is refused: this line of it is not of the form.
-pub(crate) fn bad_line(line: usize) -> u8 {
+pub fn bad_line(line: usize) -> u8 {
     unless_cut(put_refusal(STDOUT_FILENO, 23, line), REFUSED)
 }

@@ -1,9 +1,9 @@
--- `planner::words::line_of` goes from line to line. Assumes nothing.
+-- `planner_io::words::line_of` goes from line to line. Assumes nothing.
 use Prim.Native.Nat.{_+_, _-_, _≤_}
 use lib.ListN.{length}
 use borrow.Author.Needs.{needs}
-use Rattle.planner.proofs.words.line_of.Statement.{statement}
-use Rattle.planner.proofs.words.line_of.Tie as tie
+use Rattle.planner_io.proofs.words.line_of.Statement.{statement}
+use Rattle.planner_io.proofs.words.line_of.Tie as tie
 
 abbrev Inv-loop : tie.InvT-loop
 Inv-loop list word number₀ at₀ number at = (at ≤ length list) × (number ≤ at + 1)

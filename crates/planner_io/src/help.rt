@@ -31,12 +31,12 @@ pub(crate) const COMMANDS: [u8; 506] =
 --                                                       ends the options
 ";
 
-pub(crate) fn version() -> bool {
+pub fn version() -> bool {
     put(&VERSION)
 }
 
 // How the program is called, for whoever named no sheet.
-pub(crate) fn usage() {
+pub fn usage() {
     complain(&USAGE);
     complain(&COMMANDS);
 }
@@ -206,6 +206,6 @@ fn reports() -> bool {
 }
 
 // All of it; whether it was written whole.
-pub(crate) fn help() -> bool {
+pub fn help() -> bool {
     put(&USAGE) & put(&COMMANDS) & statuses() & sheets() & reports() & refusals()
 }

@@ -1,12 +1,12 @@
--- `planner::input::read_sheet` takes for a text what begins as one, and what is asked for as one. Assumes nothing.
+-- `planner_io::input::read_sheet` takes for a text what begins as one, and what is asked for as one. Assumes nothing.
 use mathlib.Core.Path.{refl, sym}
 use native.Mathlib.Omega.{arith}
 use lib.Seq.{length-take-le}
 use borrow.Author.Needs.{needs}
-use Rattle.planner.specs.Made.GivenAs.{nothing-read, as-bytes, as-a-text}
-use Rattle.planner.proofs.Made.{taken-for}
-use Rattle.planner.proofs.input.read_sheet.Statement.{statement}
-use Rattle.planner.proofs.input.read_sheet.Tie as tie
+use Rattle.planner_io.specs.Made.GivenAs.{nothing-read, as-bytes, as-a-text}
+use Rattle.planner_io.proofs.Made.{taken-for}
+use Rattle.planner_io.proofs.input.read_sheet.Statement.{statement}
+use Rattle.planner_io.proofs.input.read_sheet.Tie as tie
 
 read-all-requires : tie.Need-read-all-requires
 read-all-requires c κs = search needs
