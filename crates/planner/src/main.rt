@@ -2,7 +2,6 @@
 // second name it lays that capture beside the sheet's bounds; behind a command's word it does what help.rt lists. How the call ended it
 // says last, on descriptor 3.
 mod along;
-mod beside;
 mod exchange;
 
 use libc::STDIN_FILENO;
@@ -73,7 +72,7 @@ fn compare(sheet_fd: i32, sheet_name: &[u8], fd: i32, name: &[u8]) -> u8 {
         return output::bad_line(given.line);
     }
     let n = given.length;
-    beside::compare(&sheet[..n], fd, name)
+    planner_beside::compare(&sheet[..n], fd, name)
 }
 
 fn compare_files(sheet_name: &[u8], name: &[u8]) -> u8 {

@@ -1,8 +1,8 @@
--- `planner::beside::finish` writes the report that was made, and the status that it says. Assumes nothing.
+-- `planner_beside::finish` writes the report that was made, and the status that it says. Assumes nothing.
 use borrow.Author.Needs.{needs}
 use Rattle.report_beside.proofs.Kept.{clean-tells, faulty-tells}
-use Rattle.planner.proofs.beside.finish.Statement.{statement}
-use Rattle.planner.proofs.beside.finish.Tie as tie
+use Rattle.planner_beside.proofs.finish.Statement.{statement}
+use Rattle.planner_beside.proofs.finish.Tie as tie
 
 report-requires : tie.Need-report-requires
 report-requires c κs = search needs

@@ -1,8 +1,8 @@
--- `planner::beside::compare` begins with the sheet, and writes its refusal or hears the capture. Assumes nothing.
+-- `planner_beside::compare` begins with the sheet, and writes its refusal or hears the capture. Assumes nothing.
 use borrow.Author.Needs.{needs}
 use Rattle.report_beside.proofs.Kept.{begun-holds, begun-tells}
-use Rattle.planner.proofs.beside.compare.Statement.{statement}
-use Rattle.planner.proofs.beside.compare.Tie as tie
+use Rattle.planner_beside.proofs.compare.Statement.{statement}
+use Rattle.planner_beside.proofs.compare.Tie as tie
 
 text-buffer-requires : tie.Need-text-buffer-requires
 text-buffer-requires c κs = search needs

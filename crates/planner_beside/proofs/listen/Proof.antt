@@ -1,4 +1,4 @@
--- `planner::beside::listen` hears a capture piece by piece. The invariant: the runs hold what the sheet and the pieces so far leave.
+-- `planner_beside::listen` hears a capture piece by piece. The invariant: the runs hold what the sheet and the pieces so far leave.
 -- Assumes nothing.
 use Prim.Native.Nat.{ℕ, _+_, _-_, _^_, _≤_}
 use mathlib.Core.Path.{_≡_, sym}
@@ -10,8 +10,8 @@ use Rattle.report_beside.specs.Whole.{tally}
 use Rattle.report_beside.specs.Kept.{Holds}
 use Rattle.report_beside.proofs.Kept.{heard-holds, heard-counts, heard-tells}
 use borrow.Author.Needs.{needs}
-use Rattle.planner.proofs.beside.listen.Statement.{statement}
-use Rattle.planner.proofs.beside.listen.Tie as tie
+use Rattle.planner_beside.proofs.listen.Statement.{statement}
+use Rattle.planner_beside.proofs.listen.Tie as tie
 
 abbrev Inv-loop : tie.InvT-loop
 Inv-loop sheet fd name text₀ masters bound spacing jitter left₀ since₀ answers₀ largest₀ above₀ asked₀ lead₀ heard₀ piece₀ t22 text left since answers largest above asked lead heard piece =

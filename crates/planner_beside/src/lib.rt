@@ -130,7 +130,7 @@ fn listen(
 }
 
 // Lays the capture behind a descriptor beside the bounds of a sheet.
-pub(crate) fn compare(sheet: &[u8], fd: i32, name: &[u8]) -> u8 {
+pub fn compare(sheet: &[u8], fd: i32, name: &[u8]) -> u8 {
     let mut text = report_capture::text_buffer();
     let mut masters = [0u8; MOST];
     let mut bound = [0u32; MOST];
