@@ -1,5 +1,5 @@
 // Reads a sheet from standard input, or from the file that its argument names, and writes its report to standard output. With a
-// second name it lays that capture beside the sheet's bounds; behind a command's word it does what help.rt lists. How the call ended it
+// second name it lays that capture beside the sheet's bounds; behind a command's word it does what the help lists. How the call ended it
 // says last, on descriptor 3.
 mod along;
 mod exchange;
