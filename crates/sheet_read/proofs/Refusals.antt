@@ -281,6 +281,10 @@ module _ (s : List ℕ) where
       let t = a i (omega arith) in
       upto-more s i u (complete-inside i (t .is-complete)) (taken-if i u t)
 
+  -- a record that the table refuses is one that reading comes to, and refuses so
+  pub refused-at : {i n p : ℕ} → Reached s i p → RefusedWith s i n → Upto s i × (judge s i ≡ Refused n p)
+  refused-at {i} h r = let u = upto-if i (h .before) in (u, rw (h .starts) (refused-for u r))
+
   first-alone : (u : Upto s 1) → ended s 1 ≡ Not 6 (length s)
   first-alone u = ended-no-stream s 1 (head-some s 0 u) (ap length (behind-first s (u .passed 0 (omega arith)) .1))
 
@@ -321,9 +325,8 @@ module _ (s : List ℕ) where
   unfolding placeOf
   given-if (empty e) = stops-once s (at-end 0 (upto-none s) (sym e) refl) ∙ ended-empty s
   given-if (at-record {i} {n} {p} h r) =
-      let u = upto-if i (h .before) in
-      let j : judge s i ≡ Refused n p = rw (h .starts) (refused-for u r) in
-      stops-once s (by-record i n p u (rw (← h .starts) (h .inside)) j refl)
+      let a = refused-at h r in
+      stops-once s (by-record i n p (a .0) (rw (← h .starts) (h .inside)) (a .1) refl)
   given-if (no-stream o) =
       let u = upto-if 1 (only (o .taken)) in
       stops-once s (at-end 1 u (o .ends) refl) ∙ first-alone u
