@@ -26,7 +26,7 @@ module _ (front behind other : List ℕ) where
 
   -- 2 or 3 at place p: the byte there settles it, and all bytes behind that byte may be others
   pub behind-a-wrong-kind : (n p : ℕ) → n ≡ 2 ⊎ n ≡ 3 → p < length front → reading (front ++ behind) ≡ Not n p → reading (front ++ other) ≡ Not n p
-  behind-a-wrong-kind n p its l e = by (given-then (front ++ behind) n p e) (bounds its) l
+  behind-a-wrong-kind n p its l e = by (given-then (front ++ behind) n p e) (bounds its) (omega arith)
     where
       bounds : n ≡ 2 ⊎ n ≡ 3 → (2 ≤ n) × (n ≤ 3)
       bounds (inl q) = (omega arith, omega arith)
@@ -48,7 +48,7 @@ module _ (front behind other : List ℕ) where
 
   -- any number at place p: where the record there is whole in front, its bytes settle it, and all bytes behind the record may be others
   pub behind-a-wrong-record : (n p : ℕ) → p + sizeOf (getD front p 0) ≤ length front → reading (front ++ behind) ≡ Not n p → reading (front ++ other) ≡ Not n p
-  behind-a-wrong-record n p l e = by (given-then (front ++ behind) n p e) l
+  behind-a-wrong-record n p l e = by (given-then (front ++ behind) n p e) (omega arith)
     where
       by : {m q : ℕ} → Given (front ++ behind) m q → q + sizeOf (getD front q 0) ≤ length front → reading (front ++ other) ≡ Not m q
       by (empty z) k = absurd (omega (arith, size-some (getD front 0 0), length-append front behind))

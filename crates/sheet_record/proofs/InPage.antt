@@ -9,7 +9,7 @@ use borrow.Author.Tests.{eq-eqb}
 use Rattle.sheet_record.specs.declared.Given.{Given}
 use Rattle.sheet_record.specs.declared.Record.{Record}
 use Rattle.sheet_record.specs.Kinds.{kinds, lineOf, fieldsOf, known, limit, ranged, inRange}
-use Rattle.sheet_record.specs.Ranges.{SegmentRanges, PnetStreamRanges, RingRanges, RingStreamRanges, ExchangeRanges, VariableRanges, JitterStreamRanges, InPage}
+use Rattle.sheet_record.specs.Ranges.{Range, SegmentRanges, PnetStreamRanges, RingRanges, RingStreamRanges, ExchangeRanges, VariableRanges, JitterStreamRanges, InPage}
 use Rattle.sheet_record.specs.Ranges.InPage.{segment, pnet-stream, ring, ring-stream, exchange, variable, jitter-stream}
 use Rattle.sheet_record.proofs.Parts.{by-kind}
 use Rattle.sheet_record.proofs.Ranges.{range-within, segment-ranges, pnet-stream-ranges, ring-ranges, ring-stream-ranges, exchange-ranges, variable-ranges, jitter-stream-ranges}
@@ -61,8 +61,9 @@ module _ (g : Given) (r : Record) where
   pub jitter-stream-in-range : r .kind ≡ 7 → JitterStreamRanges g r → inRange g r ≡ true
   unfolding inRange ranged limit fieldsOf lineOf kinds
   jitter-stream-in-range k w =
+      let d : Range 1 (r .d) (r .c - r .e) = record { least = w .deadline .least; most = omega (arith, w .deadline .most) } in
       rw k (together (range-within 1 (r .a) (g .masters) (w .master)) (range-within 1 (r .b) 1548 (w .cycle)) (range-within 1 (r .c) 1000000000 (w .spacing))
-      (range-within 1 (r .d) (r .c - r .e) (w .deadline)) (range-within 0 (r .e) (r .c - 1) (w .jitter)))
+      (range-within 1 (r .d) (r .c - r .e) d) (range-within 0 (r .e) (r .c - 1) (w .jitter)))
 
 -- ---- All kinds
 

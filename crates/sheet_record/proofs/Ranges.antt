@@ -5,6 +5,7 @@ use mathlib.Core.List.{List, [], _∷_}
 use mathlib.Core.Logic.{_⊎_, inl, inr}
 use Prim.Native.Nat.{ℕ, _-_, _≤_}
 use native.Mathlib.Nat.{le-refl, le-trans}
+use native.Mathlib.Omega.{arith}
 use borrow.Author.Tests.{le-leb, leb-true, eqb-true, eq-eqb}
 use lib.Dec.{leb, eqb}
 use Rattle.sheet_record.specs.declared.Given.{Given}
@@ -162,11 +163,12 @@ module _ (g : Given) (r : Record) (e : inRange g r ≡ true) where
   unfolding inRange ranged limit fieldsOf lineOf kinds
   jitter-stream-ranges k =
       let t = tests _ _ _ _ _ (rw k at e) in
+      let d : Range 1 (r .d) (r .c - r .e) = within-range 1 (r .d) (r .c - r .e) (t .for-d) in
       record {
         master = within-range 1 (r .a) (g .masters) (t .for-a);
         cycle = within-range 1 (r .b) 1548 (t .for-b);
         spacing = within-range 1 (r .c) 1000000000 (t .for-c);
-        deadline = within-range 1 (r .d) (r .c - r .e) (t .for-d);
+        deadline = record { least = d .least; most = omega (arith, d .most) };
         jitter = within-range 0 (r .e) (r .c - 1) (t .for-e);
       }
 
