@@ -162,8 +162,8 @@ module _ (g : Given) (r : Record) (e : inRange g r ≡ true) where
   pub jitter-stream-ranges : r .kind ≡ 7 → JitterStreamRanges g r
   unfolding inRange ranged limit fieldsOf lineOf kinds
   jitter-stream-ranges k =
-      let t = tests _ _ _ _ _ (rw k at e) in
-      let d : Range 1 (r .d) (r .c - r .e) = within-range 1 (r .d) (r .c - r .e) (t .for-d) in
+      let t = tests (within 1 (r .a) (g .masters)) (within 1 (r .b) 1548) (within 1 (r .c) 1000000000) (within 1 (r .d) (r .c - r .e)) (within 0 (r .e) (r .c - 1)) (rw k at e) in
+      let d = within-range 1 (r .d) (r .c - r .e) (t .for-d) in
       record {
         master = within-range 1 (r .a) (g .masters) (t .for-a);
         cycle = within-range 1 (r .b) 1548 (t .for-b);
