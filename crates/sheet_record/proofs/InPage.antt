@@ -1,14 +1,16 @@
 -- Page 01, 'Sheet records', and page 02, Ask 7: a record of a known kind is in range exactly if each of its fields is in the page's range, and 0 where the
--- kind has no field. Assumes nothing.
+-- kind has no field, as it always is in a record that is read. Assumes nothing.
 use mathlib.Core.Path.{_≡_, refl}
 use mathlib.Core.Bool.{Bool, true, false, _&&_}
 use mathlib.Core.Logic.{_↔_}
-use Prim.Native.Nat.{ℕ, _-_}
+use mathlib.Core.List.{List, [], _∷_}
+use Prim.Native.Nat.{ℕ, zero, suc, _+_, _-_, _≤_}
 use native.Mathlib.Omega.{arith}
 use borrow.Author.Tests.{eq-eqb}
+use lib.ListN.{length, getD}
 use Rattle.sheet_record.specs.declared.Given.{Given}
 use Rattle.sheet_record.specs.declared.Record.{Record}
-use Rattle.sheet_record.specs.Kinds.{kinds, lineOf, fieldsOf, known, limit, ranged, inRange}
+use Rattle.sheet_record.specs.Kinds.{Field, kinds, lineOf, fieldsOf, known, fieldAt, decode, numbers, limit, ranged, inRange}
 use Rattle.sheet_record.specs.Ranges.{Range, SegmentRanges, PnetStreamRanges, RingRanges, RingStreamRanges, ExchangeRanges, VariableRanges, JitterStreamRanges, InPage}
 use Rattle.sheet_record.specs.Ranges.InPage.{segment, pnet-stream, ring, ring-stream, exchange, variable, jitter-stream}
 use Rattle.sheet_record.proofs.Parts.{by-kind}
@@ -97,3 +99,21 @@ in-range-exactly g r is-known = (λ e. of-page e (r .kind) is-known refl, in-pag
         (λ o k. variable k (variable-ranges g r e k))
         (λ o k. jitter-stream k (jitter-stream-ranges g r e k))
         (λ n. no)
+
+-- ---- Fields that a kind does not have
+
+past-the-last : (s : List ℕ) (at : ℕ) (fs : List Field) (j : ℕ) → length fs ≤ j → fieldAt s at fs j ≡ 0
+unfolding fieldAt
+past-the-last s at [] j l = refl
+past-the-last s at (f ∷ fs) zero l = absurd (omega arith)
+past-the-last s at (f ∷ fs) (suc j) l = past-the-last s (at + f .width) fs j (omega arith)
+
+-- they read as 0, so none of them is ever out of range in a record that is read
+pub read-as-0 : (s : List ℕ) (at j : ℕ) → length (fieldsOf (getD s at 0)) ≤ j → getD (numbers (decode s at)) j 0 ≡ 0
+unfolding decode
+read-as-0 s at zero l = past-the-last s (at + 1) (fieldsOf (getD s at 0)) 0 l
+read-as-0 s at (suc zero) l = past-the-last s (at + 1) (fieldsOf (getD s at 0)) 1 l
+read-as-0 s at (suc (suc zero)) l = past-the-last s (at + 1) (fieldsOf (getD s at 0)) 2 l
+read-as-0 s at (suc (suc (suc zero))) l = past-the-last s (at + 1) (fieldsOf (getD s at 0)) 3 l
+read-as-0 s at (suc (suc (suc (suc zero)))) l = past-the-last s (at + 1) (fieldsOf (getD s at 0)) 4 l
+read-as-0 s at (suc (suc (suc (suc (suc j))))) l = refl
