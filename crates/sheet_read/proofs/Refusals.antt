@@ -360,7 +360,7 @@ module _ (s : List ℕ) where
       line (empty e) = inl (e, refl)
       line (at-record {i} h (cut k r c)) = inr (i, h, k, r, c)
 
-  -- 2: a record that reading comes to is of no kind 1..6
+  -- 2: a record that reading comes to is of no kind 1..7
   pub refused-2 : (p : ℕ) → (reading s ≡ Not 2 p) ↔ ((i : ℕ) × Reached s i p × (KnownKind s i → ⊥))
   refused-2 p = (λ e. line (given-then 2 p e), λ w. given-if (at-record (w .1) (unknown (w .2))))
     where
