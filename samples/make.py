@@ -128,9 +128,10 @@ SAMPLES = [
     ),
     (
         "pnet-release-jitter",
-        "Accepted. Stream 6, of master 3, is sporadic: a request is due every 100 ms at most\n"
-        "(7,680 bp) and comes up to 80 ms late (J, 6,144 bp), so two may come 20 ms apart. Its\n"
-        "deadline of 20 ms, 1,536 bp, is all that J leaves of T. A J is to be rounded up.\n"
+        "Accepted. Stream 6, of master 3, is sporadic: its nominal times are at least 100 ms\n"
+        "apart (T, 7,680 bp), and a request comes up to 80 ms late (J, 6,144 bp), so two may\n"
+        "come 20 ms apart. Its deadline of 20 ms, 1,536 bp, is all that J leaves of T. Where J\n"
+        "is measured, it is to be rounded up.\n"
         "\n"
         "J changes no bound, but the refined figures of the others. A request of master 3 may\n"
         "have waited for 741 bp, its bound, and have come J late: 1,462 + 741 + 6,144 bp are more\n"
@@ -457,8 +458,8 @@ CAPTURES = [
         "capture-jitter-within",
         "pnet-release-jitter",
         "Every answer within its bound, and no request too soon. The second of stream 6 comes\n"
-        "1,536 bp after the first, T - J: the first may have been due at 3,856 bp and have come J\n"
-        "late, and the others at 11,536 and 19,216 bp, T later each, just when they came.",
+        "1,536 bp after the first, T - J: the first one's nominal time may be 3,856 bp, so that it\n"
+        "came J late, and those of the others 11,536 and 19,216 bp, T later each, when they came.",
         [
             (16, 6, 10_000),
             (17, 6, 10_600),
@@ -482,8 +483,9 @@ CAPTURES = [
         "capture-jitter-too-soon",
         "pnet-release-jitter",
         "Requests of stream 6, each 1,536 bp after the one before, T - J. Two may come so, as in\n"
-        "capture-jitter-within, but no third: the first was due at 3,856 bp at the earliest, so the\n"
-        "third is due at 19,216 bp or later, and it comes at 13,072 bp. The fourth goes by that one.",
+        "capture-jitter-within, but no third: the first one's nominal time is 3,856 bp at the\n"
+        "earliest, so the third's is 19,216 bp or later, and it comes at 13,072 bp. The fourth goes\n"
+        "by that one.",
         [
             (16, 6, 10_000),
             (17, 6, 10_600),

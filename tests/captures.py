@@ -8,6 +8,8 @@ import random
 
 import second_opinion
 import sheets
+import sheet_records
+import sheets_pnet
 import texts
 from second_opinion import ANSWER, COUNTER, EVENT_LENGTH, REQUEST
 
@@ -115,9 +117,9 @@ def silent_for_long(rng):
 
 def closely_asked(rng):
     """Requests about T - J apart, each answered at once: whether one is too soon goes by those before it."""
-    t = rng.choice([1_000, 5_000, 900_000, sheets.BILLION])
+    t = rng.choice([1_000, 5_000, 900_000, sheet_records.BILLION])
     j = rng.choice([0, 1, t // 10, t // 2, t - 250])
-    data = sheets.pnet_sheet(1, [(1, 203, t, t - j, j)])
+    data = sheets_pnet.pnet_sheet(1, [(1, 203, t, t - j, j)])
     now, label = rng.randrange(COUNTER), None
     made = []
     for _ in range(rng.randint(2, 30)):
@@ -136,8 +138,8 @@ def small_sheet(rng):
     streams = []
     for _ in range(rng.randint(1, 12)):
         stream = [rng.randint(1, masters), rng.randint(1, 300), 900_000, rng.randint(500_000, 900_000)]
-        streams.append(sheets.with_jitter(rng, stream) if rng.random() < share else stream)
-    return sheets.pnet_sheet(masters, streams)
+        streams.append(sheets_pnet.with_jitter(rng, stream) if rng.random() < share else stream)
+    return sheets_pnet.pnet_sheet(masters, streams)
 
 
 # ---------------------------------------------------------------- damage
@@ -216,7 +218,7 @@ FAMILIES = [
 
 
 def edges(rng):
-    one = sheets.pnet_sheet(1, [(1, 203, 1_000, 1_000)])
+    one = sheets_pnet.pnet_sheet(1, [(1, 203, 1_000, 1_000)])
     yield "an empty capture", one, b""
     for earlier in (0, 1, COUNTER - 251, COUNTER - 250, COUNTER - 1):
         for later in (0, 1, 249, 250, 251, COUNTER - 1):
@@ -226,7 +228,7 @@ def edges(rng):
     for later in (499, 500, 501):
         yield "asked again at %d" % later, one, asked + event(REQUEST, 1, later) + event(ANSWER, 1, later + 9)
     # J is 300 bp, and the second request comes 700 bp after the first, as soon as it can: then how soon the third, and the fourth
-    jitter = sheets.pnet_sheet(1, [(1, 203, 1_000, 700, 300)])
+    jitter = sheets_pnet.pnet_sheet(1, [(1, 203, 1_000, 700, 300)])
     for second in (COUNTER + 199, COUNTER + 200, COUNTER + 500, COUNTER + 800, COUNTER + 801):
         again = asked + event(REQUEST, 1, second) + event(ANSWER, 1, second + 9)
         yield "J 300, asked again at %d" % second, jitter, again
@@ -234,7 +236,7 @@ def edges(rng):
             more = again + event(REQUEST, 1, third) + event(ANSWER, 1, third + 9)
             yield "J 300, asked again at %d and %d" % (second, third), jitter, more
             yield "J 300, asked again at %d, %d and 700 bp later" % (second, third), jitter, more + event(REQUEST, 1, third + 700)
-    two = sheets.pnet_sheet(1, [(1, 203, 1_000, 1_000)] * 2)
+    two = sheets_pnet.pnet_sheet(1, [(1, 203, 1_000, 1_000)] * 2)
     for later in (498, 499, 500, 501, 502):
         yield "open until %d" % later, two, event(REQUEST, 1, 0) + event(REQUEST, 2, later) + event(ANSWER, 2, later)
     for apart in (COUNTER // 2 - 1, COUNTER // 2, COUNTER - 1):
@@ -247,7 +249,7 @@ def edges(rng):
         yield "%d bytes, then kind 0" % length, one, pair[:length] + bytes(1)
 
     # the most streams, each with a line of its own
-    full = sheets.full_segment(rng, 32, [25] * 32)
+    full = sheets_pnet.full_segment(rng, 32, [25] * 32)
     bounds = bounds_of(full)
     for stream in (0, 1, 800, 801):
         yield "stream %d of 800" % stream, full, event(REQUEST, stream, 0)
@@ -255,7 +257,7 @@ def edges(rng):
 
     # ten masters, 80 streams each, at the slowest: those behind the one that the token has just left answer first, 247 bp apart, that one last,
     # and then each one's next stream does, so that its last answer takes exactly its bound
-    even = sheets.pnet_sheet(10, [(1 + i // 80, 200, 1_000_000, 1_000_000) for i in range(800)])
+    even = sheets_pnet.pnet_sheet(10, [(1 + i // 80, 200, 1_000_000, 1_000_000) for i in range(800)])
     for left, start, early in ((1, 0, 0), (1, COUNTER - 1, 0), (10, COUNTER - 296, 0), (10, 0, 1)):
         requests = [event(REQUEST, i, start - early) for i in range(1, 801)]
         order = [80 * ((left + i) % 10) + i // 10 + 1 for i in range(800)]

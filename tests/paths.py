@@ -7,6 +7,7 @@ import random
 
 import second_opinion
 import sheets
+import sheets_pnet
 import texts
 import vectors
 from second_opinion import BILLION, FORWARDING_LIMIT, Crossed
@@ -22,8 +23,8 @@ def small_segment(rng):
         [rng.randint(1, masters), rng.randint(1, 300), 900_000, rng.randint(500_000, 900_000)]
         for _ in range(rng.randint(1, 12))
     ]
-    streams = [sheets.with_jitter(rng, stream) if rng.random() < 0.3 else stream for stream in streams]
-    return sheets.pnet_sheet(masters, streams), rng.choice(streams)[0]
+    streams = [sheets_pnet.with_jitter(rng, stream) if rng.random() < 0.3 else stream for stream in streams]
+    return sheets_pnet.pnet_sheet(masters, streams), rng.choice(streams)[0]
 
 
 def time(rng):

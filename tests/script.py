@@ -64,9 +64,9 @@ class Tree:
         self.root.mkdir()
         shutil.copy(ROOT / "plan", self.root / "plan")
         shutil.copytree(ROOT / "tools", self.root / "tools")
-        for name in ("help.rt", "main.rt"):
-            (self.root / "crates/planner/src").mkdir(parents=True, exist_ok=True)
-            shutil.copy(ROOT / "crates/planner/src" / name, self.root / "crates/planner/src" / name)
+        for name in ("planner_io/src/help.rt", "planner/src/main.rt"):
+            (self.root / "crates" / name).parent.mkdir(parents=True)
+            shutil.copy(ROOT / "crates" / name, self.root / "crates" / name)
         (self.root / "crates.txt").write_text("common:\nplanner: common io\nother: common\n")
         self.environment = dict(os.environ, PATH="%s:%s" % (self.home / "bin", os.environ["PATH"]))
         self.environment.pop("PLAN_BUILD", None)

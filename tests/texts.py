@@ -8,6 +8,11 @@ import random
 
 import second_opinion
 import sheets
+import sheet_records
+import sheets_damaged
+import sheets_pnet
+import sheets_ring
+import sheets_table
 import vectors
 from second_opinion import UNITS, WIDTHS, WORDS, Refusal, line_of
 from vectors import GOOD_LINE, HEAD_LINE
@@ -17,20 +22,20 @@ PIECES = (4_096, 16_384, 65_534, 65_536)
 
 # sheets that read and have a text
 SHORT_SHEETS = [
-    sheets.pnet_roomy, sheets.pnet_tight, sheets.pnet_late, sheets.pnet_jitter_counts,
-    sheets.worldfip_mixed, sheets.worldfip_one_slot, sheets.worldfip_harmonic,
+    sheets_pnet.pnet_roomy, sheets_pnet.pnet_tight, sheets_pnet.pnet_late, sheets_pnet.pnet_jitter_counts,
+    sheets_table.worldfip_mixed, sheets_table.worldfip_one_slot, sheets_table.worldfip_harmonic,
 ]
 SHEETS = SHORT_SHEETS + [
-    sheets.pnet_busy_master, sheets.pnet_links, sheets.pnet_many, sheets.pnet_jitter, sheets.pnet_jitter,
-    sheets.worldfip_many_slots, sheets.worldfip_full_row, sheets.worldfip_many_rows, sheets.worldfip_huge, sheets.worldfip_no_fit,
+    sheets_pnet.pnet_busy_master, sheets_pnet.pnet_links, sheets_pnet.pnet_many, sheets_pnet.pnet_jitter, sheets_pnet.pnet_jitter,
+    sheets_table.worldfip_many_slots, sheets_table.worldfip_full_row, sheets_table.worldfip_many_rows, sheets_table.worldfip_huge, sheets_table.worldfip_no_fit,
 ]
 # sheets that read and have none
-RINGS = [sheets.profibus_random, sheets.profibus_exact, sheets.profibus_ties, sheets.profibus_below, sheets.profibus_short]
+RINGS = [sheets_ring.profibus_random, sheets_ring.profibus_exact, sheets_ring.profibus_ties, sheets_ring.profibus_below, sheets_ring.profibus_short]
 
 
 def records_of(data):
     """The records of a sheet, each a kind and the list of its numbers."""
-    return [(record[0], list(second_opinion.fields_of(record[0], record[1:]))) for record in sheets.records_of(data)]
+    return [(record[0], list(second_opinion.fields_of(record[0], record[1:]))) for record in sheet_records.records_of(data)]
 
 
 def written(records):
@@ -233,7 +238,7 @@ def moved(rng, records):
 def borrowed(rng, records):
     """A record of any kind that has a line, anywhere."""
     kind = rng.choice(list(WORDS))
-    records.insert(rng.randint(0, len(records)), (kind, list(sheets.SOUND_RECORD[kind])))
+    records.insert(rng.randint(0, len(records)), (kind, list(sheets_damaged.SOUND_RECORD[kind])))
     return records
 
 
@@ -249,7 +254,7 @@ def misread(rng):
 
 
 def met_before(rng):
-    return written(records_of(sheets.worldfip_repeated(rng)))
+    return written(records_of(sheets_table.worldfip_repeated(rng)))
 
 
 def over(rng):
@@ -314,20 +319,20 @@ def long_edges():
         yield "%d bytes" % length, text
         yield "%d bytes, then a bad line" % length, text + b"x\n" + GOOD_LINE
         yield "%d bytes, the last line without its end" % length, text[:-1]
-    most = sheets.MEGABYTE // len(GOOD_LINE)
+    most = sheet_records.MEGABYTE // len(GOOD_LINE)
     yield "megabytes of streams", HEAD_LINE + GOOD_LINE * (3 * most)
     late = b"pnet-jitter-stream,1,203 bp,1000 bp,700 bp,300 bp\n"
-    yield "megabytes of streams of kind 7", HEAD_LINE + late * (3 * sheets.MEGABYTE // len(late))
-    yield "megabytes of streams of kind 7, then a bad line", HEAD_LINE + late * (3 * sheets.MEGABYTE // len(late)) + late[:-4] + b"\n"
+    yield "megabytes of streams of kind 7", HEAD_LINE + late * (3 * sheet_records.MEGABYTE // len(late))
+    yield "megabytes of streams of kind 7, then a bad line", HEAD_LINE + late * (3 * sheet_records.MEGABYTE // len(late)) + late[:-4] + b"\n"
     yield "megabytes of streams, then a bad line", HEAD_LINE + GOOD_LINE * (3 * most) + b"pnet-stream,1,203 bp,1000 bp,1000\n"
     yield "a megabyte of streams, then one without an end", HEAD_LINE + GOOD_LINE * most + GOOD_LINE[:-1]
     yield "a megabyte of streams without a segment", GOOD_LINE * most
     yield "a megabyte of segments", HEAD_LINE * most
     yield "a megabyte of variables", b"worldfip-exchange,1 us\n" + b"worldfip-variable,1,9 us\n" * most
     for what, one in (("digits", b"1"), ("zeros", b"0"), ("blanks", b" "), ("commas", b","), ("zero bytes", b"\0")):
-        yield "a megabyte of %s in a line" % what, HEAD_LINE + b"pnet-stream,1" + one * sheets.MEGABYTE + GOOD_LINE
-    yield "a megabyte of empty lines", b"\n" * sheets.MEGABYTE
-    yield "a megabyte in one line", b"x" * sheets.MEGABYTE
+        yield "a megabyte of %s in a line" % what, HEAD_LINE + b"pnet-stream,1" + one * sheet_records.MEGABYTE + GOOD_LINE
+    yield "a megabyte of empty lines", b"\n" * sheet_records.MEGABYTE
+    yield "a megabyte in one line", b"x" * sheet_records.MEGABYTE
 
 
 def edges(rng):
@@ -338,24 +343,24 @@ def edges(rng):
     # each field at the ends of its bytes and its range; kind 4 follows kind 3 alone, which has no line
     for kind in (1, 2, 5, 6, 7):
         for field in range(len(WIDTHS[kind])):
-            for value in sheets.around(kind, field):
-                yield "kind %d field %d is %d" % (kind, field + 1, value), written(records_of(sheets.with_field(kind, field, value)))
-    for j in (0, 1, 999, 1_000, 1_001, sheets.ONES):
+            for value in sheets_damaged.around(kind, field):
+                yield "kind %d field %d is %d" % (kind, field + 1, value), written(records_of(sheets_damaged.with_field(kind, field, value)))
+    for j in (0, 1, 999, 1_000, 1_001, sheet_records.ONES):
         for d in sorted({1, 1_000 - j, 1_001 - j}):
             if 0 <= d:
                 yield "T 1000 D %d J %d" % (d, j), HEAD_LINE + written([(7, [1, 203, 1_000, d, j])])
-    yield "the longest lines of kind 2", written([(1, [32])] + [(2, [10 + i % 23, 1_548, sheets.BILLION, sheets.BILLION]) for i in range(800)])
-    half = sheets.BILLION // 2
-    longest = [(1, [32])] + [(7, [10 + i % 23, 1_548, sheets.BILLION, half, half]) for i in range(800)]
+    yield "the longest lines of kind 2", written([(1, [32])] + [(2, [10 + i % 23, 1_548, sheet_records.BILLION, sheet_records.BILLION]) for i in range(800)])
+    half = sheet_records.BILLION // 2
+    longest = [(1, [32])] + [(7, [10 + i % 23, 1_548, sheet_records.BILLION, half, half]) for i in range(800)]
     yield "the longest text", written(longest)
     yield "the longest text, then a stream of kind 2", written(longest) + GOOD_LINE
     yield "the longest text, then a stream of kind 7", written(longest + longest[-1:])
     yield "the longest text, then a bad line", written(longest) + b"pnet-jitter-stream,1,203 bp,1000 bp,700 bp,300\n"
-    yield "the longest line that is of the form", HEAD_LINE + written([(7, [255, 65_535, *[sheets.ONES] * 3])])
-    yield "800 streams", written(records_of(sheets.full_segment(rng, 32, [25] * 32)))
-    yield "800 streams of kind 7", written(records_of(sheets.full_segment(rng, 32, [25] * 32, kinds=(7,))))
-    yield "800 streams of kinds 2 and 7", written(records_of(sheets.full_segment(rng, 32, [25] * 32, kinds=(2, 7))))
-    yield "64 variables", written([(5, [1_000_000])] + [(6, [65_535 - i, sheets.BILLION]) for i in range(64)])
+    yield "the longest line that is of the form", HEAD_LINE + written([(7, [255, 65_535, *[sheet_records.ONES] * 3])])
+    yield "800 streams", written(records_of(sheets_pnet.full_segment(rng, 32, [25] * 32)))
+    yield "800 streams of kind 7", written(records_of(sheets_pnet.full_segment(rng, 32, [25] * 32, kinds=(7,))))
+    yield "800 streams of kinds 2 and 7", written(records_of(sheets_pnet.full_segment(rng, 32, [25] * 32, kinds=(2, 7))))
+    yield "64 variables", written([(5, [1_000_000])] + [(6, [65_535 - i, sheet_records.BILLION]) for i in range(64)])
     yield from long_edges()
 
 

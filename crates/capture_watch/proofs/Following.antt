@@ -9,7 +9,8 @@ use lib.ListN.{length, getD, set, length-set}
 use Rattle.common.specs.Runs.{tab}
 use Rattle.common.specs.Sums.{when}
 use Rattle.common.proofs.Runs.{Filling, filled-at, tab-places}
-use Rattle.sheet_record.proofs.Ranges.{Range, within-range}
+use Rattle.sheet_record.specs.Ranges.{Range}
+use Rattle.sheet_record.proofs.Ranges.{within-range}
 use Rattle.sheet_record.proofs.Tables.{both-true}
 use Rattle.capture_log.specs.declared.Event.{Event}
 use Rattle.capture_log.specs.Records.{size, metAt}

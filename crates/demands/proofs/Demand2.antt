@@ -4,14 +4,17 @@ use Prim.Native.Nat.{ℕ, suc, _+_, _-_, _*_, _≤_, _<_}
 use mathlib.Core.Path.{_≡_, refl}
 use mathlib.Core.List.{List}
 use mathlib.Core.Logic.{_↔_}
-use lib.ListN.{length, getD, take}
+use lib.ListN.{length, getD}
+use lib.Seq.{slice}
 use Rattle.sheet_record.specs.declared.Record.{Record}
+use Rattle.sheet_record.specs.Numbers.{pasted}
 use Rattle.sheet_read.specs.Sheets.{Sheet, sheetOf}
 use Rattle.sheet_read.specs.Whole.{reading}
 use Rattle.sheet_read.specs.Whole.Outcome.{Read, Not}
-use Rattle.sheet_read.specs.Records.{recordsIn, Right, Writes}
+use Rattle.sheet_read.specs.Records.{recordsIn, bytesOf, Right, Writes}
 use Rattle.sheet_read.proofs.Known.{reading-read}
-use Rattle.sheet_read.proofs.Writes.{writes-read, read-writes}
+use Rattle.sheet_read.proofs.Trips.{same-records-same-bytes}
+use Rattle.sheet_read.proofs.Writes.{right-writes, writes-read, read-writes, read-writes-alone}
 use Rattle.pnet_rules.specs.Segment.{Segment, count, turn, bound}
 use Rattle.pnet_rules.specs.Refined.{valueOf, right, rounds, refined}
 use Rattle.pnet_rules.proofs.Figures as figures
@@ -34,6 +37,7 @@ use Rattle.worldfip_plan.proofs.Refusals as worldfip
 
 -- ---- 'P-NET bounds and the least refined solution'
 
+-- from the bytes and the three lent runs: Demand2Pnet.antt
 pub bound-is-s-times-V : (S : Segment) (k : ℕ) → bound S k ≡ count S k * turn S
 unfolding bound turn
 bound-is-s-times-V S k = refl
@@ -91,11 +95,26 @@ pnet-refused-exactly = pnet.refused-exactly
 
 -- ---- 'Sheets read and written come back equal.'
 
--- records that make a right sheet, written one after the other, read back as the same records
-pub written-comes-back : {b b' : List ℕ} {end : ℕ} {rs : List Record} → Right rs → Writes b 0 rs b' end → reading (take end b') ≡ Read (sheetOf rs)
+-- records that make a right sheet can be written one after the other, from any place of any buffer that has room for them from there
+pub a-right-sheet-is-written : (rs : List Record) → Right rs → (b : List ℕ) (at : ℕ) → at + length (bytesOf rs) ≤ length b
+    → (b' : List ℕ) × (end : ℕ) × Writes b at rs b' end
+a-right-sheet-is-written = right-writes
+
+-- however they were written, the bytes from that place up to the one that the last record answered read back as the same records
+pub written-comes-back : {b b' : List ℕ} {at end : ℕ} {rs : List Record} → Right rs → Writes b at rs b' end → reading (slice at end b') ≡ Read (sheetOf rs)
 written-comes-back = writes-read
 
 -- the records of an accepted sheet, written in order into a buffer of its length, give its bytes
 pub read-comes-back : (s : List ℕ) (S : Sheet) → ((i : ℕ) → getD s i 0 < 256) → reading s ≡ Read S → (b : List ℕ) → length b ≡ length s
     → Writes b 0 (recordsIn S) s (length s)
-read-comes-back = read-writes
+read-comes-back = read-writes-alone
+
+-- written from any place of any buffer that has room for them from there, they give its bytes there, and no other byte of the buffer changes
+pub read-comes-back-anywhere : (s : List ℕ) (S : Sheet) → ((i : ℕ) → getD s i 0 < 256) → reading s ≡ Read S → (b : List ℕ) (at : ℕ) → at + length s ≤ length b
+    → Writes b at (recordsIn S) (pasted b at s) (at + length s)
+read-comes-back-anywhere = read-writes
+
+-- so two accepted sheets with the same records are the same bytes
+pub the-same-records-are-the-same-bytes : (s t : List ℕ) (S : Sheet) → ((i : ℕ) → getD s i 0 < 256) → ((i : ℕ) → getD t i 0 < 256)
+    → reading s ≡ Read S → reading t ≡ Read S → s ≡ t
+the-same-records-are-the-same-bytes = same-records-same-bytes

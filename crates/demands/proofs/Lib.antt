@@ -1,5 +1,6 @@
 pub mod Demand1
 pub mod Demand2
+pub mod Demand2Pnet
 pub mod Demand3
 pub mod Corrected
 pub mod Outcomes
@@ -13,3 +14,6 @@ pub mod Watched
 pub mod WatchedBytes
 pub mod CaptureCase
 pub mod Relayed
+pub mod Lines
+pub mod Shown
+pub mod JitterCase

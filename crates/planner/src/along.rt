@@ -1,16 +1,16 @@
 // A path over several P-NET segments, from the words behind `--path`, in fours: a number and its unit, a sheet, and the master that sends
 // there. The first number is the deadline, each other one the forwarding time of the gateway that leads to the segment.
-use crate::input::Given;
-use crate::input::open;
-use crate::output;
-use crate::output::ACCEPTED;
-use crate::output::FAILED;
-use crate::output::REFUSED;
-use crate::words::from_standard_input;
-use crate::words::is_word;
-use crate::words::serves;
-use crate::words::show_word;
 use planner_complaints::complain;
+use planner_io::input::Given;
+use planner_io::input::open;
+use planner_io::output;
+use planner_io::output::ACCEPTED;
+use planner_io::output::FAILED;
+use planner_io::output::REFUSED;
+use planner_io::words::from_standard_input;
+use planner_io::words::is_word;
+use planner_io::words::serves;
+use planner_io::words::show_word;
 use pnet_path::Way;
 use report_path::Reported;
 use text_entry::Entered;
@@ -143,9 +143,9 @@ fn read_sheet(i: usize, sheet: &mut [u8]) -> Given
     let n = os::arg(i, &mut name);
     let fd = open(&name[..n]);
     if fd < 0 {
-        return crate::input::failed();
+        return planner_io::input::failed();
     }
-    let given = crate::input::read_sheet(fd, &name[..n], sheet, false);
+    let given = planner_io::input::read_sheet(fd, &name[..n], sheet, false);
     libc::close(fd);
     given
 }

@@ -1,12 +1,12 @@
 // A sheet as text, and a text as a sheet, on standard output. What is refused is said on standard error, so that nothing but a whole text or a whole
 // sheet ever stands in the file that it goes to.
-use crate::input::read_sheet;
-use crate::output;
-use crate::output::ACCEPTED;
-use crate::output::FAILED;
-use crate::output::REFUSED;
 use planner_complaints::blame;
 use planner_complaints::complain;
+use planner_io::input::read_sheet;
+use planner_io::output;
+use planner_io::output::ACCEPTED;
+use planner_io::output::FAILED;
+use planner_io::output::REFUSED;
 use sheet_read::Reading;
 use sheet_write::Put;
 

@@ -1,22 +1,20 @@
 // Reads a sheet from standard input, or from the file that its argument names, and writes its report to standard output. With a
-// second name it lays that capture beside the sheet's bounds; behind a command's word it does what help.rt lists. How the call ended it
+// second name it lays that capture beside the sheet's bounds; behind a command's word it does what the help lists. How the call ended it
 // says last, on descriptor 3.
 mod along;
-mod beside;
 mod exchange;
-mod help;
-mod input;
-mod output;
-mod words;
 
-use input::open;
-use input::read_sheet;
 use libc::STDIN_FILENO;
-use output::ACCEPTED;
-use output::FAILED;
-use output::REFUSED;
-use output::unless_cut;
 use planner_complaints::complain;
+use planner_io::help;
+use planner_io::input::open;
+use planner_io::input::read_sheet;
+use planner_io::output;
+use planner_io::output::ACCEPTED;
+use planner_io::output::FAILED;
+use planner_io::output::REFUSED;
+use planner_io::output::unless_cut;
+use planner_io::words;
 use report_sheet::Reported;
 
 // ---- Reports
@@ -74,7 +72,7 @@ fn compare(sheet_fd: i32, sheet_name: &[u8], fd: i32, name: &[u8]) -> u8 {
         return output::bad_line(given.line);
     }
     let n = given.length;
-    beside::compare(&sheet[..n], fd, name)
+    planner_beside::compare(&sheet[..n], fd, name)
 }
 
 fn compare_files(sheet_name: &[u8], name: &[u8]) -> u8 {

@@ -18,7 +18,7 @@ use Rattle.pnet_rules.specs.Segment.{streamOf, streamAt, segmentOf, owns
 use Rattle.pnet_rules.specs.Limits.{Ranged, Declared}
 
 -- a P-NET stream's ranges are those of its record; one without jitter has J = 0
-stream-ranged : (g : Given) (r : Record) → isStreamOf pnet (r .kind) ≡ true → inRange g r ≡ true → Ranged (g .masters) (streamOf r)
+pub stream-ranged : (g : Given) (r : Record) → isStreamOf pnet (r .kind) ≡ true → inRange g r ≡ true → Ranged (g .masters) (streamOf r)
 stream-ranged g r its e = by (pnet-stream-kinds (r .kind) its)
   where
     by : r .kind ≡ 2 ⊎ r .kind ≡ 7 → Ranged (g .masters) (streamOf r)

@@ -9,17 +9,19 @@ use mathlib.Core.Logic.{_⊎_, inr, ⊎-elim}
 use mathlib.Core.List.{List, [], _∷_, List·Memᴰ, List·Memᴰ·head, List·Memᴰ·tail, List·Memᴰ·not-nil, List·Memᴰ·cases-cons}
 use native.Mathlib.Omega.{arith}
 use Rattle.sheet_record.specs.declared.Record.{Record}
+use Rattle.sheet_record.specs.Kinds.{isStreamOf, inRange}
 use Rattle.sheet_read.specs.Sheets.{Sheet}
 use Rattle.units.specs.Units.{bp}
 use Rattle.pnet_rules.specs.Segment.{Segment, streamOf, segmentOf, bound, late}
 use Rattle.pnet_rules.specs.Refined.{refined}
 use Rattle.pnet_rules.specs.Limits.{Ranged, Declared}
+use Rattle.pnet_rules.proofs.Declares.{stream-ranged}
 use Rattle.pnet_run.specs.Run.{Belongs, Request, request, Answer, answer, Queues, put, Token, toward, on-way, next, Run, start, arrive, travel}
 use Rattle.pnet_run.specs.Promise.{Kept, quiet, other, asks, Spaced, Answered, Reached, Accepted}
 use Rattle.pnet_run.proofs.Charges.{count-most}
 use Rattle.pnet_run.proofs.Slowest.{slowest}
 use Rattle.pnet_run.proofs.Demand.{accepted-if-none-is-late, each-request-is-answered-within-the-bound}
-use Rattle.pnet_run.proofs.TwoMasters.{each}
+use Rattle.pnet_run.proofs.TwoMasters.{each, limits}
 
 -- ---- A sheet on which J counts
 
@@ -48,30 +50,12 @@ unfolding segmentOf refined
 without-J-it-is-356 = refl
 
 short-in-range : Ranged 2 (streamOf short)
-short-in-range = record {
-  master-from = omega arith;
-  master-to = omega arith;
-  cycle-from = omega arith;
-  cycle-to = omega arith;
-  spacing-from = omega arith;
-  spacing-to = omega arith;
-  deadline-from = omega arith;
-  deadline-to = omega arith;
-  jitter-to = omega arith;
-}
+unfolding isStreamOf inRange
+short-in-range = stream-ranged (limits 2) short refl refl
 
 jittery-in-range : Ranged 2 (streamOf (jittery 356))
-jittery-in-range = record {
-  master-from = omega arith;
-  master-to = omega arith;
-  cycle-from = omega arith;
-  cycle-to = omega arith;
-  spacing-from = omega arith;
-  spacing-to = omega arith;
-  deadline-from = omega arith;
-  deadline-to = omega arith;
-  jitter-to = omega arith;
-}
+unfolding isStreamOf inRange
+jittery-in-range = stream-ranged (limits 2) (jittery 356) refl refl
 
 late-pair-declared : Declared late-pair
 unfolding segmentOf
@@ -181,12 +165,11 @@ not-with-the-count-without-J safe =
 -- ---- Two requests behind one nominal time
 
 -- one master with one stream: C is 1, T 58, D 48, J 10
+abbrev crowding : Record
+crowding = record { kind = 7; a = 1; b = 1; c = 58; d = 48; e = 10 }
+
 abbrev crowded-sheet : Sheet
-crowded-sheet = record {
-  head = record { kind = 1; a = 1; b = 0; c = 0; d = 0; e = 0 };
-  settings = [];
-  streams = record { kind = 7; a = 1; b = 1; c = 58; d = 48; e = 10 } ∷ [];
-}
+crowded-sheet = record { head = record { kind = 1; a = 1; b = 0; c = 0; d = 0; e = 0 }; settings = []; streams = crowding ∷ [] }
 
 abbrev pub crowded : Segment
 crowded = segmentOf crowded-sheet
@@ -197,6 +180,10 @@ alone P x zero lo hi = absurd (omega arith)
 alone P x (suc zero) lo hi = x
 alone P x (suc (suc i)) lo hi = absurd (omega arith)
 
+crowding-in-range : Ranged 1 (streamOf crowding)
+unfolding isStreamOf inRange
+crowding-in-range = stream-ranged (limits 1) crowding refl refl
+
 crowded-declared : Declared crowded
 unfolding segmentOf
 crowded-declared = record {
@@ -204,22 +191,9 @@ crowded-declared = record {
   masters-to = omega arith;
   number-from = omega arith;
   number-to = omega arith;
-  ranges = alone (λ i. Ranged 1 (crowded .stream i)) in-range;
+  ranges = alone (λ i. Ranged 1 (crowded .stream i)) crowding-in-range;
   counts = λ k. omega (arith, count-most crowded k);
 }
-  where
-    in-range : Ranged 1 (crowded .stream 1)
-    in-range = record {
-      master-from = omega arith;
-      master-to = omega arith;
-      cycle-from = omega arith;
-      cycle-to = omega arith;
-      spacing-from = omega arith;
-      spacing-to = omega arith;
-      deadline-from = omega arith;
-      deadline-to = omega arith;
-      jitter-to = omega arith;
-    }
 
 pub crowded-is-accepted : Accepted crowded
 unfolding segmentOf late

@@ -7,11 +7,14 @@ use mathlib.Core.Logic.{_≢_, ⊎-elim}
 use mathlib.Core.Bool.{false}
 use mathlib.Core.List.{List, [], _∷_, List·Memᴰ, List·Memᴰ·head, List·Memᴰ·not-nil, List·Memᴰ·cases-cons}
 use native.Mathlib.Omega.{arith}
+use Rattle.sheet_record.specs.declared.Given.{Given}
 use Rattle.sheet_record.specs.declared.Record.{Record}
+use Rattle.sheet_record.specs.Kinds.{isStreamOf, inRange}
 use Rattle.units.specs.Units.{bp}
 use Rattle.pnet_rules.specs.Segment.{Segment, streamOf, segmentOf, owns, late}
 use Rattle.pnet_rules.specs.Refined.{refined}
 use Rattle.pnet_rules.specs.Limits.{Ranged, Declared}
+use Rattle.pnet_rules.proofs.Declares.{stream-ranged}
 use Rattle.pnet_run.specs.Run.{Belongs, Request, request, Answer, answer, Queues, put, Token, toward, on-way, next, Run, start, arrive, travel, skip}
 use Rattle.pnet_run.specs.Promise.{none, and, Spaced, Answered, Reached, Accepted}
 use Rattle.pnet_run.proofs.Charges.{count-most}
@@ -42,18 +45,17 @@ each P x y z (suc (suc zero)) lo hi = y
 each P x y z (suc (suc (suc zero))) lo hi = z
 each P x y z (suc (suc (suc (suc i)))) lo hi = absurd (omega arith)
 
-in-range : (m : ℕ) → 1 ≤ m → m ≤ 2 → Ranged 2 (streamOf (stream m))
-in-range m lo hi = record {
-  master-from = lo;
-  master-to = hi;
-  cycle-from = omega arith;
-  cycle-to = omega arith;
-  spacing-from = omega arith;
-  spacing-to = omega arith;
-  deadline-from = omega arith;
-  deadline-to = omega arith;
-  jitter-to = omega arith;
-}
+-- what stands before a stream of a segment of n masters
+abbrev pub limits : ℕ → Given
+limits n = record { masters = n; message = 0 }
+
+first-in-range : Ranged 2 (streamOf (stream 1))
+unfolding isStreamOf inRange
+first-in-range = stream-ranged (limits 2) (stream 1) refl refl
+
+second-in-range : Ranged 2 (streamOf (stream 2))
+unfolding isStreamOf inRange
+second-in-range = stream-ranged (limits 2) (stream 2) refl refl
 
 declared : Declared two
 unfolding segmentOf
@@ -62,9 +64,7 @@ declared = record {
   masters-to = omega arith;
   number-from = omega arith;
   number-to = omega arith;
-  ranges =
-      each (λ i. Ranged 2 (two .stream i)) (in-range 1 (omega arith) (omega arith)) (in-range 1 (omega arith) (omega arith))
-      (in-range 2 (omega arith) (omega arith));
+  ranges = each (λ i. Ranged 2 (two .stream i)) first-in-range first-in-range second-in-range;
   counts = λ k. omega (arith, count-most two k);
 }
 

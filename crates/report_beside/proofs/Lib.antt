@@ -1,4 +1,5 @@
 pub mod Beginning
+pub mod Cut
 pub mod Examples
 pub mod Kept
 pub mod Listening

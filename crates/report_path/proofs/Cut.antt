@@ -1,11 +1,12 @@
--- A bounded buffer serves for each sheet of a path: bytes behind the first 12,818 change neither the path's report nor whether it is accepted.
--- Assumes nothing.
+-- Of each sheet of a path only what is read counts. So a bounded buffer serves: bytes behind its first 12,818 change neither the path's report nor whether
+-- it is accepted. Assumes nothing.
 use mathlib.Core.Path.{_≡_, refl, ap, _∙_, fun-ext}
 use mathlib.Core.Bool.{Bool}
 use Prim.Native.Nat.{ℕ, zero, suc}
+use mathlib.Core.List.{List}
 use lib.ListN.{take}
 use Rattle.sheet_read.specs.Lengths.{enough}
-use Rattle.sheet_read.specs.Whole.{Outcome}
+use Rattle.sheet_read.specs.Whole.{Outcome, reading}
 use Rattle.sheet_read.proofs.Lengths.{reading-prefix}
 use Rattle.units.specs.Units.{bp}
 use Rattle.pnet_bounds.specs.Bounded.{bounded, boundedBy}
@@ -15,59 +16,76 @@ use Rattle.pnet_path.specs.declared.Crossing.the-variants as crossing
 use Rattle.report_path.specs.Told.{pathText}
 use Rattle.report_path.specs.Report.{pathLines, answerText, sheetOr, reportFrom, pathReport, isWithin, pathAccepts}
 
--- the path with each of its sheets cut
-abbrev pub cut : Path → Path
-cut P = record {
+-- the path with other bytes for its sheets
+abbrev pub keeping : Path → (ℕ → List ℕ) → Path
+keeping P k = record {
   segments = P .segments;
-  hop = λ i. record { forwarding = P .hop i .forwarding; sheet = take enough (P .hop i .sheet); sender = P .hop i .sender };
+  hop = λ i. record { forwarding = P .hop i .forwarding; sheet = k i; sender = P .hop i .sender };
   deadline = P .deadline;
 }
 
-module _ (P : Path) where
-  sheet-cut : (i : ℕ) → sheetAt P i ≡ sheetAt (cut P) i
+-- bytes that are read as its sheets are
+module _ (P : Path) (k : ℕ → List ℕ) (same : (i : ℕ) → reading (P .hop i .sheet) ≡ reading (k i)) where
+  abbrev Q : Path
+  Q = keeping P k
+
+  sheet-alike : (i : ℕ) → sheetAt P i ≡ sheetAt Q i
   unfolding sheetAt bounded
-  sheet-cut i = ap (λ (o : Outcome). boundedBy o 800) (reading-prefix (P .hop i .sheet))
+  sheet-alike i = ap (λ (o : Outcome). boundedBy o 800) (same i)
 
-  bounds-cut : boundAt P ≡ boundAt (cut P)
+  bounds-alike : boundAt P ≡ boundAt Q
   unfolding boundAt
-  bounds-cut = fun-ext (λ i. ap (λ (o : Outcome). boundFrom o (P .hop i .sender)) (sheet-cut i))
+  bounds-alike = fun-ext (λ i. ap (λ (o : Outcome). boundFrom o (P .hop i .sender)) (sheet-alike i))
 
-  absent-cut : absentAt P ≡ absentAt (cut P)
+  absent-alike : absentAt P ≡ absentAt Q
   unfolding absentAt
-  absent-cut = fun-ext (λ i. ap (λ (o : Outcome). absentFrom o (P .hop i .sender)) (sheet-cut i))
+  absent-alike = fun-ext (λ i. ap (λ (o : Outcome). absentFrom o (P .hop i .sender)) (sheet-alike i))
 
   -- ---- The answer
 
-  crossed-from-cut : (n i : ℕ) → crossedFrom P n i ≡ crossedFrom (cut P) n i
+  crossed-from-alike : (n i : ℕ) → crossedFrom P n i ≡ crossedFrom Q n i
   unfolding crossedFrom forwardingAt
-  crossed-from-cut zero i =
-      ap (λ (R : ℕ → ℕ). crossingBy R (forwardingAt P) (absentAt P) (gateways P) (P .deadline)) bounds-cut
-      ∙ ap (λ (a : ℕ → Bool). crossingBy (boundAt (cut P)) (forwardingAt P) a (gateways P) (P .deadline)) absent-cut
-  crossed-from-cut (suc n) i =
-      ap (λ (o : Outcome). refusedOr o (crossedFrom P n (suc i))) (sheet-cut i) ∙ ap (refusedOr (sheetAt (cut P) i)) (crossed-from-cut n (suc i))
+  crossed-from-alike zero i =
+      ap (λ (R : ℕ → ℕ). crossingBy R (forwardingAt P) (absentAt P) (gateways P) (P .deadline)) bounds-alike
+      ∙ ap (λ (a : ℕ → Bool). crossingBy (boundAt Q) (forwardingAt P) a (gateways P) (P .deadline)) absent-alike
+  crossed-from-alike (suc n) i =
+      ap (λ (o : Outcome). refusedOr o (crossedFrom P n (suc i))) (sheet-alike i) ∙ ap (refusedOr (sheetAt Q i)) (crossed-from-alike n (suc i))
 
-  crossed-cut : crossed P ≡ crossed (cut P)
+  crossed-alike : crossed P ≡ crossed Q
   unfolding crossed
-  crossed-cut = crossed-from-cut (P .segments) 1
+  crossed-alike = crossed-from-alike (P .segments) 1
 
   -- ---- The report
 
-  text-cut : (c : Crossing) → answerText P c ≡ answerText (cut P) c
+  text-alike : (c : Crossing) → answerText P c ≡ answerText Q c
   unfolding pathLines senderAt forwardingAt
-  text-cut (crossing.Within cost) =
-      ap (λ (R : ℕ → ℕ). pathText (senderAt P) (λ i. bp (R i)) (λ i. bp (forwardingAt P i)) (gateways P) cost (bp (P .deadline))) bounds-cut
-  text-cut (crossing.Refused n p) = refl
+  text-alike (crossing.Within cost) =
+      ap (λ (R : ℕ → ℕ). pathText (senderAt P) (λ i. bp (R i)) (λ i. bp (forwardingAt P i)) (gateways P) cost (bp (P .deadline))) bounds-alike
+  text-alike (crossing.Refused n p) = refl
 
-  report-from-cut : (n i : ℕ) → reportFrom P n i ≡ reportFrom (cut P) n i
+  report-from-alike : (n i : ℕ) → reportFrom P n i ≡ reportFrom Q n i
   unfolding reportFrom
-  report-from-cut zero i = text-cut (crossed P) ∙ ap (answerText (cut P)) crossed-cut
-  report-from-cut (suc n) i =
-      ap (λ (o : Outcome). sheetOr i o (reportFrom P n (suc i))) (sheet-cut i) ∙ ap (sheetOr i (sheetAt (cut P) i)) (report-from-cut n (suc i))
+  report-from-alike zero i = text-alike (crossed P) ∙ ap (answerText Q) crossed-alike
+  report-from-alike (suc n) i =
+      ap (λ (o : Outcome). sheetOr i o (reportFrom P n (suc i))) (sheet-alike i) ∙ ap (sheetOr i (sheetAt Q i)) (report-from-alike n (suc i))
 
-  pub report-prefix : pathReport P ≡ pathReport (cut P)
+  pub report-alike : pathReport P ≡ pathReport (keeping P k)
   unfolding pathReport
-  report-prefix = report-from-cut (P .segments) 1
+  report-alike = report-from-alike (P .segments) 1
+
+  pub accepts-alike : pathAccepts P ≡ pathAccepts (keeping P k)
+  unfolding pathAccepts
+  accepts-alike = ap isWithin crossed-alike
+
+-- ---- The first bytes of each
+
+-- the path with each of its sheets cut
+abbrev pub cut : Path → Path
+cut P = keeping P (λ i. take enough (P .hop i .sheet))
+
+module _ (P : Path) where
+  pub report-prefix : pathReport P ≡ pathReport (cut P)
+  report-prefix = report-alike P (λ i. take enough (P .hop i .sheet)) (λ i. reading-prefix (P .hop i .sheet))
 
   pub accepts-prefix : pathAccepts P ≡ pathAccepts (cut P)
-  unfolding pathAccepts
-  accepts-prefix = ap isWithin crossed-cut
+  accepts-prefix = accepts-alike P (λ i. take enough (P .hop i .sheet)) (λ i. reading-prefix (P .hop i .sheet))

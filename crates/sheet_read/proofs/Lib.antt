@@ -2,12 +2,14 @@ pub mod Behind
 pub mod Cases
 pub mod Counts
 pub mod Examples
+pub mod Fronts
 pub mod Judged
 pub mod Kept
 pub mod Order
 pub mod Known
 pub mod Lengths
 pub mod Refusals
+pub mod Settled
 pub mod Trips
 pub mod Walk
 pub mod Writes

@@ -13,10 +13,11 @@ use Rattle.common.specs.Checks.Verdict.{Refused}
 use Rattle.common.proofs.Checks.{Applies, refused-if, refused-then}
 use Rattle.common.proofs.Checks.Applies.{here, later}
 use Rattle.sheet_record.specs.declared.Record.{Record}
-use Rattle.sheet_record.specs.Kinds.{kinds, lineOf, busOf, isFirst, isStreamOf, nothing, known, sizeOf}
+use Rattle.sheet_record.specs.Kinds.{kinds, lineOf, busOf, isFirst, isStreamOf, nothing, known, sizeOf, inRange}
 use Rattle.sheet_record.proofs.Tables.{both-true, known-within, known-bounds}
+use Rattle.sheet_record.proofs.InPage.{in-page-in-range, in-range-exactly}
 use Rattle.sheet_record.proofs.Parts.{first-is, first-kinds, first-bus, pnet-streams, ring-streams, variables}
-use Rattle.sheet_read.specs.Sheets.{Sheet, sheetOf, busIn, fits, countOf, mostInAll, hasMasters, overLimit, metBefore}
+use Rattle.sheet_read.specs.Sheets.{Sheet, sheetOf, busIn, given, fits, countOf, mostInAll, hasMasters, overLimit, metBefore}
 use Rattle.sheet_read.specs.Whole.{placeOf, recordsOf, before, firstStream, recordChecks, judge, ended, reading, Outcome}
 use Rattle.sheet_read.specs.Whole.Outcome.{Read, Not}
 use Rattle.sheet_read.specs.Refusals.{recordAt, streamsBefore, KnownKind, RightKind, Complete, Ranged, InLimits, MetBefore, RefusedWith, Taken, Reached, OnlyFirst, Given}
@@ -73,6 +74,12 @@ module _ (s : List ℕ) (i : ℕ) where
 
   known-if : KnownKind s i → known (recordAt s i .kind) ≡ true
   known-if k = sym (known-within (recordAt s i .kind)) ∙ rw (le-leb 1 (recordAt s i .kind) (k .least), le-leb (recordAt s i .kind) 7 (k .most))
+
+  ranged-then : known (recordAt s i .kind) ≡ true → inRange (given (before s i) (recordAt s i .a)) (recordAt s i) ≡ true → Ranged s i
+  ranged-then k e = record { fields = in-range-exactly (given (before s i) (recordAt s i .a)) (recordAt s i) k .0 e }
+
+  ranged-if : Ranged s i → inRange (given (before s i) (recordAt s i .a)) (recordAt s i) ≡ true
+  ranged-if r = in-page-in-range (given (before s i) (recordAt s i .a)) (recordAt s i) (r .fields)
 
   limits-then : overLimit (streamsBefore s i) (recordAt s i) ≡ false → InLimits s i
   unfolding overLimit
@@ -202,7 +209,7 @@ module _ (s : List ℕ) where
         is-known = known-then s i (p .is-known);
         is-right = right-then i u (p .is-right);
         is-complete = record { ends = p .is-whole };
-        is-ranged = record { fields = p .is-ranged };
+        is-ranged = ranged-then s i (p .is-known) (p .is-ranged);
         in-limits = limits-then s i (p .in-limits);
         is-new = λ m. differ (met-if i u m) (p .is-new);
       }
@@ -213,7 +220,7 @@ module _ (s : List ℕ) where
         is-known = known-if s i (a .is-known);
         is-right = right-if i u (a .is-right);
         is-whole = a .is-complete .ends;
-        is-ranged = a .is-ranged .fields;
+        is-ranged = ranged-if s i (a .is-ranged);
         in-limits = limits-if s i (a .in-limits);
         is-new = fails (met-then i u (a .is-right)) (a .is-new);
       }
@@ -231,18 +238,18 @@ module _ (s : List ℕ) where
       line (later e₂ (later e₃ (later e₁ (here e₄)))) = (
         refl,
         out-of-range (known-then s i (not-false _ e₂)) (right-then i u (not-false _ e₃)) (record { ends = ltb-false _ _ e₁ })
-            (λ r. differ (r .fields) (not-true _ e₄)),
+            (λ r. differ (ranged-if s i r) (not-true _ e₄)),
       )
       line (later e₂ (later e₃ (later e₁ (later e₄ (here e₅))))) = (
         refl,
         one-too-many (known-then s i (not-false _ e₂)) (right-then i u (not-false _ e₃)) (record { ends = ltb-false _ _ e₁ })
-            (record { fields = not-false _ e₄ }) (λ l. differ e₅ (limits-if s i l)),
+            (ranged-then s i (not-false _ e₂) (not-false _ e₄)) (λ l. differ e₅ (limits-if s i l)),
       )
       line (later e₂ (later e₃ (later e₁ (later e₄ (later e₅ (here e₇)))))) =
           let r = right-then i u (not-false _ e₃) in (
             refl,
             met-before (known-then s i (not-false _ e₂)) r (record { ends = ltb-false _ _ e₁ })
-                (record { fields = not-false _ e₄ }) (limits-then s i e₅) (met-then i u r e₇),
+                (ranged-then s i (not-false _ e₂) (not-false _ e₄)) (limits-then s i e₅) (met-then i u r e₇),
           )
 
   applies-for : {i n : ℕ} → Upto s i → RefusedWith s i n → Applies (recordChecks s (before s i) (placeOf s i) (recordAt s i)) n (placeOf s i)
@@ -251,11 +258,11 @@ module _ (s : List ℕ) where
   applies-for {i} u (misplaced k r) = later (ap not (known-if s i k)) (here (ap not (fails (right-then i u) r)))
   applies-for {i} u (cut k r c) = later (ap not (known-if s i k)) (later (ap not (right-if i u r)) (here (holds (λ e. record { ends = ltb-false _ _ e }) c)))
   applies-for {i} u (out-of-range k r c f) =
-      later (ap not (known-if s i k)) (later (ap not (right-if i u r)) (later (le-ltb _ _ (c .ends)) (here (ap not (fails (λ e. record { fields = e }) f)))))
+      later (ap not (known-if s i k)) (later (ap not (right-if i u r)) (later (le-ltb _ _ (c .ends)) (here (ap not (fails (ranged-then s i (known-if s i k)) f)))))
   applies-for {i} u (one-too-many k r c f l) =
-      later (ap not (known-if s i k)) (later (ap not (right-if i u r)) (later (le-ltb _ _ (c .ends)) (later (ap not (f .fields)) (here (holds (limits-then s i) l)))))
+      later (ap not (known-if s i k)) (later (ap not (right-if i u r)) (later (le-ltb _ _ (c .ends)) (later (ap not (ranged-if s i f)) (here (holds (limits-then s i) l)))))
   applies-for {i} u (met-before k r c f l m) =
-      later (ap not (known-if s i k)) (later (ap not (right-if i u r)) (later (le-ltb _ _ (c .ends)) (later (ap not (f .fields)) (later (limits-if s i l) (here (met-if i u m))))))
+      later (ap not (known-if s i k)) (later (ap not (right-if i u r)) (later (le-ltb _ _ (c .ends)) (later (ap not (ranged-if s i f)) (later (limits-if s i l) (here (met-if i u m))))))
 
   refused-for : {i n : ℕ} → Upto s i → RefusedWith s i n → judge s i ≡ Refused n (placeOf s i)
   unfolding judge
@@ -273,6 +280,10 @@ module _ (s : List ℕ) where
       let u = upto-if i (λ j l. a j (omega arith)) in
       let t = a i (omega arith) in
       upto-more s i u (complete-inside i (t .is-complete)) (taken-if i u t)
+
+  -- a record that the table refuses is one that reading comes to, and refuses so
+  pub refused-at : {i n p : ℕ} → Reached s i p → RefusedWith s i n → Upto s i × (judge s i ≡ Refused n p)
+  refused-at {i} h r = let u = upto-if i (h .before) in (u, rw (h .starts) (refused-for u r))
 
   first-alone : (u : Upto s 1) → ended s 1 ≡ Not 6 (length s)
   first-alone u = ended-no-stream s 1 (head-some s 0 u) (ap length (behind-first s (u .passed 0 (omega arith)) .1))
@@ -314,9 +325,8 @@ module _ (s : List ℕ) where
   unfolding placeOf
   given-if (empty e) = stops-once s (at-end 0 (upto-none s) (sym e) refl) ∙ ended-empty s
   given-if (at-record {i} {n} {p} h r) =
-      let u = upto-if i (h .before) in
-      let j : judge s i ≡ Refused n p = rw (h .starts) (refused-for u r) in
-      stops-once s (by-record i n p u (rw (← h .starts) (h .inside)) j refl)
+      let a = refused-at h r in
+      stops-once s (by-record i n p (a .0) (rw (← h .starts) (h .inside)) (a .1) refl)
   given-if (no-stream o) =
       let u = upto-if 1 (only (o .taken)) in
       stops-once s (at-end 1 u (o .ends) refl) ∙ first-alone u
@@ -350,7 +360,7 @@ module _ (s : List ℕ) where
       line (empty e) = inl (e, refl)
       line (at-record {i} h (cut k r c)) = inr (i, h, k, r, c)
 
-  -- 2: a record that reading comes to is of no kind 1..6
+  -- 2: a record that reading comes to is of no kind 1..7
   pub refused-2 : (p : ℕ) → (reading s ≡ Not 2 p) ↔ ((i : ℕ) × Reached s i p × (KnownKind s i → ⊥))
   refused-2 p = (λ e. line (given-then 2 p e), λ w. given-if (at-record (w .1) (unknown (w .2))))
     where

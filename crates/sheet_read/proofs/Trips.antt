@@ -1,5 +1,5 @@
--- Round trips: records that make a right sheet are written and read back as they were; and the records of a sheet that reads without
--- refusal, written again, give its bytes. Assumes nothing.
+-- Round trips: records that make a right sheet are written and read back as they were; the records of a sheet that reads without refusal, written
+-- again, give its bytes; and so no two sheets of bytes have the same records. Assumes nothing.
 use mathlib.Core.Path.{_≡_, refl, sym, ap, _∙_, subst}
 use mathlib.Core.Bool.{true}
 use mathlib.Core.List.{List, [], _∷_, _++_, append-assoc, append-nil}
@@ -80,9 +80,9 @@ module _ (rs : List Record) (right : Right rs) where
   at i = getD rs i nothing
 
   -- there is a first one
-  some : 1 ≤ length rs
+  pub right-some : 1 ≤ length rs
   unfolding sheetOf having
-  some = split rs (right .some)
+  right-some = split rs (right .some)
     where
       split : (qs : List Record) → 1 ≤ length (sheetOf qs .streams) → 1 ≤ length qs
       split [] l = l
@@ -90,7 +90,7 @@ module _ (rs : List Record) (right : Right rs) where
 
   first-right : Follows [] (at 0)
   unfolding at
-  first-right = right .each 0 (omega (arith, some))
+  first-right = right .each 0 (omega (arith, right-some))
 
   stands-first : isFirst (at 0 .kind) ≡ true
   stands-first = sym (fits-first (at 0 .kind)) ∙ first-right .is-right
@@ -197,7 +197,7 @@ module _ (rs : List Record) (right : Right rs) where
   written-reads = stops-once s (at-end (length rs) upto-all whole-place refl) ∙ last (length rs) refl
     where
       last : (n : ℕ) → length rs ≡ n → ended s (length rs) ≡ Read (sheetOf rs)
-      last zero e = absurd (omega (arith, some))
+      last zero e = absurd (omega (arith, right-some))
       last (suc n) e =
           let q : before s (length rs) ≡ sheetOf rs = before-at (length rs) (omega arith) ∙ ap sheetOf (take-length rs) in
           let h : before s (length rs) .head .kind ≡ 0 → ⊥ = λ z. head-some s n (subst (Upto s) e upto-all) (ap (λ (x : ℕ). before s x .head .kind) (sym e) ∙ z) in
@@ -231,7 +231,11 @@ read-written s S b e =
     let r = reading-whole s S e in
     ap bytesOf (records-read s S r) ∙ (bytes-front s b (suc (r .m)) (r .upto) ∙ (ap (λ (n : ℕ). take n s) (r .ends) ∙ take-length s))
 
--- and they make a right sheet
+-- so two sheets of bytes with the same records are the same bytes
+pub same-records-same-bytes : (s t : List ℕ) (S : Sheet) → ((i : ℕ) → getD s i 0 < 256) → ((i : ℕ) → getD t i 0 < 256) → reading s ≡ Read S → reading t ≡ Read S → s ≡ t
+same-records-same-bytes s t S s-bytes t-bytes s-reads t-reads = sym (read-written s S s-bytes s-reads) ∙ read-written t S t-bytes t-reads
+
+-- the records of a sheet that reads without refusal make a right sheet
 records-right : (s : List ℕ) (m : ℕ) → 1 ≤ length (before s (suc m) .streams) → Upto s (suc m) → Right (recordsOf s (suc m))
 unfolding before
 records-right s m l u =

@@ -3,7 +3,7 @@ use mathlib.Core.Path.{_≡_, refl, ap, _∙_}
 use mathlib.Core.Bool.{Bool, true, false, cond}
 use mathlib.Core.List.{List, [], _∷_, _++_}
 use Prim.Native.Nat.{ℕ, zero, suc, _≤_, _<_}
-use native.Mathlib.Nat.{not-suc-le-zero}
+use native.Mathlib.Nat.{le-refl, not-suc-le-zero}
 use native.Mathlib.Numerals.{add-one}
 use native.Mathlib.Omega.{arith}
 use native.Mathlib.Decide.{ℕ-discrete}
@@ -48,6 +48,15 @@ module _ (s : List ℕ) where
   pub place-from : (i : ℕ) → i ≤ placeOf s i
   place-from zero = omega arith
   place-from (suc i) = omega (arith, place-from i, place-next i)
+
+  -- and a later one stands no earlier
+  pub place-order : (i j : ℕ) → i ≤ j → placeOf s i ≤ placeOf s j
+  place-order i zero h = let e : i ≡ 0 = omega arith in rw e (le-refl (placeOf s 0))
+  place-order i (suc j) h = split (ℕ-discrete i (suc j)) (place-order i j)
+    where
+      split : Dec (i ≡ suc j) → (i ≤ j → placeOf s i ≤ placeOf s j) → placeOf s i ≤ placeOf s (suc j)
+      split (yes e) ih = rw e (le-refl (placeOf s (suc j)))
+      split (no e) ih = let l : i ≤ j = omega (arith, e) in omega (arith, ih l, place-next j)
 
   -- ---- Records
 

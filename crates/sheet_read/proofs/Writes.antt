@@ -2,12 +2,12 @@
 -- Assumes nothing.
 use mathlib.Core.Path.{_≡_, refl, sym, ap, _∙_, subst}
 use mathlib.Core.Bool.{true}
-use mathlib.Core.List.{List, [], _∷_, append-nil}
+use mathlib.Core.List.{List, [], _∷_, _++_, append-assoc, append-nil}
 use Prim.Native.Nat.{ℕ, suc, _+_, _≤_, _<_}
 use native.Mathlib.Nat.{add-zero, zero-add}
 use native.Mathlib.Omega.{arith}
 use lib.ListN.{length, getD, take, drop, length-append, take-append-drop, drop-of-length-le}
-use lib.Seq.{take-at}
+use lib.Seq.{length-take-le, take-at, drop-at, slice}
 use Rattle.common.specs.Checks.{Verdict, verdict}
 use Rattle.common.specs.Checks.Verdict.{Passed, Refused}
 use Rattle.sheet_record.specs.declared.Record.{Record}
@@ -23,7 +23,7 @@ use Rattle.sheet_read.specs.Whole.{reading}
 use Rattle.sheet_read.specs.Whole.Outcome.{Read}
 use Rattle.sheet_read.specs.Records.{recordsIn, bytesOf, Right, Writes}
 use Rattle.sheet_read.specs.Records.Writes.{none, next}
-use Rattle.sheet_read.proofs.Trips.{writable, written-reads, read-written, read-right}
+use Rattle.sheet_read.proofs.Trips.{right-some, writable, written-reads, read-written, read-right}
 
 -- ---- What writing leaves
 
@@ -71,27 +71,46 @@ write-all (r ∷ rs) ok b at room =
 
 -- ---- The round trips
 
--- a right sheet is written without a refusal into any buffer that is long enough
-pub right-writes : (rs : List Record) → Right rs → (b : List ℕ) → length (bytesOf rs) ≤ length b → (b' : List ℕ) × (end : ℕ) × Writes b 0 rs b' end
-right-writes rs right b room = write-all rs (writable rs right) b 0 (omega arith)
+-- a right sheet is written without a refusal from any place of any buffer that has room for it from there
+pub right-writes : (rs : List Record) → Right rs → (b : List ℕ) (at : ℕ) → at + length (bytesOf rs) ≤ length b → (b' : List ℕ) × (end : ℕ) × Writes b at rs b' end
+right-writes rs right b at room = write-all rs (writable rs right) b at (omega arith)
 
--- what stands at the front of the buffer then
-front-bytes : {b b' : List ℕ} {end : ℕ} {rs : List Record} → Writes b 0 rs b' end → take end b' ≡ bytesOf rs
-front-bytes {b} {b'} {end} {rs} w =
+-- records that are written begin within the buffer
+begins-within : {b b' : List ℕ} {at end : ℕ} {rs : List Record} → Writes b at rs b' end → 1 ≤ length rs → at ≤ length b
+begins-within none some = absurd (omega arith)
+begins-within {b} {at = at} (next {e = e} {r = r} q w) some = let s = written-stands b at r e q in omega (arith, s .ends, s .room)
+
+-- what stands then from that place up to the place that the last one answered
+part-bytes : {b b' : List ℕ} {at end : ℕ} {rs : List Record} → at ≤ length b → Writes b at rs b' end → slice at end b' ≡ bytesOf rs
+part-bytes {b} {b'} {at} {end} {rs} within w =
     let h = writes-leave w in
-    rw (h .holds) (take-at (bytesOf rs) (drop (0 + length (bytesOf rs)) b) end (omega (arith, h .ends)))
+    let p = bytesOf rs in
+    let front : length (take at b) ≡ at = length-take-le at b within in
+    let both : length (take at b ++ p) ≡ end = omega (arith, length-append (take at b) p, h .ends) in
+    let e : b' ≡ (take at b ++ p) ++ drop (at + length p) b = h .holds ∙ sym (append-assoc (take at b) p (drop (at + length p) b)) in
+    ap (λ (x : List ℕ). slice at end x) e
+    ∙ (ap (drop at) (take-at (take at b ++ p) (drop (at + length p) b) end both) ∙ drop-at (take at b) p at front)
 
 -- it reads back as the same records
-pub writes-read : {b b' : List ℕ} {end : ℕ} {rs : List Record} → Right rs → Writes b 0 rs b' end → reading (take end b') ≡ Read (sheetOf rs)
-writes-read {rs = rs} right w = ap reading (front-bytes w) ∙ written-reads rs right
+pub writes-read : {b b' : List ℕ} {at end : ℕ} {rs : List Record} → Right rs → Writes b at rs b' end → reading (slice at end b') ≡ Read (sheetOf rs)
+writes-read {rs = rs} right w = ap reading (part-bytes (begins-within w (right-some rs right)) w) ∙ written-reads rs right
 
--- and the records of an accepted sheet, written into a buffer of its length, give its bytes again
-pub read-writes : (s : List ℕ) (S : Sheet) → ((i : ℕ) → getD s i 0 < 256) → reading s ≡ Read S → (b : List ℕ) → length b ≡ length s → Writes b 0 (recordsIn S) s (length s)
-read-writes s S bytes e b l =
+-- and the records of an accepted sheet, written from any place of any buffer that has room for it from there, give its bytes again, and no other byte
+-- of the buffer changes
+pub read-writes : (s : List ℕ) (S : Sheet) → ((i : ℕ) → getD s i 0 < 256) → reading s ≡ Read S → (b : List ℕ) (at : ℕ) → at + length s ≤ length b
+    → Writes b at (recordsIn S) (pasted b at s) (at + length s)
+read-writes s S bytes e b at room =
     let q = read-written s S bytes e in
-    let t = right-writes (recordsIn S) (read-right s S e) b (rw q (omega arith)) in
+    let t = right-writes (recordsIn S) (read-right s S e) b at (rw q room) in
     let h = writes-leave (t .2) in
-    let n : t .1 ≡ length s = h .ends ∙ (zero-add (length (bytesOf (recordsIn S))) ∙ ap length q) in
+    let n : t .1 ≡ at + length s = h .ends ∙ ap (λ (x : List ℕ). at + length x) q in
+    let w : t .0 ≡ pasted b at s = h .holds ∙ ap (pasted b at) q in
+    subst (λ (x : List ℕ). Writes b at (recordsIn S) x (at + length s)) w (subst (Writes b at (recordsIn S) (t .0)) n (t .2))
+
+-- a buffer of its length then holds those bytes alone
+pub read-writes-alone : (s : List ℕ) (S : Sheet) → ((i : ℕ) → getD s i 0 < 256) → reading s ≡ Read S → (b : List ℕ) → length b ≡ length s → Writes b 0 (recordsIn S) s (length s)
+read-writes-alone s S bytes e b l =
     let z : drop (0 + length s) b ≡ [] = drop-of-length-le b {i = 0 + length s} (omega arith) in
-    let w : t .0 ≡ s = h .holds ∙ (rw (q, z) (append-nil s)) in
-    subst (λ (x : List ℕ). Writes b 0 (recordsIn S) x (length s)) w (subst (Writes b 0 (recordsIn S) (t .0)) n (t .2))
+    let w : pasted b 0 s ≡ s = rw z (append-nil s) in
+    subst (λ (x : List ℕ). Writes b 0 (recordsIn S) x (length s)) w
+    (subst (Writes b 0 (recordsIn S) (pasted b 0 s)) (zero-add (length s)) (read-writes s S bytes e b 0 (omega arith)))

@@ -7,7 +7,8 @@ use mathlib.Core.List.{List}
 use mathlib.Core.Logic.{_⊎_}
 use lib.ListN.{length}
 use Rattle.sheet_record.specs.declared.Record.{Record}
-use Rattle.sheet_record.specs.Kinds.{sizeOf, decode, inRange, busOf}
+use Rattle.sheet_record.specs.Kinds.{sizeOf, decode, busOf}
+use Rattle.sheet_record.specs.Ranges.{InPage}
 use Rattle.sheet_read.specs.Sheets.{given, countOf, mostInAll, hasMasters}
 use Rattle.sheet_read.specs.Whole.{placeOf, before}
 
@@ -36,9 +37,9 @@ pub data RightKind (s : List ℕ) : ℕ → Type 0 where
 pub record Complete (s : List ℕ) (i : ℕ) : Type 0 where
   pub ends : placeOf s i + sizeOf (recordAt s i .kind) ≤ length s
 
--- every field is in its range, behind the N or n and the M of the first record
+-- every field is in the range that the page's table has for it, behind the N or n and the M of the first record
 pub record Ranged (s : List ℕ) (i : ℕ) : Type 0 where
-  pub fields : inRange (given (before s i) (recordAt s i .a)) (recordAt s i) ≡ true
+  pub fields : InPage (given (before s i) (recordAt s i .a)) (recordAt s i)
 
 -- it is not one stream more than a limit allows: 800 in all, 80 for one master, 64 variables
 pub record InLimits (s : List ℕ) (i : ℕ) : Type 0 where

@@ -13,11 +13,11 @@ use Rattle.sheet_record.proofs.Tables.{both-true}
 -- ---- Kind by kind
 
 -- eight more than n: 8 is the first number that is past the page's kinds
-abbrev past : ℕ → ℕ
+abbrev pub past : ℕ → ℕ
 past n = suc (suc (suc (suc (suc (suc (suc (suc n)))))))
 
 -- what holds of the page's seven kinds, of 0 and of every number past them holds of every number
-by-kind : (P : ℕ → Type 0) → P 0 → P 1 → P 2 → P 3 → P 4 → P 5 → P 6 → P 7 → ((n : ℕ) → P (past n)) → (k : ℕ) → P k
+pub by-kind : (P : ℕ → Type 0) → P 0 → P 1 → P 2 → P 3 → P 4 → P 5 → P 6 → P 7 → ((n : ℕ) → P (past n)) → (k : ℕ) → P k
 by-kind P none p q r s t u v more zero = none
 by-kind P none p q r s t u v more (suc zero) = p
 by-kind P none p q r s t u v more (suc (suc zero)) = q

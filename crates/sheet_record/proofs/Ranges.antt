@@ -1,25 +1,22 @@
--- Page 01, 'Sheet records', and page 02, Ask 7: what a record in range is, kind by kind, in the page's words. Assumes nothing.
+-- Page 01, 'Sheet records', and page 02, Ask 7: a record in range has its fields in the page's ranges, kind by kind. Assumes nothing.
 use mathlib.Core.Path.{_≡_, refl, ap}
 use mathlib.Core.Bool.{Bool, true, false, _&&_}
 use mathlib.Core.List.{List, [], _∷_}
 use mathlib.Core.Logic.{_⊎_, inl, inr}
 use Prim.Native.Nat.{ℕ, _-_, _≤_}
 use native.Mathlib.Nat.{le-refl, le-trans}
+use native.Mathlib.Omega.{arith}
 use borrow.Author.Tests.{le-leb, leb-true, eqb-true, eq-eqb}
 use lib.Dec.{leb, eqb}
 use Rattle.sheet_record.specs.declared.Given.{Given}
 use Rattle.sheet_record.specs.declared.Record.{Record}
 use Rattle.sheet_record.specs.Kinds.{Field, Limit, kinds, lineOf, fieldsOf, isStreamOf, limit, within, ranged, inRange, numbers}
 use Rattle.sheet_record.specs.Kinds.Limit.{is, masters, message, own, under, less}
+use Rattle.sheet_record.specs.Ranges.{Range, SegmentRanges, PnetStreamRanges, RingRanges, RingStreamRanges, ExchangeRanges, VariableRanges, JitterStreamRanges}
 use Rattle.sheet_record.proofs.Tables.{both-true}
 use Rattle.sheet_record.proofs.Parts.{pnet-stream-kinds}
 
 -- ---- One field
-
--- x is in lo..hi
-pub record Range (lo x hi : ℕ) : Type 0 where
-  pub least : lo ≤ x
-  pub most : x ≤ hi
 
 pub within-range : (lo x hi : ℕ) → within lo x hi ≡ true → Range lo x hi
 unfolding within
@@ -72,62 +69,6 @@ module _ (g g' : Given) (r : Record) (m : AtMost g g') where
 
 -- ---- Kind by kind
 
--- 1, P-NET segment
-pub record SegmentRanges (r : Record) : Type 0 where
-  pub masters : Range 1 (r .a) 32
-  pub no-b : r .b ≡ 0
-  pub no-c : r .c ≡ 0
-  pub no-d : r .d ≡ 0
-  pub no-e : r .e ≡ 0
-
--- 2, P-NET stream
-pub record PnetStreamRanges (g : Given) (r : Record) : Type 0 where
-  pub master : Range 1 (r .a) (g .masters)
-  pub cycle : Range 1 (r .b) 1548
-  pub spacing : Range 1 (r .c) 1000000000
-  pub deadline : Range 1 (r .d) (r .c)
-  pub no-e : r .e ≡ 0
-
--- 3, PROFIBUS ring
-pub record RingRanges (r : Record) : Type 0 where
-  pub masters : Range 1 (r .a) 32
-  pub latency : Range 1 (r .b) 100000
-  pub message : Range 1 (r .c) 100000
-  pub no-d : r .d ≡ 0
-  pub no-e : r .e ≡ 0
-
--- 4, PROFIBUS high-priority stream
-pub record RingStreamRanges (g : Given) (r : Record) : Type 0 where
-  pub master : Range 1 (r .a) (g .masters)
-  pub cycle : Range 1 (r .b) (g .message)
-  pub deadline : Range 1 (r .c) 1000000000
-  pub no-d : r .d ≡ 0
-  pub no-e : r .e ≡ 0
-
--- 5, WorldFIP
-pub record ExchangeRanges (r : Record) : Type 0 where
-  pub exchange : Range 1 (r .a) 1000000
-  pub no-b : r .b ≡ 0
-  pub no-c : r .c ≡ 0
-  pub no-d : r .d ≡ 0
-  pub no-e : r .e ≡ 0
-
--- 6, WorldFIP variable
-pub record VariableRanges (r : Record) : Type 0 where
-  pub identifier : Range 0 (r .a) 65535
-  pub period : Range 1 (r .b) 1000000000
-  pub no-c : r .c ≡ 0
-  pub no-d : r .d ≡ 0
-  pub no-e : r .e ≡ 0
-
--- 7, P-NET stream with release jitter
-pub record JitterStreamRanges (g : Given) (r : Record) : Type 0 where
-  pub master : Range 1 (r .a) (g .masters)
-  pub cycle : Range 1 (r .b) 1548
-  pub spacing : Range 1 (r .c) 1000000000
-  pub deadline : Range 1 (r .d) (r .c - r .e)
-  pub jitter : Range 0 (r .e) (r .c - 1)
-
 -- the tests of the five fields, one by one
 record Tests (p q s t u : Bool) : Type 0 where
   for-a : p ≡ true
@@ -144,6 +85,7 @@ tests true true false t u e = record { for-a = refl; for-b = refl; for-c = e; fo
 tests true false s t u e = record { for-a = refl; for-b = e; for-c = cc; for-d = cc; for-e = cc }
 tests false q s t u e = record { for-a = e; for-b = cc; for-c = cc; for-d = cc; for-e = cc }
 
+-- what is in range has its fields in the page's ranges
 module _ (g : Given) (r : Record) (e : inRange g r ≡ true) where
   pub segment-ranges : r .kind ≡ 1 → SegmentRanges r
   unfolding inRange ranged limit fieldsOf lineOf kinds
@@ -220,12 +162,13 @@ module _ (g : Given) (r : Record) (e : inRange g r ≡ true) where
   pub jitter-stream-ranges : r .kind ≡ 7 → JitterStreamRanges g r
   unfolding inRange ranged limit fieldsOf lineOf kinds
   jitter-stream-ranges k =
-      let t = tests _ _ _ _ _ (rw k at e) in
+      let t = tests (within 1 (r .a) (g .masters)) (within 1 (r .b) 1548) (within 1 (r .c) 1000000000) (within 1 (r .d) (r .c - r .e)) (within 0 (r .e) (r .c - 1)) (rw k at e) in
+      let d = within-range 1 (r .d) (r .c - r .e) (t .for-d) in
       record {
         master = within-range 1 (r .a) (g .masters) (t .for-a);
         cycle = within-range 1 (r .b) 1548 (t .for-b);
         spacing = within-range 1 (r .c) 1000000000 (t .for-c);
-        deadline = within-range 1 (r .d) (r .c - r .e) (t .for-d);
+        deadline = record { least = d .least; most = omega (arith, d .most) };
         jitter = within-range 0 (r .e) (r .c - 1) (t .for-e);
       }
 

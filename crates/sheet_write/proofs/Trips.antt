@@ -9,7 +9,7 @@ use native.Mathlib.Omega.{arith}
 use borrow.Author.Tests.{le-leb, leb-true}
 use lib.Dec.{leb}
 use lib.ListN.{length, getD, take, drop, length-append}
-use lib.Seq.{getD-at, getD-take, take-add, drop-drop, drop-cons}
+use lib.Seq.{getD-at, take-add, drop-drop, drop-cons}
 use Rattle.sheet_record.specs.declared.Record.{Record}
 use Rattle.sheet_record.specs.Numbers.{be, digits}
 use Rattle.sheet_record.specs.Kinds.{Field, fieldsOf, widths, sizeOf, known, fieldAt, decode, body, numbers, encode, whole, inRange}
@@ -155,10 +155,3 @@ decode-same s t at same =
     let k = same at (omega arith) (omega arith) in
     let f : (j : ℕ) → fieldAt s (at + 1) fs j ≡ fieldAt t (at + 1) fs j = λ j. fields-same s t (at + 1) fs j (λ i lo hi. same i (omega arith) (omega arith)) in
     rw (k, f 0, f 1, f 2, f 3, f 4)
-
--- so a sheet that is cut behind the record gives the same record
-pub decode-take : (s : List ℕ) (n at : ℕ) → at + sizeOf (getD s at 0) ≤ n → decode (take n s) at ≡ decode s at
-decode-take s n at h = decode-same (take n s) s at (λ i lo hi. getD-take n s i 0 (omega arith))
-
-pub kind-take : (s : List ℕ) (n at : ℕ) → at < n → getD (take n s) at 0 ≡ getD s at 0
-kind-take s n at h = getD-take n s at 0 h

@@ -13,17 +13,24 @@ fn write_number(n: u64) {
     io::print_decimal(STDOUT_FILENO, n);
 }
 
-// A sheet in the making: its bytes, for the planner; and each stream's master and C, for the simulator.
+// A sheet in the making: its bytes, for the planner; and each stream's master and C, for the simulator. D and J are the same for all streams.
 struct Sheet {
     masters: u8,
+    deadline: u32,
+    jitter: u32,
     streams: usize,
-    bytes: [u8; 9602],
+    bytes: [u8; 12802],
     owner: [u8; 800],
     cycle: [u16; 800],
 }
 
 impl Sheet {
+    // Without jitter, D leaves room for every bound.
     fn of(masters: u8) -> Self {
+        Sheet::late(masters, 1000000, 0)
+    }
+
+    fn late(masters: u8, deadline: u32, jitter: u32) -> Self {
         let head = Record {
             kind: 1,
             a: masters as u32,
@@ -32,10 +39,12 @@ impl Sheet {
             d: 0,
             e: 0,
         };
-        let mut bytes = [0u8; 9602];
+        let mut bytes = [0u8; 12802];
         sheet_write::put_record(&mut bytes, 0, head);
         Sheet {
             masters,
+            deadline,
+            jitter,
             streams: 0,
             bytes,
             owner: [0u8; 800],
@@ -43,28 +52,30 @@ impl Sheet {
         }
     }
 
-    // One stream more; T and D leave room for every bound.
+    // One stream more.
     fn and(self, master: u8, c: u16) -> Self {
         let n = self.streams;
         if 800 <= n {
             return self;
         }
         let stream = Record {
-            kind: 2,
+            kind: 7,
             a: master as u32,
             b: c as u32,
             c: 1000000,
-            d: 1000000,
-            e: 0,
+            d: self.deadline,
+            e: self.jitter,
         };
         let mut bytes = self.bytes;
         let mut owner = self.owner;
         let mut cycle = self.cycle;
-        sheet_write::put_record(&mut bytes, 2 + 12 * n, stream);
+        sheet_write::put_record(&mut bytes, 2 + 16 * n, stream);
         owner[n] = master;
         cycle[n] = c;
         Sheet {
             masters: self.masters,
+            deadline: self.deadline,
+            jitter: self.jitter,
             streams: n + 1,
             bytes,
             owner,
@@ -142,7 +153,7 @@ fn figures(bytes: &[u8], streams: usize, bound: &mut [u32], refined: &mut [u32])
     if 800 < streams {
         return false;
     }
-    let end = 2 + 12 * streams;
+    let end = 2 + 16 * streams;
     if bytes.len() < end {
         return false;
     }
@@ -188,5 +199,14 @@ fn main() {
     show(
         b"3 masters, the second silent, C 203 and 100",
         Sheet::of(3).with(1, 2, 203).with(3, 2, 100),
+    );
+    // With release jitter the bound is as it was, and is reached as before; the refined figure counts that master 2 may ask twice.
+    show(
+        b"4 masters, two streams each, C 203, up to 998000 bp late",
+        Sheet::late(4, 2000, 998000).with_each(2, 203),
+    );
+    show(
+        b"2 masters, two streams and one, C 203, up to 999000 bp late",
+        Sheet::late(2, 1000, 999000).with(1, 2, 203).with(2, 1, 203),
     );
 }

@@ -1,0 +1,160 @@
+"""Sheets that stand just at a rule, one by one."""
+
+import math
+
+from sheet_records import BILLION, MEGABYTE, ONES, WIDTHS, record
+from sheets_damaged import around, with_field
+from sheets_pnet import full_segment, jitter_edges, pnet_sheet
+from sheets_ring import profibus_sheet
+from sheets_table import PRIMES, WRAPPING, worldfip_sheet
+
+
+def edges(rng):
+    """Sheets that stand just at a rule, each by name."""
+    yield "empty", b""
+    for kind in range(256):
+        if kind < 20 or kind in (99, 128, 255):
+            yield "kind %d alone" % kind, bytes([kind])
+    yield "no masters", bytes([1, 0])
+    yield "33 masters", bytes([1, 33])
+    yield "no stream", bytes([1, 4])
+
+    for kind in WIDTHS:
+        for field in range(len(WIDTHS[kind])):
+            for value in around(kind, field):
+                yield "kind %d field %d is %d" % (kind, field + 1, value), with_field(kind, field, value)
+    # D is held by T, and T alone can make D too great
+    for t, d in [(1, 1), (1, 2), (BILLION, BILLION), (BILLION, BILLION + 1), (89_999, 90_000)]:
+        yield "T %d D %d" % (t, d), pnet_sheet(1, [(1, 1, t, d)])
+    # and by T - J, which must not be worked out where J is above T
+    for t, d in [(1, 1), (2, 1), (1_000, 1), (1_000, 400), (1_000, 1_000), (BILLION, 1), (BILLION, 400), (BILLION, BILLION)]:
+        for j in sorted({j for j in jitter_edges(t, d) if 0 <= j <= ONES}):
+            yield "T %d D %d J %d" % (t, d, j), pnet_sheet(1, [(1, 1, t, d, j)])
+    for t, d, j in [(1_000, ONES, 1_001), (1_000, ONES - 1, 1_001), (1, ONES, 2), (1_000, 0, 1_000), (1_000, 0, 999), (0, 0, 0), (0, 1, 0), (0, 1, ONES)]:
+        yield "T %d D %d J %d" % (t, d, j), pnet_sheet(1, [(1, 1, t, d, j)])
+    for longest, c in [(1, 1), (1, 2), (100_000, 100_000), (100_000, 100_001)]:
+        yield "M %d C %d" % (longest, c), profibus_sheet(1, 1, longest, [(1, c, BILLION)])
+
+    # the page's worked sheets
+    four = [(y, 203, 100_000, 2_000) for y in (1, 2, 3, 4, 1, 2, 3, 4)]
+    yield "four masters", pnet_sheet(4, four)
+    for i in range(8):
+        late = list(four)
+        late[i] = (late[i][0], 203, 100_000, 1_999)
+        yield "four masters, stream %d late" % (i + 1), pnet_sheet(4, late)
+    yield "two masters", pnet_sheet(2, [(y, 203, 100_000, 100_000) for y in (1, 1, 2)])
+    # master 2's request may have waited 500 bp and come up to J late: 760 + 500 + J is T, or one more or less
+    for t, j in [(1_560, 299), (1_560, 300), (1_560, 301), (3_000, 1_739), (3_000, 1_740), (3_000, 1_741), (3_000, 2_500)]:
+        yield "two masters, T %d J %d" % (t, j), pnet_sheet(2, [(1, 203, 100_000, 100_000)] * 2 + [(2, 203, t, 500, j)])
+    yield "the greatest J", pnet_sheet(2, [(1, 203, BILLION, 1_000, BILLION - 1_000)] * 2 + [(2, 203, BILLION, 500, BILLION - 500)])
+    ring = [(1, 400, 8_400), (1, 500, 10_000), (2, 300, 5_000)]
+    yield "ring", profibus_sheet(3, 300, 500, ring)
+    for latency in (2_499, 2_500, 2_501):
+        yield "ring with L %d" % latency, profibus_sheet(3, latency, 500, ring)
+    yield "table", worldfip_sheet(400, [(17, 1_000), (18, 2_000), (19, 4_000), (20, 4_000)])
+    yield "table, third at 2000", worldfip_sheet(
+        400, [(17, 1_000), (18, 2_000), (19, 2_000), (20, 4_000)])
+    yield "E 210", worldfip_sheet(210, [(i, 1_000) for i in (1, 2, 3, 4)] + [(5, 3_000)])
+
+    # counts of masters and streams
+    for n in (1, 2, 31, 32):
+        for master in {1, n}:
+            turn = 47 + 1548 + 10 * (n - 1)
+            for d in (turn, turn - 1):
+                yield "N %d only master %d D %d" % (n, master, d), pnet_sheet(n, [(master, 1548, d, d)])
+    for count in (79, 80, 81):
+        yield "%d streams on one master" % count, full_segment(rng, 1, [count])
+        yield "%d streams of kind 7 on one master" % count, full_segment(rng, 1, [count], kinds=(7,))
+        yield "%d streams of kinds 2 and 7 on one master" % count, full_segment(rng, 1, [count], kinds=(2, 7))
+        yield "%d ring streams on one master" % count, profibus_sheet(
+            1, 1, 1, [(1, 1, 1_000_000)] * count)
+    eighty = full_segment(rng, 10, [80] * 10)
+    yield "80 streams each", pnet_sheet(
+        10, [(y, 200, 1_000_000, 1_000_000) for y in range(1, 11) for _ in range(80)])
+    yield "800 streams", eighty
+    yield "800 streams on 32 masters", full_segment(rng, 32, [25] * 32)
+    yield "greatest bound", full_segment(rng, 32, [80] + [23] * 31)
+    one_more = record(2, 1, 200, 5_000_000, 4_500_000)
+    yield "the 801st", full_segment(rng, 32, [25] * 32) + one_more
+    yield "the 801st, out of range", full_segment(rng, 32, [25] * 32) + record(2, 33, 1, 9, 9)
+    yield "the 801st, cut", full_segment(rng, 32, [25] * 32) + one_more[:-1]
+    yield "the 801st, wrong kind", full_segment(rng, 32, [25] * 32) + bytes([4])
+    yield "the 801st, unknown kind", full_segment(rng, 32, [25] * 32) + bytes([8])
+    yield "the 801st and 81st at once", eighty + one_more
+    longest = full_segment(rng, 32, [25] * 32, kinds=(7,))
+    one_late = record(7, 1, 200, 5_000_000, 4_500_000, 500_000)
+    yield "the longest sheet", longest
+    yield "800 streams of kinds 2 and 7", full_segment(rng, 10, [80] * 10, kinds=(2, 7))
+    yield "the 801st, kind 7 behind kind 2", full_segment(rng, 32, [25] * 32) + one_late
+    yield "the 801st, kind 7 behind kind 7", longest + one_late
+    yield "the 801st, kind 2 behind kind 7", longest + one_more
+    yield "the 801st of kind 7, out of range", longest + record(7, 1, 200, 5_000_000, 4_500_000, 500_001)
+    yield "the 801st of kind 7, cut", longest + one_late[:-1]
+    yield "the 801st behind kind 7, wrong kind", longest + bytes([4])
+    yield "the 801st behind kind 7, unknown kind", longest + bytes([8])
+    yield "the 801st of kinds 2 and 7", full_segment(rng, 32, [25] * 32, kinds=(2, 7)) + one_late
+    ring800 = profibus_sheet(32, 1, 1, [(y, 1, 1_000_000) for y in range(1, 33) for _ in range(25)])
+    yield "800 ring streams", ring800
+    yield "the 801st ring stream", ring800 + record(4, 5, 1, 1_000_000)
+    yield "the 801st ring stream, D 0", ring800 + record(4, 5, 1, 0)
+
+    # input far longer than any good sheet
+    yield "81st, then megabytes of streams", (
+        full_segment(rng, 1, [80]) + one_more * (2 * MEGABYTE // 12))
+    yield "801st, then megabytes of noise", (
+        full_segment(rng, 32, [25] * 32) + one_more + rng.randbytes(3 * MEGABYTE))
+    yield "81st, then megabytes of kind 7", full_segment(rng, 1, [80], kinds=(7,)) + one_late * (2 * MEGABYTE // 16)
+    yield "801st, then megabytes of kind 7", longest + one_late * (3 * MEGABYTE // 16)
+    yield "801st ring stream, then a megabyte", ring800 + record(4, 5, 1, 1_000_000) * (MEGABYTE // 10)
+    many = [(i, 10_000) for i in range(64)]
+    yield "65th, then megabytes", worldfip_sheet(1, many) + record(6, 99, 10_000) * (2 * MEGABYTE // 7)
+    yield "a megabyte of kind 1", record(1, 4) * (MEGABYTE // 2)
+    yield "a megabyte of zeros", bytes(MEGABYTE)
+    yield "a good sheet, then a megabyte of zeros", eighty[: 2 + 12 * 40] + bytes(MEGABYTE)
+
+    # variables and identifiers
+    yield "64 variables", worldfip_sheet(1, many)
+    yield "65 variables", worldfip_sheet(1, many + [(64, 10_000)])
+    yield "the 65th met before", worldfip_sheet(1, many + [(0, 10_000)])
+    yield "the 64th met before", worldfip_sheet(1, many[:63] + [(62, 10_000)])
+    yield "met before and period 0", worldfip_sheet(1, [(1, 10), (1, 0)])
+    yield "identifiers 0 and 65535", worldfip_sheet(1, [(65_535, 10), (0, 10)])
+    yield "64 in 64 slots, descending", worldfip_sheet(1, [(i, 64) for i in range(64, 0, -1)])
+    yield "64 in 63 slots, descending", worldfip_sheet(1, [(i, 63) for i in range(64, 0, -1)])
+    yield "64 in 65 slots", worldfip_sheet(1, [(i, 65) for i in range(64)])
+    yield "64 in one slot", worldfip_sheet(100, [(i, 6_400) for i in range(63)] + [(63, 100)])
+    yield "64 one at a time", worldfip_sheet(100, [(0, 200)] + [(i, 12_600) for i in range(1, 64)])
+    yield "64 one at a time, one too many", worldfip_sheet(
+        100, [(0, 200)] + [(i, 12_400) for i in range(1, 64)])
+
+    # rows around the limit
+    for rows in (4_095, 4_096, 4_097, 8_192):
+        yield "%d rows, mostly empty" % rows, worldfip_sheet(1, [(1, 2 * rows), (2, 2)])
+        yield "%d rows of one slot" % rows, worldfip_sheet(1, [(2, 2), (1, rows)])
+    yield "4096 rows, 64 variables", worldfip_sheet(
+        10, [(i, 100 * 2 ** (i % 13)) for i in range(64)])
+    yield "4096 rows, misses", worldfip_sheet(
+        50, [(i, 100 * 2 ** min(i, 12)) for i in range(14)] + [(i, 409_600) for i in range(14, 64)])
+    yield "rows 4080, 255 and 16", worldfip_sheet(1, [(1, 255), (2, 16)])
+    yield "rows 4097, 17 and 241", worldfip_sheet(1, [(1, 17), (2, 241)])
+    yield "rows 4097, no slot", worldfip_sheet(2, [(1, 17), (2, 241)])
+    yield "greatest periods", worldfip_sheet(1, [(1, 999_999_937), (2, BILLION)])
+    yield "64 huge periods", worldfip_sheet(1, [(i, BILLION - i) for i in range(64)])
+    yield "64 primes", worldfip_sheet(1, list(enumerate(PRIMES[:64])))
+    for periods in WRAPPING:
+        product = math.prod(periods)
+        yield "product %d" % product, worldfip_sheet(1, list(enumerate(periods)))
+        yield "product %d, then 1" % product, worldfip_sheet(1, list(enumerate(periods + (1,))))
+    yield "greatest slots", worldfip_sheet(1, [(65_535, BILLION)])
+    yield "one slot, one row", worldfip_sheet(1_000_000, [(1, 1_000_000)])
+    yield "no slot by one", worldfip_sheet(1_000_000, [(1, 999_999)])
+    yield "empty rows", worldfip_sheet(500, [(9, 3_000), (8, 2_000)])
+
+    # ring figures at the ends of their ranges
+    yield "greatest TTR", profibus_sheet(1, 1, 1, [(1, 1, BILLION)])
+    yield "greatest h and n", profibus_sheet(32, 100_000, 100_000, [(1, 100_000, BILLION)] * 80)
+    for d in (264_100_000, 264_099_999, 264_100_079, 264_100_080):
+        yield "greatest ring, D %d" % d, profibus_sheet(
+            32, 100_000, 100_000, [(1, 100_000, d)] + [(1, 100_000, BILLION)] * 79)
+    yield "D below C", profibus_sheet(1, 1, 1_000, [(1, 1_000, 1)])
+    yield "D below C, second", profibus_sheet(1, 1, 1_000, [(1, 1, 9_999), (1, 1_000, 999)])
