@@ -2,15 +2,14 @@
 use mathlib.Core.Path.{_≡_, sym, _∙_}
 use mathlib.Core.Bool.{true}
 use mathlib.Core.List.{List, []}
-use mathlib.Core.Logic.{_⊎_, inl, inr}
 use Prim.Native.Nat.{ℕ, _-_}
 use native.Mathlib.Omega.{arith}
 use lib.ListN.{getD}
 use Rattle.sheet_record.specs.declared.Given.{Given}
 use Rattle.sheet_record.specs.declared.Record.{Record}
 use Rattle.sheet_record.specs.Kinds.{pnet, isStreamOf, nothing, inRange}
-use Rattle.sheet_record.proofs.Parts.{first-bus, pnet-stream-kinds}
-use Rattle.sheet_record.proofs.Ranges.{segment-ranges, pnet-stream-ranges, jitter-stream-ranges}
+use Rattle.sheet_record.proofs.Parts.{first-bus}
+use Rattle.sheet_record.proofs.Ranges.{segment-ranges, pnet-ranges}
 use Rattle.sheet_read.specs.Sheets.{Sheet, sheetOf, busIn, given, countOf, longestOf}
 use Rattle.sheet_read.proofs.Counts.{counted-by-number, longest-by-number}
 use Rattle.sheet_read.proofs.Known.{Known}
@@ -19,35 +18,19 @@ use Rattle.pnet_rules.specs.Limits.{Ranged, Declared}
 
 -- a P-NET stream's ranges are those of its record; one without jitter has J = 0
 pub stream-ranged : (g : Given) (r : Record) → isStreamOf pnet (r .kind) ≡ true → inRange g r ≡ true → Ranged (g .masters) (streamOf r)
-stream-ranged g r its e = by (pnet-stream-kinds (r .kind) its)
-  where
-    by : r .kind ≡ 2 ⊎ r .kind ≡ 7 → Ranged (g .masters) (streamOf r)
-    by (inl k) =
-        let w = pnet-stream-ranges g r e k in
-        record {
-          master-from = w .master .least;
-          master-to = w .master .most;
-          cycle-from = w .cycle .least;
-          cycle-to = w .cycle .most;
-          spacing-from = w .spacing .least;
-          spacing-to = w .spacing .most;
-          deadline-from = w .deadline .least;
-          deadline-to = omega (arith, w .deadline .most, w .no-e);
-          jitter-to = omega (arith, w .spacing .least, w .no-e);
-        }
-    by (inr k) =
-        let w = jitter-stream-ranges g r e k in
-        record {
-          master-from = w .master .least;
-          master-to = w .master .most;
-          cycle-from = w .cycle .least;
-          cycle-to = w .cycle .most;
-          spacing-from = w .spacing .least;
-          spacing-to = w .spacing .most;
-          deadline-from = w .deadline .least;
-          deadline-to = w .deadline .most;
-          jitter-to = omega (arith, w .spacing .least, w .jitter .most);
-        }
+stream-ranged g r its e =
+    let w = pnet-ranges g r e its in
+    record {
+      master-from = w .master .least;
+      master-to = w .master .most;
+      cycle-from = w .cycle .least;
+      cycle-to = w .cycle .most;
+      spacing-from = w .spacing .least;
+      spacing-to = w .spacing .most;
+      deadline-from = w .deadline .least;
+      deadline-to = w .deadline .most;
+      jitter-to = omega (arith, w .spacing .least, w .jitter .most);
+    }
 
 -- s is what reading counted
 pub count-of : (H : Sheet) (k : ℕ) → count (segmentOf H) k ≡ countOf k (H .streams)

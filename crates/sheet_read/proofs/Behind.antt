@@ -19,7 +19,7 @@ use Rattle.sheet_record.specs.declared.Met.{Met}
 use Rattle.sheet_record.specs.Kinds.{known, sizeOf, decode, inRange, whole, metAt, busOf, isFirst, isStreamOf, streamMet}
 use Rattle.sheet_record.proofs.Records.{stream-same}
 use Rattle.sheet_record.proofs.Parts.{first-kinds, first-bus, ring-streams}
-use Rattle.sheet_record.proofs.Ranges.{segment-ranges, pnet-master, ring-ranges, ring-stream-ranges}
+use Rattle.sheet_record.proofs.Ranges.{segment-ranges, pnet-ranges, ring-ranges, ring-stream-ranges}
 use Rattle.sheet_read.specs.Sheets.{Sheet, sheetOf, busIn, given, fits, mostInAll, hasMasters, countOf, overLimit, metBefore}
 use Rattle.sheet_read.specs.Whole.{placeOf, recordsOf, before, firstStream, judge, ended, reading, told, streamsOfMaster, longestOfMaster, byMaster, countsTold, longestsTold, Outcome}
 use Rattle.sheet_read.specs.Whole.Outcome.{Read, Not}
@@ -45,7 +45,7 @@ master-counted h r f i its j other = split (first-kinds (h .kind) f)
 
     split : h .kind ≡ 1 ⊎ h .kind ≡ 3 ⊎ h .kind ≡ 5 → r .a ≤ 32
     split (inl e) =
-        omega (arith, pnet-master (limits-of h) r j (bus 1 e) .most, segment-ranges no-limits h i e .masters .most)
+        omega (arith, pnet-ranges (limits-of h) r j (bus 1 e) .master .most, segment-ranges no-limits h i e .masters .most)
     split (inr (inl e)) =
         let k = eqb-true (r .kind) 4 (sym (ring-streams (r .kind)) ∙ bus 3 e) in
         omega (arith, ring-stream-ranges (limits-of h) r j k .master .most, ring-ranges no-limits h i e .masters .most)

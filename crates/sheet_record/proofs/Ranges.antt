@@ -172,10 +172,18 @@ module _ (g : Given) (r : Record) (e : inRange g r ≡ true) where
         jitter = within-range 0 (r .e) (r .c - 1) (t .for-e);
       }
 
-  -- the master of a P-NET stream of either kind
-  pub pnet-master : isStreamOf 1 (r .kind) ≡ true → Range 1 (r .a) (g .masters)
-  pnet-master its = by (pnet-stream-kinds (r .kind) its)
+  -- a P-NET stream of either kind has the ranges of one with jitter: without it J is 0
+  pub pnet-ranges : isStreamOf 1 (r .kind) ≡ true → JitterStreamRanges g r
+  pnet-ranges its = by (pnet-stream-kinds (r .kind) its)
     where
-      by : r .kind ≡ 2 ⊎ r .kind ≡ 7 → Range 1 (r .a) (g .masters)
-      by (inl k) = pnet-stream-ranges k .master
-      by (inr k) = jitter-stream-ranges k .master
+      by : r .kind ≡ 2 ⊎ r .kind ≡ 7 → JitterStreamRanges g r
+      by (inl k) =
+          let w = pnet-stream-ranges k in
+          record {
+            master = w .master;
+            cycle = w .cycle;
+            spacing = w .spacing;
+            deadline = record { least = w .deadline .least; most = omega (arith, w .deadline .most, w .no-e) };
+            jitter = record { least = omega arith; most = omega (arith, w .no-e) };
+          }
+      by (inr k) = jitter-stream-ranges k
