@@ -9,6 +9,7 @@ use sheet_line::LINE;
 use sheet_line::guess;
 use sheet_line::put_line;
 use sheet_record::Record;
+use sheet_record::is_pnet_stream;
 
 // The place where a line stops being the one that it can be; the byte that is wanted there, 0 where a number is too big for its field; and whether a
 // number is cut off there, or missing.
@@ -37,11 +38,6 @@ pub(crate) fn cell_at(line: &[u8], at: usize) -> Cell {
         number += 1;
     }
     Cell { number, start }
-}
-
-// Of these kinds the second number, C, has two bytes.
-pub(crate) fn is_pnet_stream(kind: u8) -> bool {
-    (kind == 2) | (kind == 7)
 }
 
 // In a line that is a record's own and still not of the form, the first cell with a number too big: of P-NET streams the second, if not the first.
@@ -117,7 +113,7 @@ pub(crate) fn slip_in(line: &[u8], kind: u8) -> Slip {
     }
 }
 
-// The greatest number that a cell's field holds.
+// The greatest number that a cell's field holds: C of a P-NET stream has two bytes.
 pub(crate) fn greatest(kind: u8, cell: usize) -> u64 {
     if (cell == 2) & is_pnet_stream(kind) {
         return 65_535;

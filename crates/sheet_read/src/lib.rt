@@ -116,7 +116,7 @@ fn is_stream(bus: u8, kind: u8) -> bool
     ensures { λ r. ⌜ r ≡ isStreamOf bus kind ⌝ }
 {
     match bus {
-        1 => (kind == 2) | (kind == 7),
+        1 => sheet_record::is_pnet_stream(kind),
         3 => kind == 4,
         _ => kind == 6,
     }

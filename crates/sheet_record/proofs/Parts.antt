@@ -8,7 +8,8 @@ use native.Mathlib.Omega.{arith}
 use borrow.Author.Tests.{eqb-true, ne-eqb}
 use lib.Dec.{eqb}
 use Rattle.sheet_record.specs.Kinds.{kinds, lineOf, known, fieldsOf, busOf, partOf, isFirst, isSetting, isStream, isStreamOf, written}
-use Rattle.sheet_record.proofs.Tables.{both-true}
+use Rattle.sheet_record.specs.Widths.{widthAt, Wide}
+use Rattle.sheet_record.proofs.Tables.{both-true, wide}
 
 -- ---- Kind by kind
 
@@ -83,6 +84,22 @@ pnet-stream-kinds k e = split (eqb k 2) refl (sym (pnet-streams k) ∙ e)
     split : (b : Bool) → eqb k 2 ≡ b → (b || eqb k 7) ≡ true → k ≡ 2 ⊎ k ≡ 7
     split true q f = inl (eqb-true k 2 q)
     split false q f = inr (eqb-true k 7 f)
+
+-- kind 7 alone has a fifth field
+pub no-fifth : (k : ℕ) → (k ≡ 7 → ⊥) → widthAt (fieldsOf k) 4 ≡ 0
+unfolding widthAt fieldsOf lineOf kinds
+no-fifth =
+    by-kind (λ k. (k ≡ 7 → ⊥) → widthAt (fieldsOf k) 4 ≡ 0) (λ n. refl) (λ n. refl) (λ n. refl) (λ n. refl) (λ n. refl) (λ n. refl) (λ n. refl)
+    (λ n. absurd (n refl)) (λ k n. refl)
+
+-- their widths differ in that alone
+pub pnet-wide : (k w : ℕ) → isStreamOf 1 k ≡ true → w ≡ widthAt (fieldsOf k) 4 → Wide k 1 2 4 4 w
+unfolding widthAt known fieldsOf lineOf kinds
+pnet-wide k w its e = by (pnet-stream-kinds k its)
+  where
+    by : k ≡ 2 ⊎ k ≡ 7 → Wide k 1 2 4 4 w
+    by (inl q) = rw (e, q) (wide 2 refl)
+    by (inr q) = rw (e, q) (wide 7 refl)
 
 -- which of the two it is
 pub pnet-with-jitter : (k : ℕ) → k ≡ 7 → isStreamOf 1 k ≡ eqb k 7

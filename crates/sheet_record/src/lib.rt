@@ -6,8 +6,8 @@ ghost use lib.Dec.{eqb};
 ghost use lib.ListN.{length, getD};
 ghost use Rattle.sheet_record.specs.Numbers.{be};
 ghost use Rattle.sheet_record.specs.Kinds;
-ghost use Rattle.sheet_record.specs.Kinds.{pnet, profibus, worldfip, busOf, isFirst, within, inRange, metAt, metOf, streamMet, nothing};
-ghost use Rattle.sheet_record.specs.Widths.{Wide};
+ghost use Rattle.sheet_record.specs.Kinds.{pnet, profibus, worldfip, busOf, isFirst, fieldsOf, isStreamOf, within, inRange, metAt, metOf, streamMet, nothing};
+ghost use Rattle.sheet_record.specs.Widths.{widthAt, Wide};
 
 // One record: its kind, and its fields in the order of the page. A field that the kind does not have is 0.
 pub struct Record {
@@ -152,6 +152,20 @@ pub fn record_at(s: &[u8], at: usize) -> Met
     record_of(s, at, s[at])
 }
 
+// A P-NET stream is of this kind.
+pub fn is_pnet_stream(kind: u8) -> bool
+    ensures { λ r. ⌜ r ≡ isStreamOf pnet kind ⌝ }
+{
+    (kind == 2) | (kind == 7)
+}
+
+// The bytes of J, which no other kind has.
+fn jitter_width(kind: u8) -> usize
+    ensures { λ r. ⌜ r ≡ widthAt (fieldsOf kind) 4 ⌝ }
+{
+    if kind == 7 { 4 } else { 0 }
+}
+
 // The P-NET stream at a place and the place just after it; nothing, and the place itself, where none stands whole. All that a planner meets of
 // a sheet behind its first record comes from one function, that of its bus; the kinds stand there as constants, so that no more than their
 // lines of `record_of` are left in the planner's loop.
@@ -161,10 +175,11 @@ pub fn pnet_stream_at(s: &[u8], at: usize) -> Met
     if s.len() <= at {
         return nothing_at(at);
     }
-    if s[at] == 7 {
-        return record_of(s, at, 7);
+    let kind = s[at];
+    if is_pnet_stream(kind) {
+        return whole_at(s, at, 1, 2, 4, 4, jitter_width(kind));
     }
-    record_of(s, at, 2)
+    nothing_at(at)
 }
 
 // The same of PROFIBUS.
@@ -195,6 +210,9 @@ fn fits_behind(t: u32, d: u32, j: u32) -> bool
     (1 <= d) & (d <= less(t, j)) & (j <= less(t, 1))
 }
 
+// The longest cycle C of a P-NET stream is at most so many bp.
+const CYCLE: u32 = 1548;
+
 // A record of a kind with every field in its range, behind what is given. A field that the kind does not have is 0. All tests are made at
 // once, with no branch between them.
 pub fn in_range_of(kind: u8, given: Given, r: Record) -> bool
@@ -215,7 +233,7 @@ pub fn in_range_of(kind: u8, given: Given, r: Record) -> bool
         2 => (1 <= a)
             & (a <= masters)
             & (1 <= b)
-            & (b <= 1548)
+            & (b <= CYCLE)
             & (1 <= c)
             & (c <= 1000000000)
             & (1 <= d)
@@ -242,7 +260,7 @@ pub fn in_range_of(kind: u8, given: Given, r: Record) -> bool
         7 => (1 <= a)
             & (a <= masters)
             & (1 <= b)
-            & (b <= 1548)
+            & (b <= CYCLE)
             & (1 <= c)
             & (c <= 1000000000)
             & fits_behind(c, d, e),

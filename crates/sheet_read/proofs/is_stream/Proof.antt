@@ -2,12 +2,16 @@
 use mathlib.Core.Path.{_≡_, sym}
 use mathlib.Core.Logic.{⊎-elim}
 use native.Mathlib.Omega.{arith}
-use Rattle.sheet_record.proofs.Parts.{pnet-streams, ring-streams, variables}
+use borrow.Author.Needs.{needs}
+use Rattle.sheet_record.proofs.Parts.{ring-streams, variables}
 use Rattle.sheet_read.proofs.is_stream.Statement.{statement}
 use Rattle.sheet_read.proofs.is_stream.Tie as tie
 
+is-pnet-stream-requires : tie.Need-is-pnet-stream-requires
+is-pnet-stream-requires c κs = search needs
+
 returns : tie.Need-returns
-returns c = rw (c .match .keys1) (sym (pnet-streams (c .before .args .kind)))
+returns c = rw (c .before .match .keys1) (c .is-pnet-stream .ensures)
 
 returns-2 : tie.Need-returns-2
 returns-2 c = rw (c .match .keys2) (sym (ring-streams (c .before .args .kind)))
@@ -19,4 +23,4 @@ returns-3 c =
     rw five (sym (variables (c .before .args .kind)))
 
 pub is-stream-spec : {M : Type 1} → statement M
-is-stream-spec = tie.close (tie.spec returns returns-2 returns-3)
+is-stream-spec = tie.close (tie.spec is-pnet-stream-requires returns returns-2 returns-3)

@@ -1,10 +1,12 @@
--- `sheet_record::pnet_stream_at` meets its contract: the streams of P-NET are of two kinds. Assumes nothing.
-use mathlib.Core.Path.{_∙_}
-use lib.ListN.{getD}
+-- `sheet_record::pnet_stream_at` meets its contract: the streams of P-NET are of two kinds, whose fields stand alike but for J. Assumes nothing.
+use mathlib.Core.Path.{_≡_, sym, _∙_}
+use mathlib.Core.Bool.{Bool, true, false}
 use native.Mathlib.Omega.{arith}
 use borrow.Author.Needs.{needs}
-use Rattle.sheet_record.proofs.Parts.{pnet-with-jitter, pnet-without}
-use Rattle.sheet_record.proofs.Records.{met-past, stream-none, stream-kind}
+use lib.ListN.{getD}
+use Rattle.sheet_record.specs.Kinds.{isStreamOf}
+use Rattle.sheet_record.proofs.Parts.{pnet-wide}
+use Rattle.sheet_record.proofs.Records.{met-past, stream-none, stream-same, stream-other}
 use Rattle.sheet_record.proofs.pnet_stream_at.Statement.{statement}
 use Rattle.sheet_record.proofs.pnet_stream_at.Tie as tie
 
@@ -16,28 +18,37 @@ returns c =
     let a = c .before .before .before .args in
     c .nothing-at .ensures ∙ stream-none (a .s .now) (a .at) 1 (met-past (a .s .now) (a .at) (c .before .if1 .taken))
 
-shared-slice-read-if2 : tie.Need-shared-slice-read-if2
-shared-slice-read-if2 c = search needs
+shared-slice-read-kind : tie.Need-shared-slice-read-kind
+shared-slice-read-kind c = search needs
 
-record-of-requires : tie.Need-record-of-requires
-record-of-requires c κs = search needs
+is-pnet-stream-requires : tie.Need-is-pnet-stream-requires
+is-pnet-stream-requires c κs = search needs
+
+jitter-width-requires : tie.Need-jitter-width-requires
+jitter-width-requires c κs = search needs
+
+-- a stream stands there
+stands : (c : tie.Then2)
+    → isStreamOf 1 (getD (c .before .before .before .before .before .args .s .now) (c .before .before .before .before .before .args .at) 0) ≡ true
+stands c = sym (c .before .is-pnet-stream .ensures) ∙ c .if2 .taken
+
+whole-at-requires : tie.Need-whole-at-requires
+whole-at-requires c κs = (search needs, pnet-wide _ _ (stands (c .before)) (c .jitter-width .ensures))
 
 returns-2 : tie.Need-returns-2
 returns-2 c =
-    let a = c .before .before .before .before .before .args in
-    let k = getD (a .s .now) (a .at) 0 in
-    c .record-of .ensures ∙ stream-kind (a .s .now) (a .at) 1 7 (pnet-with-jitter k (omega (arith, c .before .if2 .taken)))
+    let a = c .before .before .before .before .before .before .before .args in
+    c .whole-at .ensures ∙ sym (stream-same (a .s .now) (a .at) 1 (stands (c .before .before)))
 
-record-of-requires-2 : tie.Need-record-of-requires-2
-record-of-requires-2 c κs = search needs
+nothing-at-requires-2 : tie.Need-nothing-at-requires-2
+nothing-at-requires-2 c κs = search needs
 
 returns-3 : tie.Need-returns-3
 returns-3 c =
-    let a = c .before .before .before .before .before .args in
-    let k = getD (a .s .now) (a .at) 0 in
-    c .record-of2 .ensures ∙ stream-kind (a .s .now) (a .at) 1 2 (pnet-without k (λ e. omega (arith, c .before .if2 .left)))
+    let a = c .before .before .before .before .before .before .args in
+    c .nothing-at2 .ensures ∙ stream-other (a .s .now) (a .at) 1 (sym (c .before .before .is-pnet-stream .ensures) ∙ c .before .if2 .left)
 
 pub pnet-stream-at-spec : {M : Type 1} → statement M
 pnet-stream-at-spec =
     tie.close
-    (tie.spec nothing-at-requires returns shared-slice-read-if2 record-of-requires returns-2 record-of-requires-2 returns-3)
+    (tie.spec nothing-at-requires returns shared-slice-read-kind is-pnet-stream-requires jitter-width-requires whole-at-requires returns-2 nothing-at-requires-2 returns-3)
