@@ -1,9 +1,9 @@
--- Page 01, 'P-NET bounds', the refined figure, with the count of page 02, Asks 2 and 7: W and its rounds. Assumes nothing.
+-- Page 01, 'P-NET bounds', the refined figure, with the count of page 02, Asks 2 and 7, and the charge of Ask 10: W and its rounds. Assumes nothing.
 use Prim.Native.Nat.{ℕ, zero, suc, _+_, _-_, _*_, min}
 use mathlib.Core.Bool.{Bool, cond}
 use lib.Dec.{eqb}
 use Rattle.common.specs.Sums.{when, upto, up, firstOf}
-use Rattle.pnet_rules.specs.Segment.{Segment, owns, count, hold, turnBy, boundBy}
+use Rattle.pnet_rules.specs.Segment.{Segment, owns, count, charged, turnBy, boundBy}
 
 -- ---- For any charge h(y) and any count a(y) at W
 
@@ -36,7 +36,7 @@ unfoldable pub mostRounds : Segment → ℕ → ℕ
 unfolding count
 mostRounds S k = 1 + (S .masters - 1) * count S k
 
--- ---- The planner's count and charge
+-- ---- The planner's count and the edition's charge
 
 -- a(y): the sum over y's streams of (W + R(y) + J)/T rounded up, R by the charge h. Page 01 has W/T. Page 02 stands over it: Ask 2 adds R(y),
 -- since a request of y may have waited that long when the window opens; Ask 7 adds J, since its nominal time may lie that far back.
@@ -46,8 +46,8 @@ askedBy h S y w = upto (λ i. when (owns S y i) (up (w + boundBy h S y + S .stre
 
 -- the right side for W of master k
 unfoldable pub right : Segment → ℕ → ℕ → ℕ
-unfolding rightBy hold askedBy
-right S k w = rightBy (hold S) (askedBy (hold S) S) S k w
+unfolding rightBy charged askedBy
+right S k w = rightBy (charged S) (askedBy (charged S) S) S k w
 
 -- the round count, and W, the value reached then
 unfoldable pub rounds : Segment → ℕ → ℕ

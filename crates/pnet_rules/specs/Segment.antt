@@ -1,4 +1,4 @@
--- Page 01, 'P-NET bounds': s, H, V, R, and what passes; page 02, Ask 7, adds J to a stream. V is a reserved word of the prover, so it is called `turn` here: the
+-- Page 01, 'P-NET bounds': s, H, V, R, and what passes; page 02, Ask 7, adds J to a stream, and Ask 10 the edition of the rule. V is a reserved word of the prover, so it is called `turn` here: the
 -- longest turn of the token. Assumes nothing.
 use Prim.Native.Nat.{ℕ, _+_, _-_, _*_}
 use mathlib.Core.List.{List}
@@ -8,7 +8,7 @@ use lib.Dec.{eqb, ltb}
 use Rattle.common.specs.Sums.{when, upto, greatest}
 use Rattle.sheet_record.specs.declared.Record.{Record}
 use Rattle.sheet_record.specs.Kinds.{nothing}
-use Rattle.sheet_read.specs.Sheets.{Sheet, mastersOf}
+use Rattle.sheet_read.specs.Sheets.{Sheet, mastersOf, editionOf}
 
 -- ---- A segment as a sheet declares it
 
@@ -20,8 +20,9 @@ pub record Stream : Type 0 where
   pub deadline : ℕ
   pub jitter : ℕ
 
--- masters 1..masters, streams 1..number
+-- masters 1..masters, streams 1..number; the edition of the rule is 1 or 2
 pub record Segment : Type 0 where
+  pub edition : ℕ
   pub masters : ℕ
   pub number : ℕ
   pub stream : ℕ → Stream
@@ -36,7 +37,7 @@ streamAt rs i = streamOf (getD rs (i - 1) nothing)
 
 unfoldable pub segmentOf : Sheet → Segment
 unfolding streamAt
-segmentOf S = record { masters = mastersOf S; number = length (S .streams); stream = streamAt (S .streams) }
+segmentOf S = record { edition = editionOf S; masters = mastersOf S; number = length (S .streams); stream = streamAt (S .streams) }
 
 -- ---- The figures
 
@@ -63,6 +64,16 @@ unfoldable pub hold : Segment → ℕ → ℕ
 unfolding count longest charge
 hold S y = charge (count S y) (longest S y)
 
+-- the largest H in the segment
+unfoldable pub largest : Segment → ℕ
+unfolding greatest hold
+largest S = greatest (hold S) (S .masters)
+
+-- what each master is charged: its H; under edition 2 the largest H in the segment, be the master silent or not
+unfoldable pub charged : Segment → ℕ → ℕ
+unfolding hold largest
+charged S = cond (eqb (S .edition) 2) (λ y. largest S) (hold S)
+
 -- V under a charge h for each master: its sum over masters 1..N
 unfoldable pub turnBy : (ℕ → ℕ) → Segment → ℕ
 unfolding upto
@@ -73,14 +84,14 @@ unfoldable pub boundBy : (ℕ → ℕ) → Segment → ℕ → ℕ
 unfolding count turnBy
 boundBy h S k = count S k * turnBy h S
 
--- V and R: the charge is H
+-- V and R: the charge is the edition's
 unfoldable pub turn : Segment → ℕ
-unfolding turnBy hold
-turn S = turnBy (hold S) S
+unfolding turnBy charged
+turn S = turnBy (charged S) S
 
 unfoldable pub bound : Segment → ℕ → ℕ
-unfolding boundBy hold
-bound S k = boundBy (hold S) S k
+unfolding boundBy charged
+bound S k = boundBy (charged S) S k
 
 -- stream i fails: its master's R is above its D
 unfoldable pub late : Segment → ℕ → Bool

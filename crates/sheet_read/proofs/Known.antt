@@ -18,9 +18,10 @@ use Rattle.common.proofs.Checks.{Clear, passed-then}
 use Rattle.common.proofs.Checks.Clear.{none, and}
 use Rattle.sheet_record.specs.declared.Met.{Met}
 use Rattle.sheet_record.specs.declared.Record.{Record}
-use Rattle.sheet_record.specs.Kinds.{known, sizeOf, decode, inRange, whole, metAt, nothing, busOf, isFirst, isSetting, isStream, isStreamOf}
+use Rattle.sheet_record.specs.Kinds.{known, sizeOf, decode, inRange, whole, metAt, metOf, nothing, fieldsOf, lineOf, kinds, busOf, isFirst, isSetting, isStream, isStreamOf}
 use Rattle.sheet_record.proofs.Parts.{no-setting}
-use Rattle.sheet_read.specs.Sheets.{Sheet, sheetOf, having, busIn, given, countOf, mostInAll, hasMasters, overLimit, metBefore}
+use Rattle.sheet_read.specs.Sheets.{Sheet, sheetOf, having, busIn, given, editionOf, countOf, mostInAll, hasMasters, overLimit, metBefore}
+use Rattle.sheet_read.specs.Steps.{editionMet, editionAt}
 use Rattle.sheet_read.specs.Records.{recordsIn}
 use Rattle.sheet_read.specs.Whole.{placeOf, recordsOf, before, firstStream, endChecks, ended, reading}
 use Rattle.sheet_read.specs.Whole.Outcome.{Read, Not}
@@ -47,6 +48,8 @@ pub record Known (s : List ℕ) (S : Sheet) : Type 0 where
   -- the streams are of its bus, and in range behind it
   pub kinds : (i : ℕ) → i < length (S .streams) → isStreamOf (busIn S) (getD (S .streams) i nothing .kind) ≡ true
   pub ranged : (i : ℕ) → i < length (S .streams) → inRange (given S (getD (S .streams) i nothing .a)) (getD (S .streams) i nothing) ≡ true
+  -- the edition that the bytes say
+  pub edition : busIn S ≡ 1 → editionAt s ≡ editionOf S
   -- at most 80 streams for one master
   pub per-master : (k : ℕ) → (busIn S ≡ 5 → ⊥) → countOf k (S .streams) ≤ 80
   -- no two variables have one identifier
@@ -195,6 +198,23 @@ module _ (s : List ℕ) (m : ℕ) (u : Upto s (suc m)) where
   unfolding decode placeOf
   met-at j l = met-whole s (placeOf s j) (u .passed j (omega arith) .is-known) (u .passed j (omega arith) .is-whole)
 
+  no-settings : (rs : List Record) → having isSetting rs ≡ []
+  unfolding having
+  no-settings [] = refl
+  no-settings (r ∷ rs) = rw (no-setting (r .kind)) (no-settings rs)
+
+  pub settings-none : before s (suc m) .settings ≡ []
+  unfolding before sheetOf
+  settings-none = no-settings (recordsOf s (suc m))
+
+  edition-there : editionAt s ≡ editionOf (before s (suc m))
+  unfolding editionAt metOf metAt whole known fieldsOf lineOf kinds
+  edition-there = rw settings-none (split (eqb (getD s 2 0) 8) refl)
+    where
+      split : (b : Bool) → eqb (getD s 2 0) 8 ≡ b → editionMet (cond b (metAt s 2) (record { found = nothing; next = 2 })) ≡ 1
+      split true e = rw (eqb-true (getD s 2 0) 8 e)
+      split false e = refl
+
   known-there : 1 ≤ length (before s (suc m) .streams) → Known s (before s (suc m))
   unfolding before recordsOf placeOf decode
   known-there h =
@@ -214,20 +234,12 @@ module _ (s : List ℕ) (m : ℕ) (u : Upto s (suc m)) where
         head-ranged = rw q (p .is-ranged);
         kinds = λ i l. rw q (d .kinds i l);
         ranged = λ i l. rw q (d .ranged i l);
+        edition = λ e. edition-there;
         per-master = λ k e. d .per-master k (rw q at e);
         distinct = λ e i j l k. d .distinct (rw q at e) i j l k;
       }
 
   -- ---- How long it is, as long as no kind is a setting
-
-  no-settings : (rs : List Record) → having isSetting rs ≡ []
-  unfolding having
-  no-settings [] = refl
-  no-settings (r ∷ rs) = rw (no-setting (r .kind)) (no-settings rs)
-
-  pub settings-none : before s (suc m) .settings ≡ []
-  unfolding before sheetOf
-  settings-none = no-settings (recordsOf s (suc m))
 
   -- every record behind the first is a stream
   pub all-streams : length (before s (suc m) .streams) ≡ m

@@ -1,5 +1,6 @@
 pub mod Behind
 pub mod Cases
+pub mod Editions
 pub mod Counts
 pub mod Examples
 pub mod Fronts

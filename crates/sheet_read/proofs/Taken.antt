@@ -9,11 +9,11 @@ use native.Mathlib.Omega.{arith}
 use lib.ListN.{length, getD}
 use Rattle.sheet_record.specs.declared.Met.{Met}
 use Rattle.sheet_record.specs.declared.Record.{Record}
-use Rattle.sheet_record.specs.Kinds.{busOf, isStreamOf, decode, nothing, metAt, streamMet}
+use Rattle.sheet_record.specs.Kinds.{pnet, busOf, isStreamOf, decode, nothing, metAt, streamMet}
 use Rattle.sheet_record.proofs.Records.{stream-same}
-use Rattle.sheet_read.specs.Sheets.{Sheet, busIn}
+use Rattle.sheet_read.specs.Sheets.{Sheet, busIn, editionOf}
 use Rattle.sheet_read.specs.Whole.{Outcome, placeOf, firstStream, reading, told}
-use Rattle.sheet_read.specs.Steps.{sheetIn, streamPlace, Ready}
+use Rattle.sheet_read.specs.Steps.{sheetIn, streamPlace, editionAt, Ready}
 use Rattle.sheet_read.specs.Whole.Outcome.{Read, Not}
 use Rattle.sheet_read.specs.declared.Reading.the-variants as answer
 use Rattle.sheet_read.proofs.Known.{Known, reading-read}
@@ -59,6 +59,10 @@ taken-ready t k =
 module _ {s : List ℕ} {bus first n : ℕ} (ready : Ready s bus first n) where
   pub ready-known : Known s (sheetIn s)
   ready-known = reading-read s (sheetIn s) (ready .reads)
+
+  -- what `edition` answers is the edition of the sheet, where it is one of P-NET
+  pub ready-edition : bus ≡ pnet → editionAt s ≡ editionOf (sheetIn s)
+  ready-edition e = ready-known .edition (ready .on-bus ∙ e)
 
   -- what is met at the place of stream i, counted from 0, is that stream, and behind it stands the next
   pub record StreamMet (i : ℕ) (m : Met) : Type 0 where

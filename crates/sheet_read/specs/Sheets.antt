@@ -47,6 +47,14 @@ mastersOf S = S .head .a
 abbrev pub messageOf : Sheet → ℕ → ℕ
 messageOf S y = S .head .c
 
+-- the edition of the P-NET rule (page 02, Ask 10): that of its setting, and 1 where it has none
+abbrev pub editionBy : List Record → ℕ
+editionBy [] = 1
+editionBy (r ∷ rs) = r .a
+
+abbrev pub editionOf : Sheet → ℕ
+editionOf S = editionBy (S .settings)
+
 -- the limits of a record of master y
 abbrev pub given : Sheet → ℕ → Given
 given S y = record { masters = mastersOf S; message = messageOf S y }

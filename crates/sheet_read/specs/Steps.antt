@@ -8,7 +8,8 @@ use mathlib.Core.Bool.{Bool, false, cond, _||_}
 use lib.ListN.{length, getD, set}
 use lib.Dec.{leb, eqb}
 use Rattle.sheet_record.specs.declared.Record.{Record}
-use Rattle.sheet_record.specs.Kinds.{decode}
+use Rattle.sheet_record.specs.declared.Met.{Met}
+use Rattle.sheet_record.specs.Kinds.{decode, metOf}
 use Rattle.common.specs.Checks.Verdict.{Passed}
 use Rattle.sheet_read.specs.Sheets.{Sheet, busIn, sheetOf}
 use Rattle.sheet_read.specs.Whole.{Outcome, placeOf, firstStream, judge, reading}
@@ -62,6 +63,14 @@ sheetIn s = sheetBy (reading s)
 unfoldable pub streamPlace : List ℕ → ℕ → ℕ
 unfolding placeOf sheetIn
 streamPlace s i = placeOf s (firstStream (sheetIn s) + i)
+
+-- the edition of a P-NET sheet: its record can stand just behind the first, whose 2 bytes are before it
+abbrev pub editionMet : Met → ℕ
+editionMet m = cond (eqb (m .next) 2) 1 (m .found .a)
+
+unfoldable pub editionAt : List ℕ → ℕ
+unfolding metOf
+editionAt s = editionMet (metOf s 2 8)
 
 -- these bytes are an accepted sheet of a bus with n streams, and the first of them stands at a place
 pub record Ready (s : List ℕ) (bus first n : ℕ) : Type 0 where

@@ -8,7 +8,7 @@ ghost use mathlib.Core.Logic.{_⊎_};
 ghost use Prim.Native.Nat.{_≤_, max};
 ghost use Rattle.sheet_record.specs.Kinds.{pnet, profibus, worldfip, known, isStreamOf, inRange, streamMet};
 ghost use Rattle.sheet_read.specs.Steps;
-ghost use Rattle.sheet_read.specs.Steps.{ownNo, lateNo, countsWith, longestsWith, idsWith, Begun};
+ghost use Rattle.sheet_read.specs.Steps.{ownNo, lateNo, countsWith, longestsWith, idsWith, editionAt, Begun};
 ghost use Rattle.sheet_read.specs.Whole.{told, countsTold, longestsTold, reading};
 
 // No sheet of P-NET or PROFIBUS has more streams.
@@ -260,4 +260,15 @@ pub fn read(s: &[u8]) -> Reading
 {
     let mut counts: [u8; 33] = [0; 33];
     read_counting(s, &mut counts)
+}
+
+// The edition of the P-NET rule that an accepted P-NET sheet is by: 1, unless a record says so just behind the first.
+pub fn edition(s: &[u8]) -> u32
+    ensures { λ r. ⌜ r ≡ editionAt (now (s .entry)) ⌝ }
+{
+    let met = sheet_record::record_of(s, 2, 8);
+    if met.next == 2 {
+        return 1;
+    }
+    met.found.a
 }
