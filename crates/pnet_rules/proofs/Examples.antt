@@ -7,7 +7,7 @@ use mathlib.Core.Path.{_≡_, refl}
 use mathlib.Core.List.{[], _∷_}
 use Rattle.common.specs.Sums.{upto, greatest, up, firstOf}
 use Rattle.sheet_record.specs.declared.Record.{Record}
-use Rattle.pnet_rules.specs.Segment.{Segment, segmentOf, streamAt, owns, count, longest, hold, turnBy, boundBy, turn, bound}
+use Rattle.pnet_rules.specs.Segment.{Segment, segmentOf, streamAt, owns, count, longest, hold, largest, charged, turnBy, boundBy, turn, bound}
 use Rattle.pnet_rules.specs.Refined.{saving, rightBy, valueOf, stands, roundsOf, mostRounds, askedBy, right, rounds, refined}
 
 -- two masters with 203 bp cycles: two streams and one, with these spacings and deadlines
@@ -19,20 +19,20 @@ unfolding segmentOf
 two T = segmentOf (record { head = record { kind = 1; a = 2; b = 0; c = 0; d = 0; e = 0 }; settings = []; streams = stream 1 100000 ∷ stream 1 100000 ∷ stream 2 T ∷ [] })
 
 bounds : (bound (two 100000) 1 ≡ 1000) × (bound (two 100000) 2 ≡ 500)
-unfolding segmentOf streamAt owns count longest hold turnBy boundBy turn bound upto greatest
+unfolding segmentOf streamAt owns count longest hold largest charged turnBy boundBy turn bound upto greatest
 bounds = (refl, refl)
 
 refineds : (refined (two 100000) 1 ≡ 760) × (refined (two 100000) 2 ≡ 500) × (rounds (two 100000) 1 ≡ 1) × (rounds (two 100000) 2 ≡ 1)
-unfolding segmentOf streamAt owns count longest hold turnBy boundBy turn bound upto greatest up firstOf saving rightBy valueOf stands roundsOf mostRounds askedBy right rounds refined
+unfolding segmentOf streamAt owns count longest hold largest charged turnBy boundBy turn bound upto greatest up firstOf saving rightBy valueOf stands roundsOf mostRounds askedBy right rounds refined
 refineds = (refl, refl, refl, refl)
 
 waits-from-before : (refined (two 1000) 1 ≡ 1000) × (rounds (two 1000) 1 ≡ 2)
-unfolding segmentOf streamAt owns count longest hold turnBy boundBy turn bound upto greatest up firstOf saving rightBy valueOf stands roundsOf mostRounds askedBy right rounds refined
+unfolding segmentOf streamAt owns count longest hold largest charged turnBy boundBy turn bound upto greatest up firstOf saving rightBy valueOf stands roundsOf mostRounds askedBy right rounds refined
 waits-from-before = (refl, refl)
 
 -- 760 and 1,000 both solve it
 least-of-two : (refined (two 1300) 1 ≡ 760) × (rounds (two 1300) 1 ≡ 1)
-unfolding segmentOf streamAt owns count longest hold turnBy boundBy turn bound upto greatest up firstOf saving rightBy valueOf stands roundsOf mostRounds askedBy right rounds refined
+unfolding segmentOf streamAt owns count longest hold largest charged turnBy boundBy turn bound upto greatest up firstOf saving rightBy valueOf stands roundsOf mostRounds askedBy right rounds refined
 least-of-two = (refl, refl)
 
 -- J of the second master's stream is 2,500 bp
@@ -45,16 +45,16 @@ pair T D = segmentOf (record { head = record { kind = 1; a = 2; b = 0; c = 0; d 
 
 -- R has no J in it
 bounds-with-jitter : (bound (pair 3000 500) 1 ≡ 1000) × (bound (pair 3000 500) 2 ≡ 500)
-unfolding segmentOf streamAt owns count longest hold turnBy boundBy turn bound upto greatest
+unfolding segmentOf streamAt owns count longest hold largest charged turnBy boundBy turn bound upto greatest
 bounds-with-jitter = (refl, refl)
 
 -- 0 + 500 + 2,500 is one spacing, 760 + 500 + 2,500 more than one
 refineds-with-jitter :
     (refined (pair 3000 500) 1 ≡ 1000) × (refined (pair 3000 500) 2 ≡ 500) × (rounds (pair 3000 500) 1 ≡ 2) × (rounds (pair 3000 500) 2 ≡ 1)
-unfolding segmentOf streamAt owns count longest hold turnBy boundBy turn bound upto greatest up firstOf saving rightBy valueOf stands roundsOf mostRounds askedBy right rounds refined
+unfolding segmentOf streamAt owns count longest hold largest charged turnBy boundBy turn bound upto greatest up firstOf saving rightBy valueOf stands roundsOf mostRounds askedBy right rounds refined
 refineds-with-jitter = (refl, refl, refl, refl)
 
 -- the sum is rounded, not its parts: 760 + 500 + 2,500 is less than 4,000
 rounded-once : (refined (pair 4000 1500) 1 ≡ 760) × (rounds (pair 4000 1500) 1 ≡ 1)
-unfolding segmentOf streamAt owns count longest hold turnBy boundBy turn bound upto greatest up firstOf saving rightBy valueOf stands roundsOf mostRounds askedBy right rounds refined
+unfolding segmentOf streamAt owns count longest hold largest charged turnBy boundBy turn bound upto greatest up firstOf saving rightBy valueOf stands roundsOf mostRounds askedBy right rounds refined
 rounded-once = (refl, refl)

@@ -1,5 +1,5 @@
 -- Page 01, 'P-NET bounds', the refined figure: what W and its rounds are, for every segment and each of its masters. The first part
--- holds for any charge h(y) of at least 10 and any count a(y) that never falls as W grows; the second puts H and the planner's a(y) in.
+-- holds for any charge h(y) of at least 10 and any count a(y) that never falls as W grows; the second puts the charge of the edition and the planner's a(y) in.
 -- Assumes nothing.
 use mathlib.Core.Path.{_≡_, ap}
 use mathlib.Core.Bool.{Bool, true, false}
@@ -8,11 +8,11 @@ use native.Mathlib.Nat.{zero-mul}
 use native.Mathlib.Omega.{arith}
 use Rattle.common.specs.Sums.{when, upto}
 use Rattle.common.proofs.Sums.{upto-mono, up-rises}
-use Rattle.pnet_rules.specs.Segment.{Segment, owns, count, hold, turnBy, boundBy, bound}
+use Rattle.pnet_rules.specs.Segment.{Segment, owns, count, charged, turnBy, boundBy, bound}
 use Rattle.pnet_rules.specs.Refined.{rightBy, valueOf, roundsOf, mostRounds, askedBy, right, rounds, refined}
 use Rattle.pnet_rules.proofs.Sequence.{Settles, Least, value-rises, still-at-once}
 use Rattle.pnet_rules.proofs.Right.{rightOf, charge, right-is-charges, right-rises, right-at-most, right-least, right-rounds, right-rounds-at-most, right-value-at-most}
-use Rattle.pnet_rules.proofs.Holds.{hold-at-least, bound-silent-by}
+use Rattle.pnet_rules.proofs.Holds.{charged-at-least, bound-silent-by}
 
 -- ---- For any charge and any count
 
@@ -79,27 +79,27 @@ module _ (S : Segment) (k : ℕ) where
     -- W = right side
     pub refined-solves : refined S k ≡ right S k (refined S k)
     unfolding refined rounds right
-    refined-solves = least-by (hold S) (askedBy (hold S) S) S k (λ y _ _. hold-at-least S y) (asked-rises (hold S) S) lo hi .solves
+    refined-solves = least-by (charged S) (askedBy (charged S) S) S k (charged-at-least S) (asked-rises (charged S) S) lo hi .solves
 
     -- and no smaller number solves it
     pub refined-least : (w : ℕ) → w ≡ right S k w → refined S k ≤ w
     unfolding refined rounds right
-    refined-least = least-by (hold S) (askedBy (hold S) S) S k (λ y _ _. hold-at-least S y) (asked-rises (hold S) S) lo hi .least
+    refined-least = least-by (charged S) (askedBy (charged S) S) S k (charged-at-least S) (asked-rises (charged S) S) lo hi .least
 
     pub refined-at-most-bound : refined S k ≤ bound S k
     unfolding refined rounds right bound
-    refined-at-most-bound = at-most-bound-by (hold S) (askedBy (hold S) S) S k (λ y _ _. hold-at-least S y) (asked-rises (hold S) S) lo hi
+    refined-at-most-bound = at-most-bound-by (charged S) (askedBy (charged S) S) S k (charged-at-least S) (asked-rises (charged S) S) lo hi
 
     -- the round count is the first m whose m-th value equals the next one
     pub rounds-first : Settles (right S k) (rounds S k)
     unfolding rounds right
-    rounds-first = rounds-first-by (hold S) (askedBy (hold S) S) S k (λ y _ _. hold-at-least S y) (asked-rises (hold S) S) lo hi
+    rounds-first = rounds-first-by (charged S) (askedBy (charged S) S) S k (charged-at-least S) (asked-rises (charged S) S) lo hi
 
     pub rounds-at-most : rounds S k ≤ 1 + (S .masters - 1) * count S k
     unfolding rounds right
-    rounds-at-most = rounds-at-most-by (hold S) (askedBy (hold S) S) S k (λ y _ _. hold-at-least S y) (asked-rises (hold S) S) lo hi
+    rounds-at-most = rounds-at-most-by (charged S) (askedBy (charged S) S) S k (charged-at-least S) (asked-rises (charged S) S) lo hi
 
   -- a master without streams: all three are 0
   pub silent-zero : count S k ≡ 0 → (bound S k ≡ 0) × (refined S k ≡ 0) × (rounds S k ≡ 0)
   unfolding refined rounds right bound
-  silent-zero = silent-zero-by (hold S) (askedBy (hold S) S) S k
+  silent-zero = silent-zero-by (charged S) (askedBy (charged S) S) S k

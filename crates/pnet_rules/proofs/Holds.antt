@@ -9,8 +9,8 @@ use native.Mathlib.Omega.{arith}
 use borrow.Author.Tests.{eq-eqb, ne-eqb}
 use lib.Dec.{eqb}
 use Rattle.common.specs.Sums.{when, upto}
-use Rattle.common.proofs.Sums.{upto-term, upto-most, greatest-most, greatest-least}
-use Rattle.pnet_rules.specs.Segment.{Segment, owns, count, longest, hold, turnBy, boundBy, turn, bound}
+use Rattle.common.proofs.Sums.{upto-term, upto-same, upto-most, upto-even, greatest-most, greatest-least}
+use Rattle.pnet_rules.specs.Segment.{Segment, owns, count, longest, hold, largest, charged, turnBy, boundBy, turn, bound}
 use Rattle.pnet_rules.specs.Limits.{Declared}
 
 -- ---- A stream and its master
@@ -79,6 +79,36 @@ cycle-held S i lo hi =
     let k = S .stream i .master in
     omega (arith, hold-some S k (count-owned S i lo hi k (owned S i)), cycle-at-most-longest S i lo hi k (owned S i))
 
+-- ---- The charge of an edition
+
+module _ (S : Segment) where
+  -- under edition 1, and any but 2, it is H
+  pub charged-first : (S .edition ≡ 2 → ⊥) → charged S ≡ hold S
+  unfolding charged
+  charged-first e = rw (ne-eqb (S .edition) 2 e)
+
+  pub charged-second : S .edition ≡ 2 → (y : ℕ) → charged S y ≡ largest S
+  unfolding charged
+  charged-second e y = rw (eq-eqb (S .edition) 2 e)
+
+  -- so V is N·H then
+  pub turn-second : S .edition ≡ 2 → turn S ≡ S .masters * largest S
+  unfolding turn turnBy
+  turn-second e = upto-same (charged S) (λ y. largest S) (S .masters) (λ y lo hi. charged-second e y) ∙ upto-even (largest S) (S .masters)
+
+  module _ (y : ℕ) (lo : 1 ≤ y) (hi : y ≤ S .masters) where
+    -- no master is charged less than its H
+    pub charged-covers : hold S y ≤ charged S y
+    unfolding charged largest
+    charged-covers = split (eqb (S .edition) 2)
+      where
+        split : (b : Bool) → hold S y ≤ (cond b (λ (z : ℕ). largest S) (hold S)) y
+        split true = greatest-most (hold S) (S .masters) y lo hi
+        split false = omega arith
+
+    pub charged-at-least : 10 ≤ charged S y
+    charged-at-least = omega (arith, hold-at-least S y, charged-covers)
+
 -- ---- R is 0 for a master without streams, and for no other
 
 -- whatever is charged
@@ -88,17 +118,17 @@ bound-silent-by h S k e = rw e (zero-mul (turnBy h S))
 
 pub bound-silent : (S : Segment) (k : ℕ) → count S k ≡ 0 → bound S k ≡ 0
 unfolding bound
-bound-silent S = bound-silent-by (hold S) S
+bound-silent S = bound-silent-by (charged S) S
 
 -- V is at least an unused visit, so a master with streams has at least that for each
 module _ (S : Segment) (some : 1 ≤ S .masters) where
   turn-at-least : 10 ≤ turn S
   unfolding turn turnBy
-  turn-at-least = omega (arith, upto-term (hold S) (S .masters) 1 (omega arith) some, hold-at-least S 1)
+  turn-at-least = omega (arith, upto-term (charged S) (S .masters) 1 (omega arith) some, charged-at-least S 1 (omega arith) some)
 
   pub bound-at-least : (k : ℕ) → count S k * 10 ≤ bound S k
   unfolding bound boundBy turn
-  bound-at-least k = mul-le-mul {n₁ = count S k} {m₁ = 10} {n₂ = count S k} {m₂ = turnBy (hold S) S} (omega arith) turn-at-least
+  bound-at-least k = mul-le-mul {n₁ = count S k} {m₁ = 10} {n₂ = count S k} {m₂ = turnBy (charged S) S} (omega arith) turn-at-least
 
   pub silent-by-bound : (k : ℕ) → eqb (bound S k) 0 ≡ eqb (count S k) 0
   silent-by-bound k = split (ℕ-discrete (count S k) 0)
@@ -136,10 +166,18 @@ module _ (S : Segment) (d : Declared S) where
       split true l = omega arith
       split false l = omega arith
 
+  pub charged-at-most : (y : ℕ) → charged S y ≤ 1595
+  unfolding charged largest
+  charged-at-most y = split (eqb (S .edition) 2)
+    where
+      split : (b : Bool) → (cond b (λ (z : ℕ). largest S) (hold S)) y ≤ 1595
+      split true = greatest-least (hold S) 1595 (S .masters) (λ z lo hi. hold-at-most z)
+      split false = hold-at-most y
+
   pub turn-at-most : turn S ≤ 51040
   unfolding turn turnBy
-  turn-at-most = omega (arith, d .masters-to, upto-most (hold S) 1595 (S .masters) (λ y lo hi. hold-at-most y))
+  turn-at-most = omega (arith, d .masters-to, upto-most (charged S) 1595 (S .masters) (λ y lo hi. charged-at-most y))
 
   pub bound-at-most : (k : ℕ) → bound S k ≤ 4083200
   unfolding bound boundBy turn
-  bound-at-most k = mul-le-mul {n₁ = count S k} {m₁ = turnBy (hold S) S} {n₂ = 80} {m₂ = 51040} (d .counts k) turn-at-most
+  bound-at-most k = mul-le-mul {n₁ = count S k} {m₁ = turnBy (charged S) S} {n₂ = 80} {m₂ = 51040} (d .counts k) turn-at-most
