@@ -7,7 +7,9 @@ use Prim.Native.Nat.{ℕ, zero, suc, _≤_}
 use native.Mathlib.Omega.{arith}
 use borrow.Author.Tests.{eqb-true, ne-eqb}
 use lib.Dec.{eqb}
-use Rattle.sheet_record.specs.Kinds.{kinds, lineOf, known, fieldsOf, busOf, partOf, isFirst, isSetting, isStream, isStreamOf, written}
+use Rattle.sheet_record.specs.Kinds.{kinds, lineOf, known, fieldsOf, busOf, Times, partOf, isSettingPart, isFirst, isSetting, isStream, isStreamOf, written}
+use Rattle.sheet_record.specs.Kinds.Part.{setting}
+use Rattle.sheet_record.specs.Kinds.Times.{once}
 use Rattle.sheet_record.specs.Widths.{widthAt, Wide}
 use Rattle.sheet_record.proofs.Tables.{both-true, wide}
 
@@ -77,6 +79,14 @@ first-kinds k e = one (eqb k 1) refl (sym (first-is k) ∙ e)
 pub setting-is : (k : ℕ) → isSetting k ≡ eqb k 8
 unfolding isSetting partOf lineOf kinds
 setting-is = by-kind (λ k. isSetting k ≡ eqb k 8) refl refl refl refl refl refl refl refl refl (λ n. sym (past-8 n))
+
+pub setting-kind : (k : ℕ) → isSetting k ≡ true → k ≡ 8
+setting-kind k e = eqb-true k 8 (sym (setting-is k) ∙ e)
+
+-- and it stands behind kind 1
+pub setting-behind : (k h : ℕ) (t : Times) → partOf k ≡ setting h t → h ≡ 1
+unfolding isSetting partOf lineOf kinds
+setting-behind k h t e = let z : setting 1 once ≡ setting h t = sym (ap partOf (setting-kind k (ap isSettingPart e))) ∙ e in cc
 
 pub pnet-streams : (k : ℕ) → isStreamOf 1 k ≡ (eqb k 2 || eqb k 7)
 unfolding isStreamOf isStream busOf partOf lineOf kinds
