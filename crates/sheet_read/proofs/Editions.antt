@@ -1,16 +1,11 @@
--- Page 02, Ask 10: the edition that the bytes of a P-NET sheet say is the one that the sheet has. Assumes nothing.
-use mathlib.Core.Path.{_≡_, refl, sym, ap, _∙_}
-use mathlib.Core.Bool.{true, cond, _&&_}
-use mathlib.Core.List.{List, []}
+-- Page 02, Ask 10: the edition, from what is met where its record can stand. Assumes nothing.
+use mathlib.Core.Path.{_≡_}
+use mathlib.Core.List.{List}
 use Prim.Native.Nat.{ℕ}
 use borrow.Author.Tests.{eq-eqb, ne-eqb}
-use lib.Dec.{leb}
-use lib.ListN.{length}
 use Rattle.sheet_record.specs.declared.Met.{Met}
 use Rattle.sheet_record.specs.Kinds.{metOf}
 use Rattle.sheet_read.specs.Steps.{editionMet, editionAt}
-
--- ---- What the code answers
 
 module _ (s : List ℕ) (m : Met) (is : m ≡ metOf s 2 8) where
   pub none-met : m .next ≡ 2 → 1 ≡ editionAt s
