@@ -18,7 +18,7 @@ use units::BitPeriods;
 ghost use Prim.Native.Nat.{_≤_};
 ghost use lib.ListN.{length};
 ghost use mathlib.Core.Path.{_≡_};
-ghost use Rattle.sheet_text.specs.Steps.{room};
+ghost use Rattle.sheet_pieces.specs.Steps.{room};
 
 // ---- Words
 
@@ -175,7 +175,7 @@ fn cross(segments: usize, deadline: BitPeriods) -> u8
     let mut j: usize = 0;
     while j < segments {
         let i = 4 * j + 2;
-        let mut sheet = sheet_text::sheet_buffer();
+        let mut sheet = sheet_pieces::sheet_buffer();
         let given = read_sheet(i + 2, &mut sheet);
         if given.failed {
             return FAILED;

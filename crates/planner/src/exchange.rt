@@ -49,7 +49,7 @@ fn write_sheet(name: &[u8], s: &[u8]) -> u8 {
 
 // Writes the text of a sheet, or the bytes of the sheet that a text stands for.
 pub(crate) fn exchange(fd: i32, name: &[u8], as_text: bool) -> u8 {
-    let mut sheet = sheet_text::sheet_buffer();
+    let mut sheet = sheet_pieces::sheet_buffer();
     let given = read_sheet(fd, name, &mut sheet, as_text);
     if given.failed {
         return FAILED;

@@ -30,7 +30,7 @@ fn write_report(s: &[u8]) -> u8 {
 
 // Plans what can be read; bytes behind a full buffer change no report.
 fn plan(fd: i32, name: &[u8]) -> u8 {
-    let mut sheet = sheet_text::sheet_buffer();
+    let mut sheet = sheet_pieces::sheet_buffer();
     let given = read_sheet(fd, name, &mut sheet, false);
     if given.failed {
         return FAILED;
@@ -63,7 +63,7 @@ fn serve_file(number: usize, name: &[u8]) -> u8 {
 
 // Reads the sheet; then the capture is heard.
 fn compare(sheet_fd: i32, sheet_name: &[u8], fd: i32, name: &[u8]) -> u8 {
-    let mut sheet = sheet_text::sheet_buffer();
+    let mut sheet = sheet_pieces::sheet_buffer();
     let given = read_sheet(sheet_fd, sheet_name, &mut sheet, false);
     if given.failed {
         return FAILED;

@@ -10,15 +10,15 @@ use lib.Seq.{take-append-seam}
 use Rattle.text.specs.Text.{Zeros, Wrote}
 use Rattle.text.proofs.Writing.{wrote-front}
 use Rattle.sheet_line.specs.Said.{kindIn}
-use Rattle.sheet_text.specs.Texts.{Meaning, meaning}
-use Rattle.sheet_text.specs.Texts.Meaning.{Stands, Bad}
-use Rattle.sheet_text.specs.Steps.{State, started, room, steps, endedAs}
-use Rattle.sheet_text.specs.Comes.{Comes}
-use Rattle.sheet_text.specs.Comes.Comes.{stands, bad}
-use Rattle.sheet_text.specs.declared.Taken.{Taken}
-use Rattle.sheet_text.specs.declared.Ended.the-variants as ending
-use Rattle.sheet_text.proofs.Stepped.{state, TakenAll, taken-is}
-use Rattle.sheet_text.proofs.Whole.{steps-append, comes-to}
+use Rattle.sheet_pieces.specs.Texts.{Meaning, meaning}
+use Rattle.sheet_pieces.specs.Texts.Meaning.{Stands, Bad}
+use Rattle.sheet_pieces.specs.Steps.{State, started, room, steps, endedAs}
+use Rattle.sheet_pieces.specs.Comes.{Comes}
+use Rattle.sheet_pieces.specs.Comes.Comes.{stands, bad}
+use Rattle.sheet_pieces.specs.declared.Taken.{Taken}
+use Rattle.sheet_pieces.specs.declared.Ended.the-variants as ending
+use Rattle.sheet_pieces.proofs.Stepped.{state, TakenAll, taken-is}
+use Rattle.sheet_pieces.proofs.Whole.{steps-append, comes-to}
 use Rattle.planner_io.specs.declared.input.Given.{Given}
 use Rattle.planner_io.specs.Made.{Took, Made}
 use Rattle.planner_io.specs.Made.Made.{no-text, a-sheet}

@@ -9,9 +9,9 @@ use Rattle.sheet_read.specs.Sheets.{Sheet}
 use Rattle.sheet_read.specs.Whole.{reading}
 use Rattle.sheet_read.specs.Whole.Outcome.{Read}
 use Rattle.sheet_line.specs.Said.{kindIn}
-use Rattle.sheet_text.specs.Texts.{meaning}
-use Rattle.sheet_text.specs.Texts.Meaning.{Stands, Bad}
-use Rattle.sheet_text.specs.Steps.{State, started, room, steps}
+use Rattle.sheet_pieces.specs.Texts.{meaning}
+use Rattle.sheet_pieces.specs.Texts.Meaning.{Stands, Bad}
+use Rattle.sheet_pieces.specs.Steps.{State, started, room, steps}
 use Rattle.planner_io.specs.declared.input.Given.{Given}
 
 -- `first` and some pieces behind it are taken, in runs with room for a line and for what decides a sheet

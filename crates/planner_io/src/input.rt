@@ -3,15 +3,15 @@ use crate::words::fail;
 use planner_complaints::complain;
 use planner_complaints::end_of;
 use planner_complaints::slips;
-use sheet_text::Ended;
-use sheet_text::Taken;
+use sheet_pieces::Ended;
+use sheet_pieces::Taken;
 use text::put_word;
 ghost use mathlib.Core.Path.{_≡_};
 ghost use mathlib.Core.List.{List};
 ghost use mathlib.Core.Bool.{true};
 ghost use Prim.Native.Nat.{ℕ, _≤_};
 ghost use lib.ListN.{length, take};
-ghost use Rattle.sheet_text.specs.Steps.{State, room};
+ghost use Rattle.sheet_pieces.specs.Steps.{State, room};
 ghost use Rattle.planner_io.specs.Made.{Took, Made, GivenAs};
 
 // So many pieces of a text are counted: 64 bits count no more bytes than are in them.
@@ -96,7 +96,7 @@ fn told(name: &[u8], taken: Taken, front: &[u8], sheet: &[u8]) -> Given
     ensures { λ r. ⌜ r .length ≤ length (now (sheet .entry)) ⌝ }
     ensures { λ r. ⌜ ((first : List ℕ) → Took first (record { taken = taken; front = now (front .entry); sheet = now (sheet .entry) }) → Made first (now (sheet .entry)) r) ⌝ }
 {
-    match sheet_text::end(taken) {
+    match sheet_pieces::end(taken) {
         Ended::Bad(line) => {
             let held = end_of(front.len(), taken.held);
             slips::of_line(name, line, &front[..held]);
@@ -142,7 +142,7 @@ fn read_on(
             return failed();
         }
         let end = next.length;
-        taken = sheet_text::take(&piece[..end], taken, front, sheet);
+        taken = sheet_pieces::take(&piece[..end], taken, front, sheet);
         if end < piece.len() {
             return told(name, taken, front, sheet);
         }
@@ -160,8 +160,8 @@ fn read_text(fd: i32, name: &[u8], sheet: &mut [u8], n: usize) -> Given
 {
     let mut piece = io::large_buffer();
     let end = put_word(&mut piece, 0, &sheet[..n]);
-    let mut front = sheet_text::line_buffer();
-    let taken = sheet_text::take(&piece[..end], sheet_text::start(), &mut front, sheet);
+    let mut front = sheet_pieces::line_buffer();
+    let taken = sheet_pieces::take(&piece[..end], sheet_pieces::start(), &mut front, sheet);
     if n < sheet.len() {
         return told(name, taken, &front, sheet);
     }

@@ -3,8 +3,11 @@
 use libc::STDOUT_FILENO;
 use planner_complaints::complain;
 use planner_complaints::end_of;
+ghost use mathlib.Core.Path.{_≡_};
+ghost use mathlib.Core.Bool.{cond};
+ghost use mathlib.Core.Logic.{_⊎_};
 
-// How a call of the program ends, as the digit that it says.
+// How a call of the program ends, as the digit that it says: a byte from 48 to 51.
 pub const ACCEPTED: u8 = b'0';
 
 pub const REFUSED: u8 = b'1';
@@ -39,7 +42,9 @@ pub fn put_refusal(fd: i32, no: u8, place: usize) -> bool {
 }
 
 // How a call ends whose report went out whole, or did not.
-pub fn unless_cut(whole: bool, status: u8) -> u8 {
+pub fn unless_cut(whole: bool, status: u8) -> u8
+    ensures { λ r. ⌜ r ≡ cond whole status 51 ⌝ }
+{
     if whole {
         return status;
     }
@@ -49,11 +54,15 @@ pub fn unless_cut(whole: bool, status: u8) -> u8 {
 }
 
 // Writes a finished report, the first n bytes of a text, and answers how the call ends.
-pub fn report(text: &[u8], n: usize, status: u8) -> u8 {
+pub fn report(text: &[u8], n: usize, status: u8) -> u8
+    ensures { λ r. ⌜ r ≡ status ⊎ r ≡ 51 ⌝ }
+{
     unless_cut(put_first(STDOUT_FILENO, text, n), status)
 }
 
 // Reports a text that is refused: this line of it is not of the form.
-pub fn bad_line(line: usize) -> u8 {
+pub fn bad_line(line: usize) -> u8
+    ensures { λ r. ⌜ r ≡ 49 ⊎ r ≡ 51 ⌝ }
+{
     unless_cut(put_refusal(STDOUT_FILENO, 23, line), REFUSED)
 }

@@ -3,6 +3,7 @@ use crate::help::COMMANDS;
 use crate::output::FAILED;
 use planner_complaints::complain;
 use planner_complaints::show;
+ghost use mathlib.Core.Path.{_≡_};
 ghost use Prim.Native.Nat.{_≤_, _<_};
 ghost use lib.ListN.{length};
 
@@ -55,7 +56,9 @@ pub fn from_standard_input(i: usize) -> usize
 }
 
 // How many of two words stand for standard input; one word may be given as both.
-pub fn standard_inputs(first: usize, last: usize) -> usize {
+pub fn standard_inputs(first: usize, last: usize) -> usize
+    ensures { λ r. ⌜ r ≤ 2 ⌝ }
+{
     if first == last {
         return from_standard_input(first);
     }
@@ -82,7 +85,9 @@ pub fn serves(inputs: usize) -> bool {
 }
 
 // Says that a word is too long for a name.
-pub fn too_long(i: usize) -> u8 {
+pub fn too_long(i: usize) -> u8
+    ensures { λ r. ⌜ r ≡ 50 ⌝ }
+{
     complain(b"planner: ");
     show_word(i);
     complain(b": longer than a file's name can be\n");
@@ -90,7 +95,9 @@ pub fn too_long(i: usize) -> u8 {
 }
 
 // Says that an option is none.
-pub fn unknown(i: usize) -> u8 {
+pub fn unknown(i: usize) -> u8
+    ensures { λ r. ⌜ r ≡ 50 ⌝ }
+{
     complain(b"planner: unknown option ");
     show_word(i);
     complain(b"; planner --help lists them\n");

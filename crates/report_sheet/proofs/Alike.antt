@@ -82,7 +82,7 @@ module _ (s : List ℕ) (n p : ℕ) (e : reading s ≡ Not n p) where
 -- ---- A bounded buffer serves
 
 -- what is said of a refused sheet by reading's refusal alone, is said alike of bytes that are read as the sheet is and are the sheet where it is accepted: its
--- first bytes, and what is kept of one that was given as text (sheet_text: Comes)
+-- first bytes, and what is kept of one that was given as text (sheet_pieces: Comes)
 module _ {A : Type 0} (f : List ℕ → A) (g : ℕ → ℕ → A) (refused : (s : List ℕ) (n p : ℕ) → reading s ≡ Not n p → f s ≡ g n p) where
   alike : (k s : List ℕ) → reading k ≡ reading s → ((S : Sheet) → reading s ≡ Read S → k ≡ s) → f k ≡ f s
   alike k s same whole = by (reading s) refl

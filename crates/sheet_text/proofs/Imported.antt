@@ -7,17 +7,17 @@ use lib.ListN.{length, take}
 use Rattle.text.specs.Text.{Zeros}
 use Rattle.sheet_write.specs.declared.Put.{Put}
 use Rattle.sheet_write.specs.declared.Put.the-variants as put
-use Rattle.sheet_text.specs.Texts.{Meaning, meaning}
-use Rattle.sheet_text.specs.Texts.Meaning.{Stands, Bad}
+use Rattle.sheet_pieces.specs.Texts.{Meaning, meaning}
+use Rattle.sheet_pieces.specs.Texts.Meaning.{Stands, Bad}
+use Rattle.sheet_pieces.specs.Steps.{State, started, room, endedAs}
+use Rattle.sheet_pieces.specs.Comes.{Comes}
+use Rattle.sheet_pieces.specs.Comes.Comes.{stands, bad}
+use Rattle.sheet_pieces.specs.declared.Taken.{Taken}
+use Rattle.sheet_pieces.specs.declared.Ended.the-variants as ending
+use Rattle.sheet_pieces.proofs.Stepped.{state, TakenAll, taken-is}
+use Rattle.sheet_pieces.proofs.Whole.{comes-to, bad-within}
 use Rattle.sheet_text.specs.Answers.{importAnswer, importBytes, copyAnswer, copyBytes}
-use Rattle.sheet_text.specs.Steps.{State, started, room, endedAs}
-use Rattle.sheet_text.specs.Comes.{Comes}
-use Rattle.sheet_text.specs.Comes.Comes.{stands, bad}
-use Rattle.sheet_text.specs.declared.Taken.{Taken}
-use Rattle.sheet_text.specs.declared.Ended.the-variants as ending
 use Rattle.sheet_text.proofs.Copied.{CopiedAs, copied-alike}
-use Rattle.sheet_text.proofs.Stepped.{state, TakenAll, taken-is}
-use Rattle.sheet_text.proofs.Whole.{comes-to, bad-within}
 
 -- what `take` leaves of a whole text, from the start and in fresh runs
 pub comes-taken : (text front sheet : List ℕ) {t₀ t : Taken} {front' sheet' : List ℕ} → t₀ ≡ started → Zeros 96 front → Zeros room sheet

@@ -23,7 +23,7 @@ use Rattle.sheet_read.proofs.Known.{reading-read}
 use Rattle.sheet_read.proofs.Lengths.{length-at-most, longest-sheet-is}
 use Rattle.sheet_line.specs.Lines.{lineText}
 use Rattle.sheet_line.proofs.Lines.{Small, line-most}
-use Rattle.sheet_text.specs.Texts.{textOf}
+use Rattle.sheet_pieces.specs.Texts.{textOf}
 use Rattle.sheet_text.specs.Answers.{sheetText, most-text, exportAnswer, importAnswer}
 use Rattle.sheet_text.proofs.Inverse.{records-are, ranged-at, export-then, import-then}
 

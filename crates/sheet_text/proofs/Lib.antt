@@ -1,13 +1,9 @@
 pub mod Copied
 pub mod Examples
 pub mod Exported
-pub mod Held
 pub mod Imported
 pub mod Inverse
-pub mod Kept
 pub mod Lengths
 pub mod Meaning
 pub mod Passed
 pub mod Refusals
-pub mod Stepped
-pub mod Whole

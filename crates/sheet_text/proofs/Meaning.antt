@@ -20,8 +20,8 @@ use Rattle.sheet_line.proofs.Without.{Without, without-append}
 use Rattle.sheet_line.proofs.Without.Without.{none, more}
 use Rattle.sheet_line.proofs.Guessed.{has-word}
 use Rattle.sheet_line.proofs.Laws.{reads-line, line-read, word-some, no-line, line-ended}
-use Rattle.sheet_text.specs.Texts.{Meaning, textOf, meaningFrom, meaning}
-use Rattle.sheet_text.specs.Texts.Meaning.{Stands, Bad}
+use Rattle.sheet_pieces.specs.Texts.{Meaning, textOf, meaningFrom, meaning}
+use Rattle.sheet_pieces.specs.Texts.Meaning.{Stands, Bad}
 use Rattle.sheet_text.specs.Refusals.{AllSayable, StandsFor, NoLine, BadLine}
 use Rattle.sheet_text.specs.Refusals.AllSayable.{none as no-records, more as and-more}
 

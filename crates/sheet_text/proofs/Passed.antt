@@ -19,7 +19,7 @@ use Rattle.sheet_read.proofs.Walk.{place-next, length-records, record-at, recor
 use Rattle.sheet_read.proofs.Order.{in-order}
 use Rattle.sheet_read.proofs.Known.{ReadsTo, reading-whole, met-whole}
 use Rattle.sheet_line.specs.Lines.{lineText}
-use Rattle.sheet_text.specs.Texts.{textOf}
+use Rattle.sheet_pieces.specs.Texts.{textOf}
 use Rattle.sheet_text.specs.Answers.{sheetText, most-text}
 use Rattle.sheet_text.proofs.Inverse.{ranged-at}
 use Rattle.sheet_text.proofs.Lengths.{most-text-is, line-at-most, text-at-most}

@@ -29,8 +29,8 @@ use Rattle.sheet_line.specs.Lines.{hasWord}
 use Rattle.sheet_line.specs.Said.{kindIn}
 use Rattle.sheet_line.proofs.Guessed.{has-word, kind-text}
 use Rattle.sheet_line.proofs.Laws.{word-some, headed-unread}
-use Rattle.sheet_text.specs.Texts.{Meaning, textOf, meaning}
-use Rattle.sheet_text.specs.Texts.Meaning.{Stands, Bad}
+use Rattle.sheet_pieces.specs.Texts.{Meaning, textOf, meaning}
+use Rattle.sheet_pieces.specs.Texts.Meaning.{Stands, Bad}
 use Rattle.sheet_text.specs.Answers.{over, textBy, sheetBy, exportChecks, exportVerdict, exportAnswer, exportBytes, copyVerdict, importVerdict, importAnswer, importBytes}
 use Rattle.sheet_text.specs.Refusals.{AllSayable, StandsFor, ImportRefused, ExportRefused}
 use Rattle.sheet_text.specs.Refusals.AllSayable.{none, more}

@@ -18,8 +18,8 @@ use Rattle.sheet_read.specs.Records.{recordsIn}
 use Rattle.sheet_read.specs.Whole.{Outcome, reading}
 use Rattle.sheet_read.specs.Whole.Outcome.{Read, Not}
 use Rattle.sheet_line.specs.Lines.{hasWord}
-use Rattle.sheet_text.specs.Texts.{Meaning, textOf, meaning}
-use Rattle.sheet_text.specs.Texts.Meaning.{Stands, Bad}
+use Rattle.sheet_pieces.specs.Texts.{Meaning, textOf, meaning}
+use Rattle.sheet_pieces.specs.Texts.Meaning.{Stands, Bad}
 
 -- the run that a text or a sheet was put at the front of
 abbrev pub over : List ℕ → List ℕ → List ℕ

@@ -12,7 +12,7 @@ use Rattle.sheet_read.specs.Whole.{reading}
 use Rattle.sheet_read.specs.Whole.Outcome.{Read}
 use Rattle.sheet_read.specs.Refusals.{Given}
 use Rattle.sheet_line.specs.Lines.{lineText, sayable}
-use Rattle.sheet_text.specs.Texts.{textOf}
+use Rattle.sheet_pieces.specs.Texts.{textOf}
 use Rattle.sheet_text.specs.Answers.{sheetText}
 
 -- ---- Texts

@@ -3,9 +3,9 @@ use mathlib.Core.Path.{sym, _∙_}
 use native.Mathlib.Omega.{arith}
 use borrow.Author.Needs.{needs}
 use lib.Seq.{length-take-le}
-use Rattle.sheet_text.specs.Texts.{meaning}
-use Rattle.sheet_text.specs.Comes.{Comes}
-use Rattle.sheet_text.proofs.Stepped.{state}
+use Rattle.sheet_pieces.specs.Texts.{meaning}
+use Rattle.sheet_pieces.specs.Comes.{Comes}
+use Rattle.sheet_pieces.proofs.Stepped.{state}
 use Rattle.sheet_text.proofs.Imported.{comes-taken, imported-bad, kept-inside, imported-sheet}
 use Rattle.sheet_text.proofs.import.Statement.{statement}
 use Rattle.sheet_text.proofs.import.Tie as tie

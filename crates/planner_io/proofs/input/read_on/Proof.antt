@@ -4,7 +4,7 @@ use native.Mathlib.Omega.{arith}
 use lib.ListN.{length}
 use lib.Seq.{length-take-le}
 use borrow.Author.Needs.{needs}
-use Rattle.sheet_text.proofs.Stepped.{state}
+use Rattle.sheet_pieces.proofs.Stepped.{state}
 use Rattle.planner_io.specs.Made.Made.{nothing}
 use Rattle.planner_io.proofs.Made.{Further, further-none, further-more}
 use Rattle.planner_io.proofs.input.read_on.Statement.{statement}

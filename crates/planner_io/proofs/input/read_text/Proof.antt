@@ -6,8 +6,8 @@ use lib.ListN.{length, take}
 use lib.Seq.{length-take-le}
 use borrow.Author.Needs.{needs}
 use Rattle.text.proofs.Writing.{wrote-inside}
-use Rattle.sheet_text.proofs.Kept.{room-is}
-use Rattle.sheet_text.proofs.Stepped.{state}
+use Rattle.sheet_pieces.proofs.Kept.{room-is}
+use Rattle.sheet_pieces.proofs.Stepped.{state}
 use Rattle.planner_io.specs.Made.{Took}
 use Rattle.planner_io.proofs.Made.{took-word}
 use Rattle.planner_io.proofs.input.read_text.Statement.{statement}

@@ -1,11 +1,11 @@
--- `sheet_text::keep` meets its contract: behind what decides a sheet nothing is kept, else what writing the record answers. Assumes nothing.
+-- `sheet_pieces::keep` meets its contract: behind what decides a sheet nothing is kept, else what writing the record answers. Assumes nothing.
 use mathlib.Core.Path.{sym, _∙_}
 use native.Mathlib.Omega.{arith}
 use borrow.Author.Needs.{needs}
 use Rattle.sheet_read.proofs.Lengths.{enough-is}
-use Rattle.sheet_text.proofs.Kept.{keeps-none, keeps-by}
-use Rattle.sheet_text.proofs.keep.Statement.{statement}
-use Rattle.sheet_text.proofs.keep.Tie as tie
+use Rattle.sheet_pieces.proofs.Kept.{keeps-none, keeps-by}
+use Rattle.sheet_pieces.proofs.keep.Statement.{statement}
+use Rattle.sheet_pieces.proofs.keep.Tie as tie
 
 returns : tie.Need-returns
 returns c = let a = c .before .before .args in keeps-none (a .sheet .now) (a .at) (a .r) (omega (arith, enough-is))

@@ -1,9 +1,9 @@
--- `sheet_text::next_line` meets its contract: one more, as far as 64 bits go. Assumes nothing.
+-- `sheet_pieces::next_line` meets its contract: one more, as far as 64 bits go. Assumes nothing.
 use native.Mathlib.Omega.{arith}
 use borrow.Author.Needs.{needs}
-use Rattle.sheet_text.specs.Steps.{nextLine}
-use Rattle.sheet_text.proofs.next_line.Statement.{statement}
-use Rattle.sheet_text.proofs.next_line.Tie as tie
+use Rattle.sheet_pieces.specs.Steps.{nextLine}
+use Rattle.sheet_pieces.proofs.next_line.Statement.{statement}
+use Rattle.sheet_pieces.proofs.next_line.Tie as tie
 
 add-result : tie.Need-add-result
 add-result c = search needs

@@ -1,10 +1,10 @@
--- `sheet_text::end_line` meets its contract: what is held says no record, or one, which is kept. Assumes nothing.
+-- `sheet_pieces::end_line` meets its contract: what is held says no record, or one, which is kept. Assumes nothing.
 use mathlib.Core.Path.{sym}
 use borrow.Author.Needs.{needs}
 use lib.Seq.{length-take-le}
-use Rattle.sheet_text.proofs.Stepped.{line-bad, line-good}
-use Rattle.sheet_text.proofs.end_line.Statement.{statement}
-use Rattle.sheet_text.proofs.end_line.Tie as tie
+use Rattle.sheet_pieces.proofs.Stepped.{line-bad, line-good}
+use Rattle.sheet_pieces.proofs.end_line.Statement.{statement}
+use Rattle.sheet_pieces.proofs.end_line.Tie as tie
 
 slice-aggregate-record-in : tie.Need-slice-aggregate-record-in
 slice-aggregate-record-in c = let start = c .before .before .before in sym (length-take-le (start .args .t .held) (start .args .front .now) (start .pre))

@@ -7,10 +7,10 @@ use lib.ListN.{length, take}
 use Rattle.sheet_read.specs.Sheets.{Sheet}
 use Rattle.sheet_read.specs.Whole.{reading}
 use Rattle.sheet_read.specs.Whole.Outcome.{Read}
-use Rattle.sheet_text.specs.Texts.{Meaning}
-use Rattle.sheet_text.specs.Texts.Meaning.{Stands, Bad}
-use Rattle.sheet_text.specs.Steps.{State, endedAs}
-use Rattle.sheet_text.specs.declared.Ended.the-variants as ending
+use Rattle.sheet_pieces.specs.Texts.{Meaning}
+use Rattle.sheet_pieces.specs.Texts.Meaning.{Stands, Bad}
+use Rattle.sheet_pieces.specs.Steps.{State, endedAs}
+use Rattle.sheet_pieces.specs.declared.Ended.the-variants as ending
 
 -- the first k bytes of the run are read as the sheet s is, and are that sheet where it is accepted
 pub record KeptFor (s : List ℕ) (st : State) (k : ℕ) : Type 0 where

@@ -14,15 +14,15 @@ use Rattle.sheet_line.proofs.Without.{Without, without-append}
 use Rattle.sheet_line.proofs.Without.Without.{none, more}
 use Rattle.sheet_line.proofs.Guessed.{has-word}
 use Rattle.sheet_line.proofs.Laws.{line-read}
-use Rattle.sheet_text.specs.Texts.{Meaning, meaningFrom, meaning}
-use Rattle.sheet_text.specs.Texts.Meaning.{Stands, Bad}
-use Rattle.sheet_text.specs.Steps.{State, started, room, nextLine, lineEnds, heldWith, endedWith, stepped, steps, endedAs}
-use Rattle.sheet_text.specs.Comes.{Comes}
-use Rattle.sheet_text.specs.Comes.Comes.{stands, bad}
-use Rattle.sheet_text.specs.declared.Ended.{Ended}
-use Rattle.sheet_text.specs.declared.Ended.the-variants as ending
-use Rattle.sheet_text.proofs.Held.{HeldOf, held-none, held-next, held-says}
-use Rattle.sheet_text.proofs.Kept.{KeptOf, kept-none, word-written, kept-next, kept-alike, kept-whole}
+use Rattle.sheet_pieces.specs.Texts.{Meaning, meaningFrom, meaning}
+use Rattle.sheet_pieces.specs.Texts.Meaning.{Stands, Bad}
+use Rattle.sheet_pieces.specs.Steps.{State, started, room, nextLine, lineEnds, heldWith, endedWith, stepped, steps, endedAs}
+use Rattle.sheet_pieces.specs.Comes.{Comes}
+use Rattle.sheet_pieces.specs.Comes.Comes.{stands, bad}
+use Rattle.sheet_pieces.specs.declared.Ended.{Ended}
+use Rattle.sheet_pieces.specs.declared.Ended.the-variants as ending
+use Rattle.sheet_pieces.proofs.Held.{HeldOf, held-none, held-next, held-says}
+use Rattle.sheet_pieces.proofs.Kept.{KeptOf, kept-none, word-written, kept-next, kept-alike, kept-whole}
 
 -- ---- Pieces
 

@@ -25,7 +25,7 @@ use Rattle.sheet_read.specs.Lengths.{enough}
 use Rattle.sheet_read.proofs.Lengths.{enough-is, longest-sheet-is, length-at-most, reading-prefix}
 use Rattle.sheet_line.specs.Lines.{hasWord}
 use Rattle.sheet_line.proofs.Lines.{known-but-3}
-use Rattle.sheet_text.specs.Steps.{room, placeAfter, keptMore, sheetMore}
+use Rattle.sheet_pieces.specs.Steps.{room, placeAfter, keptMore, sheetMore}
 
 pub room-is : room ≡ 12834
 unfolding room

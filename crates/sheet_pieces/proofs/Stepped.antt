@@ -10,10 +10,10 @@ use lib.ListN.{length, getD, take, drop}
 use Rattle.sheet_record.specs.declared.Record.{Record}
 use Rattle.text_entry.proofs.Laws.{left-more, left-none}
 use Rattle.sheet_line.specs.Said.{recordIn}
-use Rattle.sheet_text.specs.declared.Taken.{Taken}
-use Rattle.sheet_text.specs.Steps.{State, nextLine, heldWith, lineEnds, endedWith, stepped, steps}
-use Rattle.sheet_text.proofs.Held.{HeldOne}
-use Rattle.sheet_text.proofs.Kept.{KeptOne}
+use Rattle.sheet_pieces.specs.declared.Taken.{Taken}
+use Rattle.sheet_pieces.specs.Steps.{State, nextLine, heldWith, lineEnds, endedWith, stepped, steps}
+use Rattle.sheet_pieces.proofs.Held.{HeldOne}
+use Rattle.sheet_pieces.proofs.Kept.{KeptOne}
 
 abbrev pub state : Taken → List ℕ → List ℕ → State
 state t front sheet = record { taken = t; front = front; sheet = sheet }

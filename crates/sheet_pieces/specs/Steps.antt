@@ -11,11 +11,11 @@ use Rattle.sheet_write.specs.declared.Put.the-variants as put
 use Rattle.sheet_write.specs.Writing.{freeAnswer, freeBytes}
 use Rattle.sheet_read.specs.Lengths.{longest-record, enough}
 use Rattle.sheet_line.specs.Said.{recordIn}
-use Rattle.sheet_text.specs.declared.Taken.{Taken}
-use Rattle.sheet_text.specs.declared.Ended.{Ended}
-use Rattle.sheet_text.specs.declared.Ended.the-variants as ending
+use Rattle.sheet_pieces.specs.declared.Taken.{Taken}
+use Rattle.sheet_pieces.specs.declared.Ended.{Ended}
+use Rattle.sheet_pieces.specs.declared.Ended.the-variants as ending
 
--- a record more than what decides a sheet's reading: 9,626 bytes
+-- a record more than what decides a sheet's reading
 unfoldable pub room : ℕ
 unfolding enough longest-record
 room = enough + longest-record

@@ -1,10 +1,10 @@
--- `sheet_text::step` meets its contract: behind a bad line nothing changes; else the byte is held, and ends the line or not. Assumes nothing.
+-- `sheet_pieces::step` meets its contract: behind a bad line nothing changes; else the byte is held, and ends the line or not. Assumes nothing.
 use native.Mathlib.Omega.{arith}
 use borrow.Author.Needs.{needs}
-use Rattle.sheet_text.proofs.Held.{held-most}
-use Rattle.sheet_text.proofs.Stepped.{step-none, step-more, step-end}
-use Rattle.sheet_text.proofs.step.Statement.{statement}
-use Rattle.sheet_text.proofs.step.Tie as tie
+use Rattle.sheet_pieces.proofs.Held.{held-most}
+use Rattle.sheet_pieces.proofs.Stepped.{step-none, step-more, step-end}
+use Rattle.sheet_pieces.proofs.step.Statement.{statement}
+use Rattle.sheet_pieces.proofs.step.Tie as tie
 
 returns : tie.Need-returns
 returns c = let a = c .before .before .before .args in step-none (a .t) (a .front .now) (a .sheet .now) (a .byte) (c .if1 .taken)

@@ -19,7 +19,7 @@ use Rattle.sheet_line.proofs.Lines.{Small, line-most}
 use Rattle.sheet_line.proofs.Cells.{guess-small}
 use Rattle.sheet_line.proofs.Guessed.{has-word}
 use Rattle.sheet_line.proofs.Laws.{line-read, line-ended, word-some}
-use Rattle.sheet_text.specs.Steps.{holds, heldMore, frontWith}
+use Rattle.sheet_pieces.specs.Steps.{holds, heldMore, frontWith}
 
 -- ---- What `hold` does
 

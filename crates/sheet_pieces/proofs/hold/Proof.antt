@@ -1,9 +1,9 @@
--- `sheet_text::hold` meets its contract: the byte is stored where there is room. Assumes nothing.
+-- `sheet_pieces::hold` meets its contract: the byte is stored where there is room. Assumes nothing.
 use native.Mathlib.Omega.{arith}
 use borrow.Author.Needs.{needs}
-use Rattle.sheet_text.proofs.Held.{holds-more, holds-all}
-use Rattle.sheet_text.proofs.hold.Statement.{statement}
-use Rattle.sheet_text.proofs.hold.Tie as tie
+use Rattle.sheet_pieces.proofs.Held.{holds-more, holds-all}
+use Rattle.sheet_pieces.proofs.hold.Statement.{statement}
+use Rattle.sheet_pieces.proofs.hold.Tie as tie
 
 slice-write-front : tie.Need-slice-write-front
 slice-write-front c = search needs

@@ -1,7 +1,7 @@
--- `sheet_text::end` meets its contract. Assumes nothing.
-use Rattle.sheet_text.specs.Steps.{endedAs}
-use Rattle.sheet_text.proofs.end.Statement.{statement}
-use Rattle.sheet_text.proofs.end.Tie as tie
+-- `sheet_pieces::end` meets its contract. Assumes nothing.
+use Rattle.sheet_pieces.specs.Steps.{endedAs}
+use Rattle.sheet_pieces.proofs.end.Statement.{statement}
+use Rattle.sheet_pieces.proofs.end.Tie as tie
 
 returns : tie.Need-returns
 unfolding endedAs

@@ -1,12 +1,12 @@
--- `sheet_text::take` meets its contract: byte after byte of the piece. Assumes nothing.
+-- `sheet_pieces::take` meets its contract: byte after byte of the piece. Assumes nothing.
 use Prim.Native.Nat.{_-_}
 use mathlib.Core.Path.{_≡_, refl, _∙_}
 use native.Mathlib.Omega.{arith}
 use borrow.Author.Needs.{needs}
 use lib.ListN.{length}
-use Rattle.sheet_text.proofs.Stepped.{TakenTo, state, take-start, take-more, take-done}
-use Rattle.sheet_text.proofs.take.Statement.{statement}
-use Rattle.sheet_text.proofs.take.Tie as tie
+use Rattle.sheet_pieces.proofs.Stepped.{TakenTo, state, take-start, take-more, take-done}
+use Rattle.sheet_pieces.proofs.take.Statement.{statement}
+use Rattle.sheet_pieces.proofs.take.Tie as tie
 
 abbrev Inv-loop : tie.InvT-loop
 Inv-loop piece front₀ sheet₀ taken₀ i₀ front sheet taken i =

@@ -1,0 +1,4 @@
+pub mod Held
+pub mod Kept
+pub mod Stepped
+pub mod Whole
