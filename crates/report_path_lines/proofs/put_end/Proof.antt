@@ -1,8 +1,8 @@
--- `report_path::put_end` stores a count and the end of its line. Assumes nothing.
+-- `report_path_lines::put_end` stores a count and the end of its line. Assumes nothing.
 use Rattle.text.proofs.Writing.{wrote-then}
 use borrow.Author.Needs.{needs}
-use Rattle.report_path.proofs.put_end.Statement.{statement}
-use Rattle.report_path.proofs.put_end.Tie as tie
+use Rattle.report_path_lines.proofs.put_end.Statement.{statement}
+use Rattle.report_path_lines.proofs.put_end.Tie as tie
 
 put-bp-requires : tie.Need-put-bp-requires
 put-bp-requires c κs = search needs

@@ -1,12 +1,12 @@
--- `report_path::put_path_place` stores the place of a path's refusal in words. Assumes nothing.
+-- `report_path_lines::put_path_place` stores the place of a path's refusal in words. Assumes nothing.
 use mathlib.Core.Path.{_≡_}
 use Prim.Native.Nat.{ℕ}
 use borrow.Author.Tests.{eq-eqb, ne-eqb}
 use Rattle.text.specs.Text.{word, counted}
-use Rattle.report_path.specs.Told.{pathPlace}
+use Rattle.report_path_lines.specs.Lines.{pathPlace}
 use borrow.Author.Needs.{needs}
-use Rattle.report_path.proofs.put_path_place.Statement.{statement}
-use Rattle.report_path.proofs.put_path_place.Tie as tie
+use Rattle.report_path_lines.proofs.put_path_place.Statement.{statement}
+use Rattle.report_path_lines.proofs.put_path_place.Tie as tie
 
 -- ---- What the place is, by the number
 

@@ -1,13 +1,13 @@
--- `report_path::put_path_refusal` stores the line of a refusal. Assumes nothing.
+-- `report_path_lines::put_path_refusal` stores the line of a refusal. Assumes nothing.
 use mathlib.Core.Path.{_≡_}
 use mathlib.Core.List.{[], _++_}
 use Prim.Native.Nat.{ℕ}
 use Rattle.text.specs.Text.{word, counted}
 use Rattle.text.proofs.Writing.{wrote-then, counted-then}
-use Rattle.report_path.specs.Told.{pathPlace, pathRefusal}
+use Rattle.report_path_lines.specs.Lines.{pathPlace, pathRefusal}
 use borrow.Author.Needs.{needs}
-use Rattle.report_path.proofs.put_path_refusal.Statement.{statement}
-use Rattle.report_path.proofs.put_path_refusal.Tie as tie
+use Rattle.report_path_lines.proofs.put_path_refusal.Statement.{statement}
+use Rattle.report_path_lines.proofs.put_path_refusal.Tie as tie
 
 -- the two pieces that the code stores
 pieces : (n p : ℕ) → pathRefusal n p ≡ counted (word "refused ") n [] ++ pathPlace n p

@@ -1,14 +1,14 @@
--- `report_path::put_sheet_refusal` stores the line of a refusal and the segment that it belongs to. Assumes nothing.
+-- `report_path_lines::put_sheet_refusal` stores the line of a refusal and the segment that it belongs to. Assumes nothing.
 use mathlib.Core.Path.{_≡_}
 use mathlib.Core.List.{[], _++_, append-assoc}
 use Prim.Native.Nat.{ℕ}
 use Rattle.text.specs.Text.{word, counted}
 use Rattle.report_phrases.specs.Phrases.{refusedText}
 use Rattle.text.proofs.Writing.{wrote-then}
-use Rattle.report_path.specs.Told.{sheetRefusal}
+use Rattle.report_path_lines.specs.Lines.{sheetRefusal}
 use borrow.Author.Needs.{needs}
-use Rattle.report_path.proofs.put_sheet_refusal.Statement.{statement}
-use Rattle.report_path.proofs.put_sheet_refusal.Tie as tie
+use Rattle.report_path_lines.proofs.put_sheet_refusal.Statement.{statement}
+use Rattle.report_path_lines.proofs.put_sheet_refusal.Tie as tie
 
 -- the two pieces that the code stores
 pieces : (segment n p : ℕ) → sheetRefusal segment n p ≡ (refusedText n p ++ word " of segment ") ++ counted [] segment (word "\n")

@@ -1,4 +1,4 @@
--- `report_path::put_gateway` stores the line of a gateway. Assumes nothing.
+-- `report_path_lines::put_gateway` stores the line of a gateway. Assumes nothing.
 use mathlib.Core.Path.{_≡_}
 use mathlib.Core.List.{_++_, append-assoc}
 use Prim.Native.Nat.{ℕ}
@@ -6,10 +6,10 @@ use Rattle.units.specs.declared.BitPeriods.{BitPeriods}
 use Rattle.text.specs.Text.{word, counted}
 use Rattle.report_phrases.specs.Phrases.{inBp}
 use Rattle.text.proofs.Writing.{wrote-then}
-use Rattle.report_path.specs.Told.{gatewayLine}
+use Rattle.report_path_lines.specs.Lines.{gatewayLine}
 use borrow.Author.Needs.{needs}
-use Rattle.report_path.proofs.put_gateway.Statement.{statement}
-use Rattle.report_path.proofs.put_gateway.Tie as tie
+use Rattle.report_path_lines.proofs.put_gateway.Statement.{statement}
+use Rattle.report_path_lines.proofs.put_gateway.Tie as tie
 
 -- the three pieces that the code stores
 pieces : (number : ℕ) (time : BitPeriods)

@@ -1,14 +1,14 @@
--- `report_path::put_total` stores the last line: the total in both units, and the deadline. Assumes nothing.
+-- `report_path_lines::put_total` stores the last line: the total in both units, and the deadline. Assumes nothing.
 use mathlib.Core.Path.{_≡_}
 use mathlib.Core.List.{_++_, append-assoc}
 use Rattle.units.specs.declared.BitPeriods.{BitPeriods}
 use Rattle.text.specs.Text.{word}
 use Rattle.report_phrases.specs.Phrases.{inBp, inBoth}
 use Rattle.text.proofs.Writing.{wrote-then}
-use Rattle.report_path.specs.Told.{totalLine}
+use Rattle.report_path_lines.specs.Lines.{totalLine}
 use borrow.Author.Needs.{needs}
-use Rattle.report_path.proofs.put_total.Statement.{statement}
-use Rattle.report_path.proofs.put_total.Tie as tie
+use Rattle.report_path_lines.proofs.put_total.Statement.{statement}
+use Rattle.report_path_lines.proofs.put_total.Tie as tie
 
 -- the two pieces that the code stores
 pieces : (total deadline : BitPeriods) → totalLine total deadline ≡ (word "total " ++ inBoth total) ++ ((word " deadline " ++ inBp deadline) ++ word "\n")

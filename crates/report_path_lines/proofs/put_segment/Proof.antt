@@ -1,4 +1,4 @@
--- `report_path::put_segment` stores the line of a segment. Assumes nothing.
+-- `report_path_lines::put_segment` stores the line of a segment. Assumes nothing.
 use mathlib.Core.Path.{_≡_}
 use mathlib.Core.List.{_++_, append-assoc}
 use Prim.Native.Nat.{ℕ}
@@ -6,10 +6,10 @@ use Rattle.units.specs.declared.BitPeriods.{BitPeriods}
 use Rattle.text.specs.Text.{word, counted}
 use Rattle.report_phrases.specs.Phrases.{nameOf, inBp}
 use Rattle.text.proofs.Writing.{wrote-then}
-use Rattle.report_path.specs.Told.{segmentLine}
+use Rattle.report_path_lines.specs.Lines.{segmentLine}
 use borrow.Author.Needs.{needs}
-use Rattle.report_path.proofs.put_segment.Statement.{statement}
-use Rattle.report_path.proofs.put_segment.Tie as tie
+use Rattle.report_path_lines.proofs.put_segment.Statement.{statement}
+use Rattle.report_path_lines.proofs.put_segment.Tie as tie
 
 -- the three pieces that the code stores
 pieces : (number master : ℕ) (bound : BitPeriods)
