@@ -18,7 +18,8 @@ use Rattle.capture_tally.specs.Pieces.{most, before, leftAfter, sinceAfter, ans
 use Rattle.capture_watch.specs.declared.Watch.{Watch}
 use Rattle.capture_watch.specs.Follow.{began, Seen, seen, followed, metIn, overdueRun}
 use Rattle.report_phrases.specs.Phrases.{refusalText}
-use Rattle.report_capture.specs.Shown.{clean, captureText, captureRefusal}
+use Rattle.report_faults.specs.Faults.{clean}
+use Rattle.report_capture.specs.Shown.{captureText, captureRefusal}
 
 -- ---- What is kept of a capture
 

@@ -219,7 +219,7 @@ pub fn report(
         watch.whose,
         broken,
     );
-    if report_capture::is_clean(streams, answers, above, &late, soon, broken) {
+    if report_faults::is_clean(streams, answers, above, &late, soon, broken) {
         Reported::Clean(n)
     } else {
         Reported::Faulty(n)

@@ -1,14 +1,14 @@
--- `report_capture::put_soon` stores how many requests came too soon, and the stream of the first. Assumes nothing.
+-- `report_faults::put_soon` stores how many requests came too soon, and the stream of the first. Assumes nothing.
 use mathlib.Core.Path.{_≡_}
 use mathlib.Core.List.{[], _++_}
 use Prim.Native.Nat.{ℕ}
 use borrow.Author.Tests.{eq-eqb, ne-eqb}
 use Rattle.text.specs.Text.{word, counted}
 use Rattle.text.proofs.Writing.{wrote-none, wrote-then, counted-then}
-use Rattle.report_capture.specs.Shown.{soonLine}
+use Rattle.report_faults.specs.Faults.{soonLine}
 use borrow.Author.Needs.{needs}
-use Rattle.report_capture.proofs.put_soon.Statement.{statement}
-use Rattle.report_capture.proofs.put_soon.Tie as tie
+use Rattle.report_faults.proofs.put_soon.Statement.{statement}
+use Rattle.report_faults.proofs.put_soon.Tie as tie
 
 -- what the code stores, by the count
 module _ (soon whose : ℕ) where

@@ -1,9 +1,9 @@
--- `report_capture::put_faults` stores a line for each thing that is wrong. Assumes nothing.
+-- `report_faults::put_faults` stores a line for each thing that is wrong. Assumes nothing.
 use Rattle.text.proofs.Writing.{wrote-then}
-use Rattle.report_capture.specs.Shown.{faultLines}
+use Rattle.report_faults.specs.Faults.{faultLines}
 use borrow.Author.Needs.{needs}
-use Rattle.report_capture.proofs.put_faults.Statement.{statement}
-use Rattle.report_capture.proofs.put_faults.Tie as tie
+use Rattle.report_faults.proofs.put_faults.Statement.{statement}
+use Rattle.report_faults.proofs.put_faults.Tie as tie
 
 slice-aggregate-put-found : tie.Need-slice-aggregate-put-found
 slice-aggregate-put-found c = search needs

@@ -1,4 +1,4 @@
--- `report_capture::exceeding` counts the streams that have a figure other than 0 in a run. The loop's invariant: those of the first i are
+-- `report_faults::exceeding` counts the streams that have a figure other than 0 in a run. The loop's invariant: those of the first i are
 -- counted. Assumes nothing.
 use mathlib.Core.Path.{_≡_, refl, _∙_}
 use mathlib.Core.Logic.{⊎-elim}
@@ -7,11 +7,11 @@ use native.Mathlib.Omega.{arith}
 use denote.Ref.{now}
 use Rattle.common.specs.Sums.{sum}
 use Rattle.text.specs.Text.{item}
-use Rattle.report_capture.specs.Shown.{exceeding}
-use Rattle.report_capture.proofs.Counts.{exceeding-some, exceeding-none}
+use Rattle.report_faults.specs.Faults.{exceeding}
+use Rattle.report_faults.proofs.Counts.{exceeding-some, exceeding-none}
 use borrow.Author.Needs.{needs}
-use Rattle.report_capture.proofs.exceeding.Statement.{statement}
-use Rattle.report_capture.proofs.exceeding.Tie as tie
+use Rattle.report_faults.proofs.exceeding.Statement.{statement}
+use Rattle.report_faults.proofs.exceeding.Tie as tie
 
 abbrev Inv-loop : tie.InvT-loop
 Inv-loop run n count₀ i₀ count i = (i ≤ n) × (count ≤ i) × (count ≡ exceeding (item run) i)

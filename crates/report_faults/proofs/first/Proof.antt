@@ -1,4 +1,4 @@
--- `report_capture::first` finds the first stream that has a figure other than 0 in a run. The loop's invariant: none of the first i
+-- `report_faults::first` finds the first stream that has a figure other than 0 in a run. The loop's invariant: none of the first i
 -- has one. Assumes nothing.
 use mathlib.Core.Path.{_≡_}
 use mathlib.Core.Bool.{false}
@@ -7,11 +7,11 @@ use native.Mathlib.Omega.{arith}
 use denote.Ref.{now}
 use Rattle.common.proofs.Firsts.{found-first, found-none}
 use Rattle.text.specs.Text.{item}
-use Rattle.report_capture.specs.Shown.{exceeds, first}
-use Rattle.report_capture.proofs.Counts.{exceeds-some, none-more}
+use Rattle.report_faults.specs.Faults.{exceeds, first}
+use Rattle.report_faults.proofs.Counts.{exceeds-some, none-more}
 use borrow.Author.Needs.{needs}
-use Rattle.report_capture.proofs.first.Statement.{statement}
-use Rattle.report_capture.proofs.first.Tie as tie
+use Rattle.report_faults.proofs.first.Statement.{statement}
+use Rattle.report_faults.proofs.first.Tie as tie
 
 abbrev Inv-loop : tie.InvT-loop
 Inv-loop run n i₀ i = (i ≤ n) × ((j : ℕ) → j < i → exceeds (item run) j ≡ false)

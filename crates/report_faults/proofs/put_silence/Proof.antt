@@ -1,4 +1,4 @@
--- `report_capture::put_silence` stores that no stream has an answer, where none has. Assumes nothing.
+-- `report_faults::put_silence` stores that no stream has an answer, where none has. Assumes nothing.
 use mathlib.Core.Path.{_≡_, sym, _∙_}
 use mathlib.Core.List.{[]}
 use Prim.Native.Nat.{ℕ}
@@ -6,10 +6,10 @@ use borrow.Author.Tests.{eq-eqb, ne-eqb}
 use denote.Ref.{now}
 use Rattle.text.specs.Text.{word, item}
 use Rattle.text.proofs.Writing.{wrote-none}
-use Rattle.report_capture.specs.Shown.{exceeding, silenceLine}
+use Rattle.report_faults.specs.Faults.{exceeding, silenceLine}
 use borrow.Author.Needs.{needs}
-use Rattle.report_capture.proofs.put_silence.Statement.{statement}
-use Rattle.report_capture.proofs.put_silence.Tie as tie
+use Rattle.report_faults.proofs.put_silence.Statement.{statement}
+use Rattle.report_faults.proofs.put_silence.Tie as tie
 
 -- what the code stores, by how many streams have an answer
 module _ (answers : ℕ → ℕ) (n heard : ℕ) (e : heard ≡ exceeding answers n) where

@@ -6,7 +6,7 @@ use Prim.Native.Nat.{ℕ, _+_}
 use native.Mathlib.Omega.{arith}
 use lib.Dec.{eqb}
 use Rattle.text.specs.Text.{word, decimal, item}
-use Rattle.report_capture.specs.Shown.{exceeding, first, streamsLine, soonLine, agesLines, silenceLine, faultLines, clean, lastLines}
+use Rattle.report_faults.specs.Faults.{exceeding, first, streamsLine, soonLine, agesLines, silenceLine, faultLines, clean, lastLines}
 
 -- ---- How a line begins
 

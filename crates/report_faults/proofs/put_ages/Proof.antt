@@ -1,9 +1,9 @@
--- `report_capture::put_ages` stores what is wrong with ages and gaps, or that they are not known. Assumes nothing.
+-- `report_faults::put_ages` stores what is wrong with ages and gaps, or that they are not known. Assumes nothing.
 use Rattle.text.proofs.Writing.{wrote-then}
-use Rattle.report_capture.specs.Shown.{agesLines}
+use Rattle.report_faults.specs.Faults.{agesLines}
 use borrow.Author.Needs.{needs}
-use Rattle.report_capture.proofs.put_ages.Statement.{statement}
-use Rattle.report_capture.proofs.put_ages.Tie as tie
+use Rattle.report_faults.proofs.put_ages.Statement.{statement}
+use Rattle.report_faults.proofs.put_ages.Tie as tie
 
 slice-aggregate-put-word : tie.Need-slice-aggregate-put-word
 slice-aggregate-put-word c = search needs

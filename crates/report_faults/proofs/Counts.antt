@@ -8,7 +8,7 @@ use native.Mathlib.Decide.{ℕ-discrete}
 use borrow.Author.Tests.{eq-eqb, ne-eqb}
 use Rattle.common.specs.Sums.{when, sum}
 use Rattle.common.proofs.Firsts.{first-is}
-use Rattle.report_capture.specs.Shown.{exceeds, exceeding, first}
+use Rattle.report_faults.specs.Faults.{exceeds, exceeding, first}
 
 module _ (run : ℕ → ℕ) where
   pub exceeds-some : (i : ℕ) → 0 < run i → exceeds run i ≡ true

@@ -1,4 +1,4 @@
--- `report_capture::put_found` stores in how many streams something is found, and in which first. Assumes nothing.
+-- `report_faults::put_found` stores in how many streams something is found, and in which first. Assumes nothing.
 use mathlib.Core.Path.{_≡_, sym, _∙_}
 use mathlib.Core.List.{List, [], _++_}
 use Prim.Native.Nat.{ℕ, _+_}
@@ -7,11 +7,11 @@ use borrow.Author.Tests.{eq-eqb, ne-eqb}
 use denote.Ref.{now}
 use Rattle.text.specs.Text.{word, item, counted}
 use Rattle.text.proofs.Writing.{wrote-none, wrote-then, counted-then}
-use Rattle.report_capture.specs.Shown.{exceeding, first, streamsLine}
-use Rattle.report_capture.proofs.Counts.{first-few}
+use Rattle.report_faults.specs.Faults.{exceeding, first, streamsLine}
+use Rattle.report_faults.proofs.Counts.{first-few}
 use borrow.Author.Needs.{needs}
-use Rattle.report_capture.proofs.put_found.Statement.{statement}
-use Rattle.report_capture.proofs.put_found.Tie as tie
+use Rattle.report_faults.proofs.put_found.Statement.{statement}
+use Rattle.report_faults.proofs.put_found.Tie as tie
 
 -- what the code stores, by what it has counted and found
 module _ (words : List ℕ) (run : ℕ → ℕ) (n count : ℕ) (e : count ≡ exceeding run n) where
