@@ -10,7 +10,7 @@ use Rattle.pnet_bounds.specs.Bounded.{bounded, boundOf}
 use Rattle.capture_log.specs.Log as Log
 use Rattle.capture_log.specs.Records as log
 use Rattle.capture_log.specs.Records.{events}
-use Rattle.capture_watch.specs.Ages.{clock, broken, soon, whose, beyond}
+use Rattle.capture_ages.specs.Ages.{clock, broken, soon, whose, beyond}
 use Rattle.report_phrases.specs.Phrases.{inBp, inNs, inBoth, twoCounts, nameOf, placeText, refusedText, refusalText}
 use Rattle.report_faults.specs.Faults as faults
 use Rattle.report_capture.specs.Shown as shown

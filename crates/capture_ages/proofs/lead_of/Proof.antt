@@ -1,11 +1,11 @@
--- `capture_watch::lead_of` meets its contract. Assumes nothing.
+-- `capture_ages::lead_of` meets its contract. Assumes nothing.
 use borrow.Author.Needs.{needs}
 use Prim.Native.Nat.{ℕ}
 use mathlib.Core.Path.{ap, _∙_}
-use Rattle.capture_watch.specs.Ages.{leadBehind}
-use Rattle.capture_watch.specs.Follow.{ago, leadOf}
-use Rattle.capture_watch.proofs.lead_of.Statement.{statement}
-use Rattle.capture_watch.proofs.lead_of.Tie as tie
+use Rattle.capture_ages.specs.Ages.{leadBehind}
+use Rattle.capture_ages.specs.Clock.{ago, leadOf}
+use Rattle.capture_ages.proofs.lead_of.Statement.{statement}
+use Rattle.capture_ages.proofs.lead_of.Tie as tie
 
 clock-at-requires : tie.Need-clock-at-requires
 clock-at-requires c κs = search needs

@@ -11,8 +11,8 @@ use Rattle.common.specs.Sums.{when}
 use Rattle.sheet_record.proofs.Tables.{both-true}
 use Rattle.capture_log.specs.declared.Event.{Event}
 use Rattle.capture_log.specs.Log.{asks}
-use Rattle.capture_watch.specs.Ages.{clock, asked, leadBehind, keptLead, lead, early}
-use Rattle.capture_watch.proofs.True.{asks-not}
+use Rattle.capture_ages.specs.Ages.{clock, asked, leadBehind, keptLead, lead, early}
+use Rattle.capture_ages.proofs.True.{asks-not}
 
 -- ---- A lead
 

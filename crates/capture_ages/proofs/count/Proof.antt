@@ -1,8 +1,8 @@
--- `capture_watch::count` meets its contract. Assumes nothing.
+-- `capture_ages::count` meets its contract. Assumes nothing.
 use borrow.Author.Needs.{needs}
 use native.Mathlib.Omega.{arith}
-use Rattle.capture_watch.proofs.count.Statement.{statement}
-use Rattle.capture_watch.proofs.count.Tie as tie
+use Rattle.capture_ages.proofs.count.Statement.{statement}
+use Rattle.capture_ages.proofs.count.Tie as tie
 
 wrapping-add-u64-requires : tie.Need-wrapping-add-u64-requires
 wrapping-add-u64-requires c κs = search needs

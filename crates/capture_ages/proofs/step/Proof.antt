@@ -1,11 +1,11 @@
--- `capture_watch::step` meets its contract. Assumes nothing.
+-- `capture_ages::step` meets its contract. Assumes nothing.
 use borrow.Author.Needs.{needs}
 use mathlib.Core.Path.{refl, ap}
 use borrow.Author.Tests.{eq-eqb, ne-eqb}
 use Rattle.units.specs.declared.BitPeriods.{BitPeriods}
-use Rattle.capture_watch.specs.Follow.{stepOf}
-use Rattle.capture_watch.proofs.step.Statement.{statement}
-use Rattle.capture_watch.proofs.step.Tie as tie
+use Rattle.capture_ages.specs.Clock.{stepOf}
+use Rattle.capture_ages.proofs.step.Statement.{statement}
+use Rattle.capture_ages.proofs.step.Tie as tie
 
 returns : tie.Need-returns
 unfolding stepOf

@@ -1,11 +1,11 @@
--- `capture_watch::kept_lead` meets its contract. Assumes nothing.
+-- `capture_ages::kept_lead` meets its contract. Assumes nothing.
 use borrow.Author.Needs.{needs}
 use borrow.Author.Tests.{ltb-false}
 use mathlib.Core.Path.{refl, sym, _∙_}
 use native.Mathlib.Omega.{arith}
-use Rattle.capture_watch.specs.Ages.{keptLead}
-use Rattle.capture_watch.proofs.kept_lead.Statement.{statement}
-use Rattle.capture_watch.proofs.kept_lead.Tie as tie
+use Rattle.capture_ages.specs.Ages.{keptLead}
+use Rattle.capture_ages.proofs.kept_lead.Statement.{statement}
+use Rattle.capture_ages.proofs.kept_lead.Tie as tie
 
 too-soon-requires : tie.Need-too-soon-requires
 too-soon-requires c κs = search needs

@@ -4,12 +4,6 @@ use mathlib.Core.List.{List, [], _∷_}
 use mathlib.Core.Path.{_≡_}
 use Rattle.capture_log.specs.declared.Event.{Event}
 use Rattle.capture_log.specs.Log.{stampAt}
-use Rattle.capture_watch.specs.Follow.{most}
-
--- every record's stream has a place
-pub data Placed : List Event → Type 0 where
-  none : Placed []
-  and : {e : Event} {es : List Event} → 1 ≤ e .stream → e .stream ≤ most → Placed es → Placed (e ∷ es)
 
 -- Timed z es a u: the records es of a tester whose counter was z at instant 0, the first at instant a and the latest at u, each less than
 -- 2^31 bp behind the one before

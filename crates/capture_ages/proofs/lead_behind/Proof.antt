@@ -1,11 +1,11 @@
--- `capture_watch::lead_behind` meets its contract. Assumes nothing.
+-- `capture_ages::lead_behind` meets its contract. Assumes nothing.
 use mathlib.Core.Path.{refl}
 use native.Mathlib.Omega.{arith}
 use borrow.Author.Needs.{needs}
 use borrow.Author.Tests.{eq-eqb, ne-eqb}
-use Rattle.capture_watch.specs.Ages.{leadBehind}
-use Rattle.capture_watch.proofs.lead_behind.Statement.{statement}
-use Rattle.capture_watch.proofs.lead_behind.Tie as tie
+use Rattle.capture_ages.specs.Ages.{leadBehind}
+use Rattle.capture_ages.proofs.lead_behind.Statement.{statement}
+use Rattle.capture_ages.proofs.lead_behind.Tie as tie
 
 returns : tie.Need-returns
 unfolding leadBehind

@@ -12,10 +12,10 @@ use Rattle.sheet_record.proofs.Tables.{both-true}
 use Rattle.capture_log.specs.declared.Event.{Event}
 use Rattle.capture_log.specs.Log.{asks, stampAt, around}
 use Rattle.capture_log.proofs.Stamps.{true-response}
-use Rattle.capture_watch.specs.Ages.{clock, far, broken, asked}
-use Rattle.capture_watch.specs.Timed.{Timed, UpTo}
-use Rattle.capture_watch.specs.Timed.Timed.{one, next}
-use Rattle.capture_watch.specs.Timed.UpTo.{here, later}
+use Rattle.capture_ages.specs.Ages.{clock, far, broken, asked}
+use Rattle.capture_ages.specs.Timed.{Timed, UpTo}
+use Rattle.capture_ages.specs.Timed.Timed.{one, next}
+use Rattle.capture_ages.specs.Timed.UpTo.{here, later}
 
 -- ---- The clock
 

@@ -1,8 +1,8 @@
--- `capture_watch::since` meets its contract: what std's wrapping subtraction promises is `ago`. Assumes nothing.
+-- `capture_ages::since` meets its contract: what std's wrapping subtraction promises is `ago`. Assumes nothing.
 use borrow.Author.Needs.{needs}
-use Rattle.capture_watch.specs.Follow.{ago}
-use Rattle.capture_watch.proofs.since.Statement.{statement}
-use Rattle.capture_watch.proofs.since.Tie as tie
+use Rattle.capture_ages.specs.Clock.{ago}
+use Rattle.capture_ages.proofs.since.Statement.{statement}
+use Rattle.capture_ages.proofs.since.Tie as tie
 
 wrapping-sub-u64-requires : tie.Need-wrapping-sub-u64-requires
 wrapping-sub-u64-requires c κs = search needs

@@ -1,8 +1,8 @@
--- `capture_watch::first` meets its contract. Assumes nothing.
+-- `capture_ages::first` meets its contract. Assumes nothing.
 use mathlib.Core.Path.{refl}
 use borrow.Author.Tests.{eq-eqb, ne-eqb}
-use Rattle.capture_watch.proofs.first.Statement.{statement}
-use Rattle.capture_watch.proofs.first.Tie as tie
+use Rattle.capture_ages.proofs.first.Statement.{statement}
+use Rattle.capture_ages.proofs.first.Tie as tie
 
 returns : tie.Need-returns
 returns c = rw (ne-eqb _ 0 (c .if1 .taken)) refl

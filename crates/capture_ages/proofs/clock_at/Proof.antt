@@ -1,10 +1,10 @@
--- `capture_watch::clock_at` meets its contract. Assumes nothing.
+-- `capture_ages::clock_at` meets its contract. Assumes nothing.
 use borrow.Author.Needs.{needs}
 use Prim.Native.Nat.{ℕ, _+_, _%_, _^_}
 use mathlib.Core.Path.{ap, _∙_}
-use Rattle.capture_watch.specs.Follow.{tick}
-use Rattle.capture_watch.proofs.clock_at.Statement.{statement}
-use Rattle.capture_watch.proofs.clock_at.Tie as tie
+use Rattle.capture_ages.specs.Clock.{tick}
+use Rattle.capture_ages.proofs.clock_at.Statement.{statement}
+use Rattle.capture_ages.proofs.clock_at.Tie as tie
 
 step-requires : tie.Need-step-requires
 step-requires c κs = search needs

@@ -1,12 +1,12 @@
--- `capture_watch::open_too_long` meets its contract. Assumes nothing.
+-- `capture_ages::open_too_long` meets its contract. Assumes nothing.
 use Prim.Native.Nat.{ℕ}
 use borrow.Author.Needs.{needs}
 use mathlib.Core.Bool.{Bool, true, false, not, _&&_}
 use mathlib.Core.Path.{_≡_, sym, ap, _∙_}
 use lib.Dec.{ltb, eqb}
 use Rattle.common.specs.Sums.{when}
-use Rattle.capture_watch.proofs.open_too_long.Statement.{statement}
-use Rattle.capture_watch.proofs.open_too_long.Tie as tie
+use Rattle.capture_ages.proofs.open_too_long.Statement.{statement}
+use Rattle.capture_ages.proofs.open_too_long.Tie as tie
 
 since-requires : tie.Need-since-requires
 since-requires c κs = search needs
