@@ -1,31 +1,24 @@
 -- What follows of one record, and of the records of a piece up to a place, as the code goes over them. Assumes nothing.
-use Prim.Native.Nat.{ℕ, suc, _+_, _*_, _%_, _^_, _/_, _≤_, _<_}
+use Prim.Native.Nat.{ℕ, suc, _+_, _*_, _/_, _≤_, _<_}
 use mathlib.Core.Path.{_≡_, refl, ap, _∙_}
-use mathlib.Core.Bool.{Bool, true, false, cond, _||_}
+use mathlib.Core.Bool.{Bool, true, false, cond}
 use mathlib.Core.List.{List}
 use native.Mathlib.Omega.{arith}
-use lib.Dec.{leb, ltb, eqb}
+use lib.Dec.{ltb, eqb}
 use lib.ListN.{length, getD, set, length-set}
 use Rattle.common.specs.Runs.{tab}
-use Rattle.common.specs.Sums.{when}
 use Rattle.common.proofs.Runs.{Filling, filled-at, tab-places}
 use Rattle.sheet_record.specs.Ranges.{Range}
 use Rattle.sheet_record.proofs.Ranges.{within-range}
 use Rattle.sheet_record.proofs.Tables.{both-true}
 use Rattle.capture_log.specs.declared.Event.{Event}
 use Rattle.capture_log.specs.Records.{size, metAt}
-use Rattle.capture_watch.specs.declared.Watch.{Watch}
-use Rattle.capture_watch.specs.Ages.{keptLead}
-use Rattle.capture_watch.specs.Follow.{most, stepOf, tick, farOf, request, spot, leadOf, watchWith, Seen, seen, seenWith, followed, metIn}
+use Rattle.capture_ages.specs.declared.Watch.{Watch}
+use Rattle.capture_ages.specs.Ages.{keptLead}
+use Rattle.capture_ages.specs.Clock.{tick, leadOf, watchWith}
+use Rattle.capture_watch.specs.Follow.{most, request, spot, Seen, seen, seenWith, followed, metIn}
 
 -- ---- One record
-
--- what the code puts together
-pub watch-is : (w : Watch) (e : Event) (early : Bool) (step clock soon whose : ℕ) → step ≡ stepOf w (e .stamp) → clock ≡ tick w (e .stamp)
-    → soon ≡ (w .soon + when early 1) % 2 ^ 64 → whose ≡ cond (eqb (w .whose) 0) (when early (e .stream)) (w .whose)
-    → record { clock = clock; stamp = e .stamp; broken = w .broken || leb (2 ^ 31) step; soon = soon; whose = whose } ≡ watchWith w e early
-unfolding watchWith farOf
-watch-is w e early step clock soon whose p q r s = rw (p, q, r, s) refl
 
 -- a request's stream has a place
 pub request-placed : (e : Event) → request e ≡ true → Range 1 (e .stream) most

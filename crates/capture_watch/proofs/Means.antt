@@ -15,11 +15,12 @@ use Rattle.sheet_record.proofs.Ranges.{range-within}
 use Rattle.capture_log.specs.declared.Event.{Event}
 use Rattle.capture_log.specs.Log.{asks, around, fresh}
 use Rattle.capture_log.specs.Log as Log
-use Rattle.capture_watch.specs.declared.Watch.{Watch}
-use Rattle.capture_watch.specs.Ages.{step, clock, far, broken, asked, leadBehind, keptLead, lead, early, soon, whose, beyond}
-use Rattle.capture_watch.specs.Follow.{most, began, ago, stepOf, tick, farOf, request, spot, leadOf, watchWith, Seen, seen, seenWith, followed, overdueAt, overdueRun}
-use Rattle.capture_watch.specs.Timed.{Placed}
-use Rattle.capture_watch.specs.Timed.Placed.{none, and}
+use Rattle.capture_ages.specs.declared.Watch.{Watch}
+use Rattle.capture_ages.specs.Ages.{step, clock, far, broken, asked, leadBehind, keptLead, lead, early, soon, whose, beyond}
+use Rattle.capture_ages.specs.Clock.{began, ago, stepOf, tick, farOf, leadOf, watchWith}
+use Rattle.capture_watch.specs.Follow.{most, request, spot, Seen, seen, seenWith, followed, overdueAt, overdueRun}
+use Rattle.capture_watch.specs.Placed.{Placed}
+use Rattle.capture_watch.specs.Placed.Placed.{none, and}
 use Rattle.capture_watch.proofs.Following.{asked-long, lead-long}
 
 -- ---- Bounds

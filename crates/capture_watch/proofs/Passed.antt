@@ -12,10 +12,11 @@ use Rattle.capture_log.specs.Records.{size, eventsIn, records, heard}
 use Rattle.capture_log.specs.Refusals.{Taken}
 use Rattle.capture_log.proofs.Records.{met-whole}
 use Rattle.capture_log.proofs.Refusals.{known-exactly, passed-exactly}
-use Rattle.capture_watch.specs.Ages.{clock}
-use Rattle.capture_watch.specs.Follow.{most, began, seen, followed, metIn}
-use Rattle.capture_watch.specs.Timed.{Placed}
-use Rattle.capture_watch.specs.Timed.Placed.{none, and}
+use Rattle.capture_ages.specs.Ages.{clock}
+use Rattle.capture_ages.specs.Clock.{began}
+use Rattle.capture_watch.specs.Follow.{most, seen, followed, metIn}
+use Rattle.capture_watch.specs.Placed.{Placed}
+use Rattle.capture_watch.specs.Placed.Placed.{none, and}
 use Rattle.capture_watch.proofs.Means.{Keeps, kept-means}
 
 events-many : (c : List ℕ) (j : ℕ) → length (eventsIn c j) ≡ j

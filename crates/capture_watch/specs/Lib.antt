@@ -1,3 +1,2 @@
-pub mod Ages
 pub mod Follow
-pub mod Timed
+pub mod Placed

@@ -18,8 +18,9 @@ use Rattle.capture_log.specs.Records.{size, eventAt, eventsIn, heard}
 use Rattle.pnet_bounds.specs.Bounded.{bounded, spacingOf, jitterOf, streamRun}
 use Rattle.capture_compare.specs.Compared.{compared}
 use Rattle.capture_compare.specs.Refusals.{Room}
-use Rattle.capture_watch.specs.Ages.{step, clock, asked, soon, beyond}
-use Rattle.capture_watch.specs.Follow.{most, began, seen, followed, metIn}
+use Rattle.capture_ages.specs.Ages.{step, clock, asked, soon, beyond}
+use Rattle.capture_ages.specs.Clock.{began}
+use Rattle.capture_watch.specs.Follow.{most, seen, followed, metIn}
 use Rattle.demands.specs.Logged.{logOf, instantsOf, Close, one, and as near}
 use Rattle.demands.proofs.Demand3.{accepted-as-demanded}
 use Rattle.demands.proofs.PageCase.{sheet, bytes, lent, page, accepts}

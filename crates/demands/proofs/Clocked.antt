@@ -1,5 +1,5 @@
 -- The log of a run, where successive records are less than 2^31 bp apart, is a capture whose clock, ages and gaps are true
--- (crates/capture_watch/proofs/True.antt). So by the clock each request is as old as it is in the run, and as far behind its stream's
+-- (crates/capture_ages/proofs/True.antt). So by the clock each request is as old as it is in the run, and as far behind its stream's
 -- previous one. Assumes nothing.
 use Prim.Native.Nat.{ℕ, _+_, _-_, _≤_, _<_}
 use mathlib.Core.Path.{_≡_, refl, sym, ap, _∙_}
@@ -20,13 +20,13 @@ use Rattle.pnet_run.proofs.Bound.{apart-latest}
 use Rattle.pnet_run.proofs.Spacing.{spaced-before, came-in-order, due-apart}
 use Rattle.capture_log.specs.declared.Event.{Event}
 use Rattle.capture_log.specs.Log.{stampAt, fresh, left}
-use Rattle.capture_watch.specs.Ages.{clock, broken, asked, leadBehind, lead, early, soon, whose, beyond}
-use Rattle.capture_watch.specs.Timed.{Timed, UpTo}
-use Rattle.capture_watch.specs.Timed.Timed.{one as begin, next}
-use Rattle.capture_watch.specs.Timed.UpTo.{here, later}
+use Rattle.capture_ages.specs.Ages.{clock, broken, asked, leadBehind, lead, early, soon, whose, beyond}
+use Rattle.capture_ages.specs.Timed.{Timed, UpTo}
+use Rattle.capture_ages.specs.Timed.Timed.{one as begin, next}
+use Rattle.capture_ages.specs.Timed.UpTo.{here, later}
 use Rattle.capture_watch.proofs.Means.{grows, asked-past}
-use Rattle.capture_watch.proofs.Leads.{kept-at-most, kept-in-time, lead-first, lead-next, lead-at-most, asked-here, lead-here, asked-there, lead-there}
-use Rattle.capture_watch.proofs.True.{in-order, not-broken, true-clock, asks-not, true-age}
+use Rattle.capture_ages.proofs.Leads.{kept-at-most, kept-in-time, lead-first, lead-next, lead-at-most, asked-here, lead-here, asked-there, lead-there}
+use Rattle.capture_ages.proofs.True.{in-order, not-broken, true-clock, asks-not, true-age}
 use Rattle.demands.specs.Logged.{logOf, instantsOf, first, Close, none, one, and}
 use Rattle.demands.proofs.Matching.{Is, matches, not-late}
 

@@ -12,8 +12,8 @@ use Rattle.pnet_rules.specs.Segment.{Segment, bound}
 use Rattle.pnet_rules.specs.Limits.{Declared}
 use Rattle.pnet_run.specs.Run.{Belongs, Request, Answer, Queues, Token, Run}
 use Rattle.pnet_run.specs.Promise.{Spaced, Accepted}
-use Rattle.capture_watch.specs.Ages.{clock, broken, soon, whose, beyond}
-use Rattle.capture_watch.proofs.True.{true-clock}
+use Rattle.capture_ages.specs.Ages.{clock, broken, soon, whose, beyond}
+use Rattle.capture_ages.proofs.True.{true-clock}
 use Rattle.demands.specs.Logged.{logOf, instantsOf, first, Close}
 use Rattle.demands.proofs.Clocked.{recorded, timed, unbroken, Timely, timely, timely-kept, soon-none, whose-none, none-soon, open-within}
 

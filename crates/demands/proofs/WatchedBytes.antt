@@ -28,8 +28,9 @@ use Rattle.capture_tally.specs.declared.Taken.{Taken}
 use Rattle.capture_tally.specs.declared.Taken.the-variants as answer
 use Rattle.capture_tally.specs.Pieces.{before, answerTo, runBy, leftAfter}
 use Rattle.capture_compare.proofs.Told.{whole-taken, left-whole}
-use Rattle.capture_watch.specs.Ages.{clock, soon, beyond}
-use Rattle.capture_watch.specs.Follow.{most, began, Seen, seen, followed, metIn, overdueRun}
+use Rattle.capture_ages.specs.Ages.{clock, soon, beyond}
+use Rattle.capture_ages.specs.Clock.{began}
+use Rattle.capture_watch.specs.Follow.{most, Seen, seen, followed, metIn, overdueRun}
 use Rattle.capture_watch.proofs.Means.{ofStream, Keeps, overdue-means}
 use Rattle.capture_watch.proofs.Passed.{passed-count, passed-means}
 use Rattle.demands.specs.Logged.{logOf, instantsOf, Close}

@@ -8,8 +8,8 @@ use Rattle.pnet_plan.specs.Planned.{planOf}
 use Rattle.pnet_plan.specs.declared.answer.Plan.the-variants as plan
 use Rattle.capture_tally.specs.Pieces.{most}
 use Rattle.capture_compare.proofs.Beside.{told-refused, accepts}
-use Rattle.capture_watch.specs.declared.Watch.{Watch}
-use Rattle.capture_watch.specs.Follow.{began}
+use Rattle.capture_ages.specs.declared.Watch.{Watch}
+use Rattle.capture_ages.specs.Clock.{began}
 use Rattle.report_phrases.specs.Phrases.{refusalText}
 use Rattle.report_beside.specs.declared.Begun.the-variants as begun
 use Rattle.report_beside.specs.Whole.{laid}

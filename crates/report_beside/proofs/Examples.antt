@@ -10,8 +10,9 @@ use Rattle.pnet_bounds.specs.Bounded.{bounded, boundOf}
 use Rattle.capture_log.specs.Log as Log
 use Rattle.capture_log.specs.Records as log
 use Rattle.capture_log.specs.Records.{events}
-use Rattle.capture_watch.specs.Ages.{clock, broken, soon, whose, beyond}
+use Rattle.capture_ages.specs.Ages.{clock, broken, soon, whose, beyond}
 use Rattle.report_phrases.specs.Phrases.{inBp, inNs, inBoth, twoCounts, nameOf, placeText, refusedText, refusalText}
+use Rattle.report_faults.specs.Faults as faults
 use Rattle.report_capture.specs.Shown as shown
 use Rattle.report_beside.specs.Whole.{besideReport}
 use Rattle.report_beside.specs.Recorded.{aboveAt, lateAt, recordedText, recordedReport}
@@ -32,7 +33,7 @@ pub one-answer : besideReport sheet capture
     ≡ word "P-NET capture\n"
     · word "stream 1 M01 bound 250 bp 3255209 ns largest 210 bp 2734375 ns 1 answers 0 above 0 open\n"
     · word "every answer within its bound\n"
-unfolding recordedReport recordedText aboveAt lateAt bounded boundOf events log.heard Log.answered Log.largest Log.above Log.left beyond soon whose broken shown.captureText shown.lastLines shown.clean shown.exceeding shown.exceeds shown.streamAt shown.streamLine shown.whoseText shown.countsText nameOf twoCounts inBoth inBp inNs nanosUp up sum texts decimal places widthOf holds firstOf
+unfolding recordedReport recordedText aboveAt lateAt bounded boundOf events log.heard Log.answered Log.largest Log.above Log.left beyond soon whose broken shown.captureText faults.lastLines faults.clean faults.exceeding faults.exceeds shown.streamAt shown.streamLine shown.whoseText shown.countsText nameOf twoCounts inBoth inBp inNs nanosUp up sum texts decimal places widthOf holds firstOf
 one-answer = report-as-recorded sheet capture (omega arith) short ∙ refl
 
 -- the answer comes a second time

@@ -23,8 +23,9 @@ use Rattle.capture_log.proofs.Refusals.{passed-exactly}
 use Rattle.capture_tally.specs.declared.Taken.{Taken}
 use Rattle.capture_tally.specs.declared.Taken.the-variants as taken
 use Rattle.capture_tally.specs.Pieces.{most, answerTo}
-use Rattle.capture_watch.specs.declared.Watch.{Watch}
-use Rattle.capture_watch.specs.Follow.{began, Seen}
+use Rattle.capture_ages.specs.declared.Watch.{Watch}
+use Rattle.capture_ages.specs.Clock.{began}
+use Rattle.capture_watch.specs.Follow.{Seen}
 use Rattle.report_phrases.specs.Phrases.{refusalText}
 use Rattle.report_capture.specs.Shown.{captureRefusal}
 use Rattle.report_beside.specs.declared.Hearing.{Hearing}

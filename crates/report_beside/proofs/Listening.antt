@@ -9,7 +9,7 @@ use lib.ListN.{length}
 use Rattle.capture_tally.specs.declared.Taken.{Taken}
 use Rattle.capture_tally.specs.declared.Taken.the-variants as taken
 use Rattle.capture_tally.specs.Pieces.{answerTo}
-use Rattle.capture_watch.specs.declared.Watch.{Watch}
+use Rattle.capture_ages.specs.declared.Watch.{Watch}
 use Rattle.report_capture.specs.Shown.{captureRefusal}
 use Rattle.report_beside.specs.declared.Hearing.{Hearing}
 use Rattle.report_beside.specs.declared.Heard.{Heard}

@@ -15,8 +15,9 @@ use Rattle.capture_tally.specs.declared.Taken.the-variants as taken
 use Rattle.capture_tally.specs.Pieces.{most, before, behind, answerTo, leftAfter, sinceAfter, answersAfter, largestAfter, aboveAfter}
 use Rattle.capture_tally.proofs.Split.{split-refused, split-answer, split-left, split-since, split-answers, split-largest, split-above}
 use Rattle.capture_compare.proofs.Told.{whole-refused, whole-passed, whole-taken}
-use Rattle.capture_watch.specs.declared.Watch.{Watch}
-use Rattle.capture_watch.specs.Follow.{began, Seen, seen, followed, metIn}
+use Rattle.capture_ages.specs.declared.Watch.{Watch}
+use Rattle.capture_ages.specs.Clock.{began}
+use Rattle.capture_watch.specs.Follow.{Seen, seen, followed, metIn}
 use Rattle.capture_watch.proofs.Passed.{passed-whole}
 use Rattle.capture_watch.proofs.Pieces.{in-pieces}
 use Rattle.report_beside.specs.Whole.{Tally, tally, none, unheard, seenAfter, waiting, after}

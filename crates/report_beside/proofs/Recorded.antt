@@ -26,11 +26,13 @@ use Rattle.capture_log.specs.Log.{fresh, left, answered, largest, above}
 use Rattle.capture_log.specs.Records.{events, size, eventsIn, heard}
 use Rattle.capture_tally.specs.Pieces.{most}
 use Rattle.capture_compare.proofs.Told.{left-whole, answers-whole, largest-whole, above-whole}
-use Rattle.capture_watch.specs.Ages.{clock, broken, soon, whose, beyond}
-use Rattle.capture_watch.specs.Follow.{began, Seen}
+use Rattle.capture_ages.specs.Ages.{clock, broken, soon, whose, beyond}
+use Rattle.capture_ages.specs.Clock.{began}
+use Rattle.capture_watch.specs.Follow.{Seen}
 use Rattle.capture_watch.proofs.Means.{ofStream, Keeps, overdue-means}
 use Rattle.capture_watch.proofs.Passed.{passed-count, passed-means}
-use Rattle.report_capture.proofs.Same.{Agree, clean-same, capture-same}
+use Rattle.report_faults.proofs.Same.{Agree, clean-same}
+use Rattle.report_capture.proofs.Same.{capture-same}
 use Rattle.report_beside.specs.Whole.{none, seenAfter, lateOf, textOf, cleanOf, laid, figures, tallyOf, watchOf, heardReport, heardClean, laidReport, laidClean, besideReport, besideClean}
 use Rattle.report_beside.specs.Recorded.{aboveAt, lateAt, recordedText, recordedClean, shownReport, shownClean, sheetReport, sheetClean, recordedReport, recordedAccepted}
 use Rattle.report_beside.proofs.Kept.{streams-few}

@@ -5,9 +5,10 @@ use mathlib.Core.List.{List}
 use mathlib.Core.Bool.{Bool}
 use lib.ListN.{length}
 use Rattle.text.specs.Text.{item}
-use Rattle.capture_watch.specs.declared.Watch.{Watch}
+use Rattle.capture_ages.specs.declared.Watch.{Watch}
 use Rattle.capture_watch.specs.Follow.{overdueRun}
-use Rattle.report_capture.specs.Shown.{clean, captureText}
+use Rattle.report_faults.specs.Faults.{clean}
+use Rattle.report_capture.specs.Shown.{captureText}
 use Rattle.report_beside.specs.declared.Hearing.{Hearing}
 use Rattle.report_beside.specs.declared.Reported.{Reported}
 use Rattle.report_beside.specs.Whole.{Tally, tally, none, textOf, cleanOf}

@@ -16,9 +16,10 @@ use Rattle.pnet_bounds.specs.Bounded.{boundOf, masterOf, spacingOf, jitterOf}
 use Rattle.capture_log.specs.declared.Event.{Event}
 use Rattle.capture_log.specs.Log.{fresh, left, answered, largest, above}
 use Rattle.capture_log.specs.Records.{events, heard}
-use Rattle.capture_watch.specs.Ages.{broken, soon, whose, beyond}
+use Rattle.capture_ages.specs.Ages.{broken, soon, whose, beyond}
 use Rattle.report_phrases.specs.Phrases.{refusalText}
-use Rattle.report_capture.specs.Shown.{clean, captureText, captureRefusal}
+use Rattle.report_faults.specs.Faults.{clean}
+use Rattle.report_capture.specs.Shown.{captureText, captureRefusal}
 use Rattle.report_beside.specs.Whole.{laid}
 
 -- the stream at index i has answers above its bound, and a request open for longer

@@ -8,8 +8,8 @@ use Rattle.sheet_read.specs.Whole.{Outcome}
 use Rattle.sheet_read.specs.Whole.Outcome.{Read, Not}
 use Rattle.capture_tally.specs.declared.Taken.{Taken}
 use Rattle.capture_tally.specs.declared.Taken.the-variants as taken
-use Rattle.capture_watch.specs.declared.Watch.{Watch}
-use Rattle.capture_watch.specs.Follow.{began}
+use Rattle.capture_ages.specs.declared.Watch.{Watch}
+use Rattle.capture_ages.specs.Clock.{began}
 use Rattle.report_phrases.specs.Phrases.{refusalText}
 use Rattle.report_capture.specs.Shown.{captureRefusal}
 use Rattle.report_beside.specs.declared.Hearing.{Hearing}

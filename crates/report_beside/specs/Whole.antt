@@ -15,10 +15,12 @@ use Rattle.pnet_bounds.specs.Bounded.{bounded, boundOf, masterOf, spacingOf, ji
 use Rattle.capture_log.specs.Log.{Before, fresh}
 use Rattle.capture_log.specs.Records.{size, heard}
 use Rattle.capture_tally.specs.Pieces.{most, before, leftAfter, sinceAfter, answersAfter, largestAfter, aboveAfter}
-use Rattle.capture_watch.specs.declared.Watch.{Watch}
-use Rattle.capture_watch.specs.Follow.{began, Seen, seen, followed, metIn, overdueRun}
+use Rattle.capture_ages.specs.declared.Watch.{Watch}
+use Rattle.capture_ages.specs.Clock.{began}
+use Rattle.capture_watch.specs.Follow.{Seen, seen, followed, metIn, overdueRun}
 use Rattle.report_phrases.specs.Phrases.{refusalText}
-use Rattle.report_capture.specs.Shown.{clean, captureText, captureRefusal}
+use Rattle.report_faults.specs.Faults.{clean}
+use Rattle.report_capture.specs.Shown.{captureText, captureRefusal}
 
 -- ---- What is kept of a capture
 

@@ -1,8 +1,8 @@
 // The report of a tester's capture beside a P-NET sheet, page 02 'Ask 1', from the bytes of both. The capture comes piece by piece, each but the
 // last ended by a record: `begin` with the sheet, `hear` each piece, `report` behind the last. What is kept between is one place for each
 // stream in eleven runs, which the caller lends to all three.
+use capture_ages::Watch;
 use capture_tally::Taken;
-use capture_watch::Watch;
 use pnet_plan::Plan;
 use report_capture::MOST_TEXT;
 use sheet_read::MOST;
@@ -118,7 +118,7 @@ pub fn begin(
         } => Begun::On(Hearing {
             streams,
             bytes: 0,
-            watch: capture_watch::start(),
+            watch: capture_ages::start(),
         }),
         Plan::Refused { no, place } => Begun::Refused(refuse_sheet(out, no, place)),
     }
@@ -219,7 +219,7 @@ pub fn report(
         watch.whose,
         broken,
     );
-    if report_capture::is_clean(streams, answers, above, &late, soon, broken) {
+    if report_faults::is_clean(streams, answers, above, &late, soon, broken) {
         Reported::Clean(n)
     } else {
         Reported::Faulty(n)

@@ -1,57 +1,16 @@
 -- Runs that agree at the first n places make one report of n streams. Assumes nothing.
 use mathlib.Core.Path.{_≡_, refl, ap, _∙_}
 use mathlib.Core.List.{List, _++_}
-use mathlib.Core.Bool.{Bool, not}
-use Prim.Native.Nat.{ℕ, _<_}
-use native.Mathlib.Omega.{arith}
-use lib.Dec.{eqb}
-use Rattle.common.specs.Sums.{when}
-use Rattle.common.proofs.Firsts.{first-same}
-use Rattle.common.proofs.FromZero.{sum-same}
+use mathlib.Core.Bool.{Bool}
+use Prim.Native.Nat.{ℕ}
 use Rattle.text.specs.Text.{word, texts}
 use Rattle.text.proofs.Writing.{texts-same}
-use Rattle.report_capture.specs.Shown.{streamAt, exceeds, exceeding, first, streamsLine, agesLines, silenceLine, faultLines, clean, lastLines, captureText}
-
--- below n
-abbrev pub Agree : ℕ → (ℕ → ℕ) → (ℕ → ℕ) → Type 0
-Agree n f g = (i : ℕ) → i < n → f i ≡ g i
-
-module _ (n : ℕ) (f g : ℕ → ℕ) (e : Agree n f g) where
-  exceeding-same : exceeding f n ≡ exceeding g n
-  unfolding exceeding exceeds
-  exceeding-same =
-      sum-same (λ i. when (exceeds f i) 1) (λ i. when (exceeds g i) 1) n (λ i l. ap (λ (x : ℕ). when (not (eqb x 0)) 1) (e i l))
-
-  first-alike : first f n ≡ first g n
-  unfolding first exceeds
-  first-alike = first-same (exceeds f) (exceeds g) n 0 (λ i lo hi. ap (λ (x : ℕ). not (eqb x 0)) (e i (omega arith)))
-
-  streams-same : (words : List ℕ) → streamsLine words f n ≡ streamsLine words g n
-  unfolding streamsLine
-  streams-same words = rw (exceeding-same, first-alike) refl
+use Rattle.report_faults.specs.Faults.{lastLines}
+use Rattle.report_faults.proofs.Same.{Agree, last-same}
+use Rattle.report_capture.specs.Shown.{streamAt, captureText}
 
 module _ (n : ℕ) (above above' late late' answers answers' : ℕ → ℕ) (a : Agree n above above') (l : Agree n late late') (r : Agree n answers answers')
     (soon whose : ℕ) (broken : Bool) where
-  pub clean-same : clean above late answers soon broken n ≡ clean above' late' answers' soon broken n
-  unfolding clean
-  clean-same = rw (exceeding-same n above above' a, exceeding-same n late late' l, exceeding-same n answers answers' r) refl
-
-  ages-same : agesLines late soon whose broken n ≡ agesLines late' soon whose broken n
-  unfolding agesLines
-  ages-same = rw (streams-same n late late' l (word "requests open beyond the bound in ")) refl
-
-  silence-same : silenceLine answers n ≡ silenceLine answers' n
-  unfolding silenceLine
-  silence-same = rw (exceeding-same n answers answers' r) refl
-
-  faults-same : faultLines above late answers soon whose broken n ≡ faultLines above' late' answers' soon whose broken n
-  unfolding faultLines
-  faults-same = rw (streams-same n above above' a (word "answers above the bound in "), ages-same, silence-same) refl
-
-  last-same : lastLines above late answers soon whose broken n ≡ lastLines above' late' answers' soon whose broken n
-  unfolding lastLines
-  last-same = rw (clean-same, faults-same) refl
-
   pub capture-same : (masters masters' bound bound' largest largest' left left' : ℕ → ℕ) → Agree n masters masters' → Agree n bound bound' → Agree n largest largest'
       → Agree n left left'
       → captureText masters bound largest answers above left late soon whose broken n ≡ captureText masters' bound' largest' answers' above' left' late' soon whose broken n
@@ -61,4 +20,4 @@ module _ (n : ℕ) (above above' late late' answers answers' : ℕ → ℕ) (a :
       texts-same (streamAt masters bound largest answers above left) (streamAt masters' bound' largest' answers' above' left') n
       (λ i h. rw (m i h, b i h, g i h, r i h, a i h, o i h) refl) in
       ap (λ (t : List ℕ). word "P-NET capture\n" ++ (t ++ lastLines above late answers soon whose broken n)) lines
-      ∙ ap (λ (t : List ℕ). word "P-NET capture\n" ++ (texts (streamAt masters' bound' largest' answers' above' left') n ++ t)) last-same
+      ∙ ap (λ (t : List ℕ). word "P-NET capture\n" ++ (texts (streamAt masters' bound' largest' answers' above' left') n ++ t)) (last-same n above above' late late' answers answers' a l r soon whose broken)

@@ -1,5 +1,7 @@
 // The report of a tester's capture beside the bounds of a P-NET sheet, page 02 'Ask 1'. What does not fit into the lent run is left
 // out; each function answers the place just after what it wrote.
+use report_faults::put_last;
+use report_faults::shown;
 use report_phrases::put_name;
 use report_phrases::put_two;
 use sheet_read::MOST;
@@ -10,8 +12,7 @@ ghost use mathlib.Core.Path.{_≡_};
 ghost use Prim.Native.Nat.{_*_, _≤_, min};
 ghost use lib.ListN.{length};
 ghost use Rattle.text.specs.Text.{Zeros, Wrote, item, texts};
-ghost use Rattle.report_capture.specs.Shown;
-ghost use Rattle.report_capture.specs.Shown.{mostCapture, mostLine, whoseText, countsText, streamLine, streamAt, streamsLine, soonLine, agesLines, silenceLine, faultLines, lastLines, captureText, captureRefusal};
+ghost use Rattle.report_capture.specs.Shown.{mostCapture, mostLine, whoseText, countsText, streamLine, streamAt, captureText, captureRefusal};
 
 // No report of a capture is longer.
 pub const MOST_TEXT: usize = 126_660;
@@ -96,167 +97,6 @@ fn put_streams(
     next
 }
 
-// How many of the first n streams have a figure other than 0 in a run.
-fn exceeding(run: &[u64; MOST], n: usize) -> u64
-    requires { ⌜ n ≤ 800 ⌝ }
-    ensures { λ r. ⌜ r ≡ Shown.exceeding (item (now (run .entry))) n ⌝ }
-{
-    let mut count: u64 = 0;
-    let mut i = 0;
-    while i < n {
-        if run[i] > 0 {
-            count += 1;
-        }
-        i += 1;
-    }
-    count
-}
-
-// The index of the first of them.
-fn first(run: &[u64; MOST], n: usize) -> u64
-    requires { ⌜ n ≤ 800 ⌝ }
-    ensures { λ r. ⌜ r ≡ Shown.first (item (now (run .entry))) n ⌝ }
-{
-    let mut i = 0;
-    while i < n {
-        if run[i] != 0 {
-            return i as u64;
-        }
-        i += 1;
-    }
-    i as u64
-}
-
-// Behind the words, how many streams have a figure other than 0 in a run, and the first; nothing where none has.
-fn put_found(out: &mut [u8], at: usize, words: &[u8], run: &[u64; MOST], n: usize) -> usize
-    requires { ⌜ n ≤ 800 ⌝ }
-    ensures { λ r. ⌜ Wrote (now (out .entry)) at (streamsLine (now (words .entry)) (item (now (run .entry))) n) (now (out .exit)) r ⌝ }
-{
-    let count = exceeding(run, n);
-    if count == 0 {
-        return at;
-    }
-    let lowest = first(run, n) + 1;
-    let next = put_counted(out, at, words, count, b" streams, first stream ");
-    put_counted(out, next, b"", lowest, b"\n")
-}
-
-fn put_soon(out: &mut [u8], at: usize, soon: u64, whose: u32) -> usize
-    ensures { λ r. ⌜ Wrote (now (out .entry)) at (soonLine soon whose) (now (out .exit)) r ⌝ }
-{
-    if soon == 0 {
-        return at;
-    }
-    let next = put_counted(
-        out,
-        at,
-        b"requests sooner than their spacing allows ",
-        soon,
-        b" times, first stream ",
-    );
-    put_counted(out, next, b"", whose as u64, b"\n")
-}
-
-// Requests open for too long and requests that came too soon. Records that are far apart hide how long and how soon, so that is said instead.
-fn put_ages(
-    out: &mut [u8],
-    at: usize,
-    late: &[u64; MOST],
-    soon: u64,
-    whose: u32,
-    broken: bool,
-    n: usize,
-) -> usize
-    requires { ⌜ n ≤ 800 ⌝ }
-    ensures { λ r. ⌜ Wrote (now (out .entry)) at (agesLines (item (now (late .entry))) soon whose broken n) (now (out .exit)) r ⌝ }
-{
-    if broken {
-        return put_word(
-            out,
-            at,
-            b"records not in order of time, or none for 2147483648 bp 27962026666667 ns or longer: ages and gaps not known\n",
-        );
-    }
-    let next = put_found(out, at, b"requests open beyond the bound in ", late, n);
-    put_soon(out, next, soon, whose)
-}
-
-fn put_silence(out: &mut [u8], at: usize, answers: &[u64; MOST], n: usize) -> usize
-    requires { ⌜ n ≤ 800 ⌝ }
-    ensures { λ r. ⌜ Wrote (now (out .entry)) at (silenceLine (item (now (answers .entry))) n) (now (out .exit)) r ⌝ }
-{
-    let heard = exceeding(answers, n);
-    if heard == 0 {
-        return put_word(out, at, b"no answer in the whole capture\n");
-    }
-    at
-}
-
-// Whatever is wrong, a line for each.
-fn put_faults(
-    out: &mut [u8],
-    at: usize,
-    answers: &[u64; MOST],
-    above: &[u64; MOST],
-    late: &[u64; MOST],
-    soon: u64,
-    whose: u32,
-    broken: bool,
-    n: usize,
-) -> usize
-    requires { ⌜ n ≤ 800 ⌝ }
-    ensures { λ r. ⌜ Wrote (now (out .entry)) at (faultLines (item (now (above .entry))) (item (now (late .entry))) (item (now (answers .entry))) soon whose broken n) (now (out .exit)) r ⌝ }
-{
-    let ages = put_found(out, at, b"answers above the bound in ", above, n);
-    let silence = put_ages(out, ages, late, soon, whose, broken, n);
-    put_silence(out, silence, answers, n)
-}
-
-// Nothing is wrong. The last lines and is_clean both go by this.
-fn clean(
-    answers: &[u64; MOST],
-    above: &[u64; MOST],
-    late: &[u64; MOST],
-    soon: u64,
-    broken: bool,
-    n: usize,
-) -> bool
-    requires { ⌜ n ≤ 800 ⌝ }
-    ensures { λ r. ⌜ r ≡ Shown.clean (item (now (above .entry))) (item (now (late .entry))) (item (now (answers .entry))) soon broken n ⌝ }
-{
-    let over = exceeding(above, n);
-    let open = exceeding(late, n);
-    let heard = exceeding(answers, n);
-    (over == 0) & (open == 0) & (soon == 0) & !broken & (heard != 0)
-}
-
-fn put_last(
-    out: &mut [u8],
-    at: usize,
-    answers: &[u64; MOST],
-    above: &[u64; MOST],
-    late: &[u64; MOST],
-    soon: u64,
-    whose: u32,
-    broken: bool,
-    n: usize,
-) -> usize
-    requires { ⌜ n ≤ 800 ⌝ }
-    ensures { λ r. ⌜ Wrote (now (out .entry)) at (lastLines (item (now (above .entry))) (item (now (late .entry))) (item (now (answers .entry))) soon whose broken n) (now (out .exit)) r ⌝ }
-{
-    let good = clean(answers, above, late, soon, broken, n);
-    if good {
-        return put_word(out, at, b"every answer within its bound\n");
-    }
-    put_faults(out, at, answers, above, late, soon, whose, broken, n)
-}
-
-fn shown(streams: usize) -> usize
-    ensures { λ r. ⌜ r ≡ min streams 800 ⌝ }
-{
-    if streams < MOST { streams } else { MOST }
-}
-
 // Writes the report at the start of the lent run. More than 800 streams count as 800.
 pub fn put_capture(
     out: &mut [u8],
@@ -279,22 +119,17 @@ pub fn put_capture(
     let n = shown(streams);
     let lines = put_word(out, 0, b"P-NET capture\n");
     let last = put_streams(out, lines, n, masters, bound, largest, answers, above, left);
-    put_last(out, last, answers, above, late, soon, whose, broken, n)
-}
-
-// Whether the report that put_capture writes says that nothing is wrong.
-pub fn is_clean(
-    streams: usize,
-    answers: &[u64; MOST],
-    above: &[u64; MOST],
-    late: &[u64; MOST],
-    soon: u64,
-    broken: bool,
-) -> bool
-    ensures { λ r. ⌜ r ≡ Shown.clean (item (now (above .entry))) (item (now (late .entry))) (item (now (answers .entry))) soon broken (min streams 800) ⌝ }
-{
-    let n = shown(streams);
-    clean(answers, above, late, soon, broken, n)
+    put_last(
+        out,
+        last,
+        streams,
+        answers,
+        above,
+        late,
+        soon,
+        whose,
+        broken,
+    )
 }
 
 // Writes the report of a capture that is refused.

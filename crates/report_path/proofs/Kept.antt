@@ -17,8 +17,9 @@ use Rattle.pnet_path.proofs.Checked.{too-many}
 use Rattle.pnet_path.proofs.Laws.{answer-of-refused, answer-of-others}
 use Rattle.text.specs.Text.{Wrote}
 use Rattle.text.proofs.Writing.{wrote-front}
+use Rattle.report_path_lines.specs.Lines.{sheetRefusal}
 use Rattle.report_path.specs.declared.Reported.the-variants as answer
-use Rattle.report_path.specs.Told.{mostPath, sheetRefusal}
+use Rattle.report_path.specs.Told.{mostPath}
 use Rattle.report_path.specs.Report.{isWithin}
 use Rattle.report_path.specs.Kept.{answerTextOf, reportOf, acceptsOf, told, toldIn, runWith}
 

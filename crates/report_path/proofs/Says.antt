@@ -13,7 +13,7 @@ use Rattle.pnet_path.specs.declared.Crossing.the-variants as crossing
 use Rattle.pnet_path.specs.Path.{Path, crossed}
 use Rattle.pnet_path.specs.Refusals.{Each, FirstBad, Taken, Untaken, Sheets, Given, Accepted}
 use Rattle.pnet_path.proofs.Refusals.{refused-exactly, accepted-exactly}
-use Rattle.report_path.specs.Told.{sheetRefusal, pathRefusal}
+use Rattle.report_path_lines.specs.Lines.{sheetRefusal, pathRefusal}
 use Rattle.report_path.specs.Report.{pathLines, answerText, sheetOr, reportFrom, pathReport, isWithin, pathAccepts}
 
 module _ (P : Path) where

@@ -11,9 +11,10 @@ use Rattle.pnet_path.specs.declared.Way.{Way}
 use Rattle.pnet_path.specs.declared.Crossing.{Crossing}
 use Rattle.pnet_path.specs.declared.Crossing.the-variants as crossing
 use Rattle.text.specs.Text.{item}
+use Rattle.report_path_lines.specs.Lines.{sheetRefusal, pathRefusal}
 use Rattle.report_path.specs.declared.Reported.{Reported}
 use Rattle.report_path.specs.declared.Reported.the-variants as answer
-use Rattle.report_path.specs.Told.{mostPath, pathText, sheetRefusal, pathRefusal}
+use Rattle.report_path.specs.Told.{mostPath, pathText}
 use Rattle.report_path.specs.Report.{isWithin}
 
 -- ---- The report

@@ -10,7 +10,8 @@ use Rattle.units.specs.declared.BitPeriods.{BitPeriods}
 use Rattle.pnet_path.specs.Path.{Path, gateways, sheetAt, boundAt, senderAt, forwardingAt, crossed}
 use Rattle.pnet_path.specs.declared.Crossing.{Crossing}
 use Rattle.pnet_path.specs.declared.Crossing.the-variants as crossing
-use Rattle.report_path.specs.Told.{pathText, sheetRefusal, pathRefusal}
+use Rattle.report_path_lines.specs.Lines.{sheetRefusal, pathRefusal}
+use Rattle.report_path.specs.Told.{pathText}
 
 -- ---- The text
 

@@ -2,19 +2,18 @@
 // answers the place just after what it wrote.
 use pnet_path::Crossing;
 use pnet_path::Way;
-use report_phrases::put_both;
-use report_phrases::put_bp;
-use report_phrases::put_name;
-use text::put_counted;
+use report_path_lines::put_gateway;
+use report_path_lines::put_path_refusal;
+use report_path_lines::put_segment;
+use report_path_lines::put_sheet_refusal;
+use report_path_lines::put_total;
 use text::put_word;
 use units::BitPeriods;
 ghost use mathlib.Core.Path.{_≡_};
-ghost use mathlib.Core.List.{_++_};
 ghost use Prim.Native.Nat.{_≤_};
 ghost use lib.ListN.{length};
-ghost use Rattle.text.specs.Text.{Zeros, Wrote, word, item, texts};
-ghost use Rattle.report_phrases.specs.Phrases.{inBp};
-ghost use Rattle.report_path.specs.Told.{mostPath, segmentLine, gatewayLine, hopLines, totalLine, sheetRefusal, pathPlace, pathRefusal};
+ghost use Rattle.text.specs.Text.{Zeros, Wrote, item, texts};
+ghost use Rattle.report_path.specs.Told.{mostPath, hopLines};
 ghost use Rattle.report_path.specs.Kept.{countAt, linesOf, reportOf, acceptsOf, toldIn, runWith};
 
 // No report of a path is longer.
@@ -33,30 +32,6 @@ pub fn text_buffer() -> [u8; MOST_TEXT]
     ensures { λ r. ⌜ Zeros mostPath r ⌝ }
 {
     [0; MOST_TEXT]
-}
-
-// A count at the end of its line.
-fn put_end(out: &mut [u8], at: usize, before: &[u8], b: BitPeriods) -> usize
-    ensures { λ r. ⌜ Wrote (now (out .entry)) at ((now (before .entry) ++ inBp b) ++ word "\n") (now (out .exit)) r ⌝ }
-{
-    let end = put_bp(out, at, before, b);
-    put_word(out, end, b"\n")
-}
-
-fn put_segment(out: &mut [u8], at: usize, number: u64, master: u8, bound: BitPeriods) -> usize
-    ensures { λ r. ⌜ Wrote (now (out .entry)) at (segmentLine number master bound) (now (out .exit)) r ⌝ }
-{
-    let name = put_counted(out, at, b"segment ", number, b" ");
-    let figure = put_name(out, name, master as u64);
-    put_end(out, figure, b" bound ", bound)
-}
-
-fn put_gateway(out: &mut [u8], at: usize, number: u64, time: BitPeriods) -> usize
-    ensures { λ r. ⌜ Wrote (now (out .entry)) at (gatewayLine number time) (now (out .exit)) r ⌝ }
-{
-    let request = put_counted(out, at, b"gateway ", number, b" request ");
-    let reply = put_bp(out, request, b"", time);
-    put_end(out, reply, b" reply ", time)
 }
 
 // The lines of n gateways, each with the segment behind it.
@@ -81,13 +56,6 @@ fn put_hops(
     next
 }
 
-fn put_total(out: &mut [u8], at: usize, total: BitPeriods, deadline: BitPeriods) -> usize
-    ensures { λ r. ⌜ Wrote (now (out .entry)) at (totalLine total deadline) (now (out .exit)) r ⌝ }
-{
-    let next = put_both(out, at, b"total ", total);
-    put_end(out, next, b" deadline ", deadline)
-}
-
 // The lines of a path that is accepted: it has eleven segments at most, and all are kept.
 fn put_path(out: &mut [u8], way: Way, total: BitPeriods, deadline: BitPeriods) -> usize
     requires { ⌜ (1 ≤ way .segments) × (way .segments ≤ 11) ⌝ }
@@ -101,41 +69,6 @@ fn put_path(out: &mut [u8], way: Way, total: BitPeriods, deadline: BitPeriods) -
     let hops = put_segment(out, first, 1, masters[1], bounds[1]);
     let last = put_hops(out, hops, n, masters, bounds, times);
     put_total(out, last, total, deadline)
-}
-
-// The sheet of this segment is refused for itself.
-fn put_sheet_refusal(out: &mut [u8], segment: u64, no: u8, place: u64) -> usize
-    ensures { λ r. ⌜ Wrote (now (out .entry)) 0 (sheetRefusal segment no place) (now (out .exit)) r ⌝ }
-{
-    let next = report_phrases::put_refused(out, 0, no, place, b" of segment ");
-    put_counted(out, next, b"", segment, b"\n")
-}
-
-// The place of a path's refusal in words, and the line's end.
-fn put_path_place(out: &mut [u8], at: usize, no: u8, place: u64) -> usize
-    ensures { λ r. ⌜ Wrote (now (out .entry)) at (pathPlace no place) (now (out .exit)) r ⌝ }
-{
-    if no == 17 {
-        return put_counted(out, at, b" at ", place, b" gateways\n");
-    }
-    if no == 18 {
-        return put_counted(out, at, b" at segment ", place, b"\n");
-    }
-    if no != 4 {
-        return put_word(out, at, b"\n");
-    }
-    if place == 0 {
-        return put_word(out, at, b" at deadline\n");
-    }
-    put_counted(out, at, b" at gateway ", place, b"\n")
-}
-
-// The path is refused for itself.
-fn put_path_refusal(out: &mut [u8], no: u8, place: u64) -> usize
-    ensures { λ r. ⌜ Wrote (now (out .entry)) 0 (pathRefusal no place) (now (out .exit)) r ⌝ }
-{
-    let next = put_counted(out, 0, b"refused ", no as u64, b"");
-    put_path_place(out, next, no, place)
 }
 
 // Writes the report of the path that was handed over, with its deadline, at the start of the lent run; later bytes keep what they had.

@@ -4,8 +4,8 @@ use crate::words::say_plan;
 use crate::words::say_refused;
 use crate::words::say_run;
 use crate::words::say_watch;
+use capture_ages::Watch;
 use capture_tally::Taken;
-use capture_watch::Watch;
 ghost use Prim.Native.Nat.{_≤_, _<_};
 
 // Where the piece that begins at a place ends: it has at least one byte.
@@ -62,7 +62,7 @@ fn follow_by(
     asked: &mut [u64; 800],
     lead: &mut [u32; 800],
 ) -> Watch {
-    let mut w = capture_watch::start();
+    let mut w = capture_ages::start();
     let mut at: usize = 0;
     while at < c.len() {
         let end = end_of(c.len(), at, size);

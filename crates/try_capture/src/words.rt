@@ -1,5 +1,5 @@
 // What the program says.
-use capture_watch::Watch;
+use capture_ages::Watch;
 use libc::STDOUT_FILENO;
 use pnet_plan::Plan;
 

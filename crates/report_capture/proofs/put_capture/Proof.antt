@@ -30,9 +30,10 @@ unfolding captureText
 returns c =
     let start = c .before .before .before .before .before .before .before .before .before .before .before .before .before .before .before in
     let lines = c .before .before .before .before .before .before .put-streams .ensures in
-    rw (← c .before .before .before .before .before .before .before .before .before .before .before .before .before .shown .ensures) (
+    let shown = c .before .before .before .before .before .before .before .before .before .before .before .before .before .shown .ensures in
+    rw (← shown) (
       wrote-then (c .before .before .before .before .before .before .before .before .before .before .put-word .ensures)
-          (wrote-then (lines .0) (c .before .before .put-last .ensures)),
+          (wrote-then (lines .0) (rw shown (c .before .before .put-last .ensures))),
       no-capture-longer _ _ _ _ _ _ _ _ _ _ _ (omega (arith, start)) (omega (arith, start)) (omega arith) (lines .1),
     )
 

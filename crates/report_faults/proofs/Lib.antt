@@ -1,0 +1,5 @@
+pub mod Counts
+pub mod Examples
+pub mod Lengths
+pub mod Same
+pub mod Verdict
