@@ -25,6 +25,7 @@ NAMES = {
     5: "WorldFIP",
     6: "WorldFIP variable",
     7: "P-NET stream with jitter",
+    8: "P-NET edition",
 }
 # each field's bytes, name and unit
 FIELDS = {
@@ -39,11 +40,24 @@ FIELDS = {
     4: [(1, "master", ""), (4, "cycle C", " bp"), (4, "deadline D", " bp")],
     5: [(4, "one buffer exchange E", " us")],
     6: [(2, "identifier", ""), (4, "period", " us")],
+    8: [(1, "edition", "")],
 }
 FIELDS[7] = FIELDS[2] + [(4, "release jitter J", " bp")]
 
 FOUR_MASTERS = [(1, 4)] + [(2, y, 203, 100_000, 2_000) for y in (1, 1, 2, 2, 3, 3, 4, 4)]
 LATE_THIRD = (2, 2, 203, 100_000, 1_999)
+
+
+def of_edition(edition, deadline):
+    """Two masters with H of 250 and 350 bp, and a silent one; the deadline is master 2's."""
+    return [
+        (1, 3),
+        (8, edition),
+        (2, 1, 203, 100_000, 100_000),
+        (2, 1, 203, 100_000, 100_000),
+        (2, 2, 303, 100_000, deadline),
+    ]
+
 
 # Source 004's plant: 5 ms are 384 bp, so its spacings are whole numbers of bp
 MS_100, MS_200, MS_300, MS_500 = 7_680, 15_360, 23_040, 38_400
@@ -127,6 +141,40 @@ SAMPLES = [
         "M03 bound 1240 bp 16145834 ns refined 1000 bp 13020834 ns 1 rounds\n",
     ),
     (
+        "pnet-first-edition",
+        "Accepted. The edition of the rule is written, and it is 1, as where none is: each master\n"
+        "is charged the longest time that it holds the token itself, and the silent one 10 bp. So\n"
+        "V is 250 + 350 + 10 = 610 bp.",
+        of_edition(1, 1_050),
+        0,
+        "P-NET segment\n"
+        "M01 bound 1220 bp 15885417 ns refined 880 bp 11458334 ns 1 rounds\n"
+        "M02 bound 610 bp 7942709 ns refined 610 bp 7942709 ns 1 rounds\n",
+    ),
+    (
+        "pnet-second-edition",
+        "Accepted, stream 3 just at its bound. The segment of pnet-first-edition under edition 2,\n"
+        "the rule of source 003: every master is charged the longest time that any one of them\n"
+        "holds the token, master 2's 350 bp, and the silent one too. So V is 3 * 350 = 1,050 bp,\n"
+        "and stays that whichever master gets one more stream, if its C is 303 bp at most.\n"
+        "\n"
+        "A visit that is not used saves 340 bp in the refined figures, at the silent master too:\n"
+        "master 1 has 2,100 - 340 - 2 * 340 bp, and master 2 has 1,050 - 340 bp.",
+        of_edition(2, 1_050),
+        0,
+        "P-NET segment\n"
+        "M01 bound 2100 bp 27343750 ns refined 1080 bp 14062500 ns 1 rounds\n"
+        "M02 bound 1050 bp 13671875 ns refined 710 bp 9244792 ns 1 rounds\n",
+    ),
+    (
+        "pnet-second-edition-late",
+        "Refused with 8. The deadline of stream 3 is one bp below its bound under edition 2; under\n"
+        "edition 1 its bound is 610 bp, and it would pass.",
+        of_edition(2, 1_049),
+        0,
+        "refused 8 at stream 3\n",
+    ),
+    (
         "pnet-release-jitter",
         "Accepted. Stream 6, of master 3, is sporadic: its nominal times are at least 100 ms\n"
         "apart (T, 7,680 bp), and a request comes up to 80 ms late (J, 6,144 bp), so two may\n"
@@ -208,6 +256,13 @@ SAMPLES = [
         [(1, 2), (2, 1, 203, 100_000, 100_000), (2, 2, 203, 100_000, 100_000)],
         7,
         "refused 1 at byte 14\n",
+    ),
+    (
+        "damaged-edition",
+        "Refused with 3. The edition may stand just behind the segment, and nowhere else.",
+        [(1, 2), (2, 1, 203, 100_000, 100_000), (8, 2), (2, 2, 203, 100_000, 100_000)],
+        0,
+        "refused 3 at byte 14\n",
     ),
 ]
 
@@ -560,6 +615,19 @@ PATHS = [
         "total 3060 bp 39843750 ns deadline 3060 bp\n",
     ),
     (
+        "path-both-editions",
+        "Accepted, just at the deadline. Each segment goes by its own edition: master 2 of the first\n"
+        "asks, and has 610 bp; master 1 of the second is the gateway, and has 2,100 bp.",
+        [("pnet-first-edition", 2), ("pnet-second-edition", 1)],
+        [30],
+        2_770,
+        "P-NET path\n"
+        "segment 1 M02 bound 610 bp\n"
+        "gateway 1 request 30 bp reply 30 bp\n"
+        "segment 2 M01 bound 2100 bp\n"
+        "total 2770 bp 36067709 ns deadline 2770 bp\n",
+    ),
+    (
         "path-late",
         "Refused with 19. The deadline is one bp below the total.",
         [("pnet-two-masters", 1), ("pnet-four-masters", 2)],
@@ -638,13 +706,14 @@ def record(kind, *numbers):
 
 def record_lines(records, cut):
     lines = []
-    place = 0
-    for index, (kind, *numbers) in enumerate(records):
+    place = count = 0
+    for kind, *numbers in records:
         length = len(record(kind, *numbers))
         line = "byte %d: %s" % (place, NAMES[kind])
         # streams and variables are numbered
-        if index > 0:
-            line += " %d" % index
+        if kind in second_opinion.STREAM_KINDS[records[0][0]]:
+            count += 1
+            line += " %d" % count
         if place + length > sum(len(record(*r)) for r in records) - cut:
             line += ", cut after %d of %d bytes" % (length - cut, length)
         else:

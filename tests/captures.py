@@ -132,14 +132,14 @@ def closely_asked(rng):
 
 
 def small_sheet(rng):
-    """Streams of kind 2, and in half of the sheets some of kind 7."""
+    """Streams of kind 2, and in half of the sheets some of kind 7; under either edition."""
     masters = rng.randint(1, 6)
     share = rng.choice([0, 0, 0.3, 1])
     streams = []
     for _ in range(rng.randint(1, 12)):
         stream = [rng.randint(1, masters), rng.randint(1, 300), 900_000, rng.randint(500_000, 900_000)]
         streams.append(sheets_pnet.with_jitter(rng, stream) if rng.random() < share else stream)
-    return sheets_pnet.pnet_sheet(masters, streams)
+    return sheets_pnet.pnet_sheet(masters, streams, sheets_pnet.pnet_edition(rng))
 
 
 # ---------------------------------------------------------------- damage
@@ -239,6 +239,16 @@ def edges(rng):
     two = sheets_pnet.pnet_sheet(1, [(1, 203, 1_000, 1_000)] * 2)
     for later in (498, 499, 500, 501, 502):
         yield "open until %d" % later, two, event(REQUEST, 1, 0) + event(REQUEST, 2, later) + event(ANSWER, 2, later)
+    # a silent master beside it: the bound is 260 bp, and under edition 2 500 bp
+    for edition in (1, 2):
+        silent = sheets_pnet.pnet_sheet(2, [(1, 203, 1_000, 1_000)], edition)
+        for took in (260, 261, 500, 501):
+            yield "edition %d, answered after %d" % (edition, took), silent, event(REQUEST, 1, COUNTER - 9) + event(ANSWER, 1, COUNTER - 9 + took)
+        beside = sheets_pnet.pnet_sheet(3, [(1, 203, 9_999, 9_999), (2, 103, 9_999, 9_999)], edition)
+        for later in (410, 411, 750, 751):
+            yield "edition %d, open until %d" % (edition, later), beside, event(REQUEST, 1, 0) + event(REQUEST, 2, later) + event(ANSWER, 2, later)
+    yield "beside a deadline too short under edition 2", sheets_pnet.pnet_sheet(2, [(1, 203, 499, 499)], 2), asked
+    yield "beside edition 3", sheets_pnet.pnet_sheet(2, [(1, 203, 499, 499)], 3), asked
     for apart in (COUNTER // 2 - 1, COUNTER // 2, COUNTER - 1):
         yield "%d bp apart" % apart, one, asked + event(REQUEST, 1, apart - 400) + event(ANSWER, 1, apart - 399)
     day = b"".join(event(kind, 2, 2_000_000_000 * n + kind) for n in range(1, 9) for kind in (REQUEST, ANSWER))

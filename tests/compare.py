@@ -34,7 +34,7 @@ LEAST_OF_EACH = 10
 ACCEPTED = ["P-NET segment", "PROFIBUS ring", "WorldFIP table", "P-NET path"]
 OF_SHEETS = ["accepted, " + head for head in ACCEPTED[:3]] + [
     "refused %d" % number for number in range(1, 13)
-] + ["accepted, P-NET segment, by J"]
+] + ["accepted, P-NET segment, by J", "accepted, P-NET segment, by edition 2", "refused 8, by edition 2"]
 OF_CAPTURES = [
     "every answer within its bound",
     "answers above the bound",
@@ -44,15 +44,18 @@ OF_CAPTURES = [
     "no answer in the whole capture",
 ] + [
     "capture refused %d" % number for number in (1, 2, 14, 15, 16)
-] + ["refused 23", "every answer within its bound, by J", "requests sooner than their spacing allows, by J"]
-OF_PATHS = ["accepted, P-NET path", "sheet of a path refused", "text of a path refused 23"] + [
-    "path refused %d" % number for number in (4, 17, 18, 19)
+] + [
+    "refused 23", "every answer within its bound, by J", "requests sooner than their spacing allows, by J",
+    "every answer within its bound, by edition 2",
 ]
+OF_PATHS = ["accepted, P-NET path", "accepted, P-NET path, of both editions", "sheet of a path refused", "text of a path refused 23"] + [
+    "path refused %d" % number for number in (4, 17, 18, 19)
+] + ["path refused 19, by edition 2"]
 # a text never stands for a cut record or an unknown kind, and for a ring not before its first record has a word
-OF_TEXTS = ["import accepted, kind 1", "import accepted, kind 5"] + [
+OF_TEXTS = ["import accepted, kind 1", "import accepted, kind 1 with kind 8", "import accepted, kind 5"] + [
     "import refused %d" % number for number in (1, 3, 4, 5, 6, 7, 23)
 ] + [
-    "export accepted, kind 1", "export accepted, kind 5", "export refused 2 for kind 3", "export refused by reading", "export refused 23",
+    "export accepted, kind 1", "export accepted, kind 1 with kind 8", "export accepted, kind 5", "export refused 2 for kind 3", "export refused by reading", "export refused 23",
 ] + ["report of it: " + one for one in ("accepted, P-NET segment", "accepted, WorldFIP table", "refused 23")]
 
 
@@ -119,13 +122,29 @@ def without_jitter(data):
     return b"".join(second_opinion.record_of(2, fields[:4]) if kind == 7 else second_opinion.record_of(kind, fields) for kind, fields in records)
 
 
+def under_edition_1(data):
+    """The same sheet with no edition written."""
+    records = second_opinion.read(data).records
+    return b"".join(second_opinion.record_of(kind, fields) for kind, fields in records if kind != 8)
+
+
+CAUSES = {"edition 2": under_edition_1, "J": without_jitter}
+
+
+def with_cause(one, outcomes, data, shown, expected):
+    """The outcome of a sheet that reads, and what it is by: what the sheet has, and without which it would show something else."""
+    for cause, without in CAUSES.items():
+        named = "%s, by %s" % (one, cause)
+        if named in outcomes and shown(without(data)) != expected:
+            return named
+    return one
+
+
 def compare_sheet(task):
     program, name, data = task
     expected = second_opinion.report(data)
     one, difference = compare_one((program, "sheet: " + name, data, data, expected))
-    if one == "accepted, P-NET segment" and second_opinion.report(without_jitter(data)) != expected:
-        one += ", by J"
-    return one, difference
+    return with_cause(one, OF_SHEETS, data, second_opinion.report, expected), difference
 
 
 def compare_pair(task):
@@ -143,9 +162,23 @@ def compare_pair(task):
         given = (data, capture, b"")[way]
         label = "sheet %s beside capture: %s" % (shortened(data.hex(), 400), name)
         one, difference = compare_one((program + names, label, capture, given, expected))
-        if one + ", by J" in OF_CAPTURES and second_opinion.capture_report(without_jitter(second_opinion.sheet_given(data)), capture) != expected:
-            one += ", by J"
-        return one, difference
+
+    def found(sheet):
+        return second_opinion.capture_lines(sheet, capture)[-1]
+
+    return with_cause(one, OF_CAPTURES, second_opinion.sheet_given(data), found, found(data)), difference
+
+
+def path_with_cause(one, segments, times, deadline):
+    """The outcome of a path, and whether the editions of its segments have to do with it."""
+    named = {"accepted, P-NET path": "accepted, P-NET path, of both editions", "path refused 19": "path refused 19, by edition 2"}.get(one)
+    if not named:
+        return one
+    given = [(second_opinion.sheet_given(data), master) for data, master in segments]
+    if one == "path refused 19":
+        first = [(under_edition_1(data), master) for data, master in given]
+        return one if isinstance(second_opinion.cross_path(first, times, deadline), Refusal) else named
+    return named if {second_opinion.read(data).edition for data, _ in given} == {1, 2} else one
 
 
 def compare_path(task):
@@ -164,20 +197,27 @@ def compare_path(task):
             words += ([str(times[number - 1]), "bp"] if number else []) + [file_name, str(master)]
         label = "path %s | %s bp | %d bp: %s" % (
             ", ".join("%s:%d" % (shortened(data.hex(), 200), master) for data, master in segments), times, deadline, name)
-        return compare_one((program + words, label, b"", given, expected))
+        one, difference = compare_one((program + words, label, b"", given, expected))
+    return path_with_cause(one, segments, times, deadline), difference
 
 
 FILTERS = {"--import": second_opinion.import_text, "--export": second_opinion.export_given}
 
 
+def kinds_of(sheet):
+    """The kind of a sheet's first record, and that of the second where it is no stream."""
+    second = sheet.records[1][0]
+    return "kind %d" % sheet.kind + ("" if second in second_opinion.STREAM_KINDS[sheet.kind] else " with kind %d" % second)
+
+
 def outcome_of_filter(command, given, answer):
     if command == "--import":
-        return "import " + ("refused %d" % answer.number if isinstance(answer, Refusal) else "accepted, kind %d" % answer[0])
+        return "import " + ("refused %d" % answer.number if isinstance(answer, Refusal) else "accepted, " + kinds_of(second_opinion.read(answer)))
     data = second_opinion.sheet_given(given)
     sheet = data if isinstance(data, Refusal) else second_opinion.read(data)
     if isinstance(sheet, Refusal):
         return "export refused 23" if sheet.number == 23 else "export refused by reading"
-    return "export %s kind %d" % ("refused 2 for" if isinstance(answer, Refusal) else "accepted,", sheet.kind)
+    return "export %s %s" % ("refused 2 for" if isinstance(answer, Refusal) else "accepted,", kinds_of(sheet))
 
 
 def compare_filter(words, label, command, given, data, called):

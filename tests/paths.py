@@ -24,7 +24,7 @@ def small_segment(rng):
         for _ in range(rng.randint(1, 12))
     ]
     streams = [sheets_pnet.with_jitter(rng, stream) if rng.random() < 0.3 else stream for stream in streams]
-    return sheets_pnet.pnet_sheet(masters, streams), rng.choice(streams)[0]
+    return sheets_pnet.pnet_sheet(masters, streams, sheets_pnet.pnet_edition(rng)), rng.choice(streams)[0]
 
 
 def time(rng):
@@ -44,6 +44,17 @@ def missed(rng):
     segments, times, _ = good(rng)
     total = second_opinion.cross_path(segments, times, BILLION).total
     return segments, times, rng.choice([total - 1, 1, rng.randint(1, total - 1)])
+
+
+def other_edition(rng):
+    """A segment under another edition than it was made for, and the deadline as it was: it may now be missed."""
+    segments, times, deadline = good(rng)
+    at = rng.randrange(len(segments))
+    data, master = segments[at]
+    n, edition, streams = sheets_pnet.parts_of(data)
+    other = rng.choice([None, 1]) if edition == 2 else rng.choice([2, 2, 2, 3])
+    segments[at] = (sheets_pnet.pnet_sheet(n, streams, other), master)
+    return segments, times, deadline
 
 
 # ---------------------------------------------------------------- damage
@@ -107,7 +118,7 @@ def refused_twice(rng):
     return segments, times, deadline
 
 
-FAMILIES = [good, good, missed, damaged, damaged, damaged, damaged, refused_twice]
+FAMILIES = [good, good, missed, other_edition, damaged, damaged, damaged, damaged, refused_twice]
 
 
 def paths(seed, count):

@@ -18,9 +18,9 @@ from collections import namedtuple
 
 Refusal = namedtuple("Refusal", "number place")
 
-# head: the first record's fields; streams: one tuple per later record, of its fields, and for P-NET always with J at the end;
-# records: kind and fields of every record as it stands
-Sheet = namedtuple("Sheet", "kind head streams records")
+# head: the first record's fields; edition: of the P-NET rule, 1 where none is written; streams: one tuple per stream or variable, of
+# its fields, and for P-NET always with J at the end; records: kind and fields of every record as it stands
+Sheet = namedtuple("Sheet", "kind head edition streams records")
 
 # one number for each of the masters 1..N
 PnetPlan = namedtuple("PnetPlan", "bound refined rounds")
@@ -67,9 +67,12 @@ WIDTHS = {
     5: (4,),
     6: (2, 4),
     7: (1, 2, 4, 4, 4),
+    8: (1,),
 }
 FIRST_KINDS = (1, 3, 5)
-# what may stand behind a first record
+# page 02, Ask 10: what may stand just behind a first record, and nowhere else
+SECOND_KINDS = {1: (8,), 3: (), 5: ()}
+# the streams or variables that follow
 STREAM_KINDS = {1: (2, 7), 3: (4,), 5: (6,)}
 # page 02, Ask 14: how the line of a record begins, and what stands behind the number of each field; kind 3 has no line
 WORDS = {
@@ -79,6 +82,7 @@ WORDS = {
     5: "worldfip-exchange",
     6: "worldfip-variable",
     7: "pnet-jitter-stream",
+    8: "pnet-edition",
 }
 UNITS = {
     1: ("",),
@@ -87,6 +91,7 @@ UNITS = {
     5: (" us",),
     6: ("", " us"),
     7: ("", " bp", " bp", " bp", " bp"),
+    8: ("",),
 }
 
 BILLION = 1_000_000_000
@@ -152,11 +157,22 @@ def in_range(kind, fields, masters=MASTERS_LIMIT, message=MESSAGE_LIMIT):
     if kind == 5:
         (e,) = fields
         return 1 <= e <= 1_000_000
+    if kind == 8:
+        (edition,) = fields
+        return edition in (1, 2)
     identifier, period = fields
     return 0 <= identifier <= 0xFFFF and 1 <= period <= BILLION
 
 
 # ---------------------------------------------------------------- reading
+
+
+def in_position(kind, before):
+    """Whether a record of this kind may stand behind these."""
+    if not before:
+        return kind in FIRST_KINDS
+    head_kind = before[0][0]
+    return kind in STREAM_KINDS[head_kind] or (kind in SECOND_KINDS[head_kind] and len(before) == 1)
 
 
 def read(data):
@@ -165,6 +181,7 @@ def read(data):
         return Refusal(1, 0)
     head_kind = None
     head = None
+    edition = 1
     streams = []
     records = []
     per_master = {}
@@ -174,10 +191,7 @@ def read(data):
         kind = data[place]
         if kind not in WIDTHS:
             return Refusal(2, place)
-        if head_kind is None:
-            if kind not in FIRST_KINDS:
-                return Refusal(3, place)
-        elif kind not in STREAM_KINDS[head_kind]:
+        if not in_position(kind, records):
             return Refusal(3, place)
         end = place + 1 + body_length(kind)
         if end > len(data):
@@ -188,6 +202,10 @@ def read(data):
             if not in_range(kind, fields):
                 return Refusal(4, place)
             head_kind, head = kind, fields
+        elif kind == 8:
+            if not in_range(kind, fields):
+                return Refusal(4, place)
+            (edition,) = fields
         elif kind == 6:
             if not in_range(kind, fields):
                 return Refusal(4, place)
@@ -214,7 +232,7 @@ def read(data):
         place = end
     if not streams:
         return Refusal(6, len(data))
-    return Sheet(head_kind, head, streams, records)
+    return Sheet(head_kind, head, edition, streams, records)
 
 
 def read_for(data, head_kind):
@@ -354,6 +372,9 @@ def plan_pnet(data, lent=None):
             hold[y] = REACTION + TOKEN_PASS + max(cycles[y])
         else:
             hold[y] = UNUSED_VISIT
+    if sheet.edition == 2:
+        # every master is charged the largest H, one without streams too
+        hold = dict.fromkeys(masters, max(hold.values()))
     turn = sum(hold.values())
     bound = {k: len(cycles[k]) * turn for k in masters}
 

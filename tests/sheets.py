@@ -7,11 +7,11 @@ at random would almost always be refused for its first bytes.
 
 import random
 
-from sheets_damaged import cut_short, damaged, field_edge, no_stream, noise, shuffled, wrong_kind
+from sheets_damaged import cut_short, damaged, edition_astray, field_edge, no_stream, noise, shuffled, wrong_kind
 from sheets_edges import edges
 from sheets_pnet import (
     pnet_busy_master, pnet_chain, pnet_jitter, pnet_jitter_counts, pnet_jitter_edge, pnet_late, pnet_links, pnet_many,
-    pnet_over, pnet_roomy, pnet_tight,
+    pnet_other_edition, pnet_over, pnet_roomy, pnet_tight,
 )
 from sheets_ring import profibus_below, profibus_exact, profibus_over, profibus_random, profibus_short, profibus_ties
 from sheets_table import (
@@ -21,12 +21,12 @@ from sheets_table import (
 
 FAMILIES = [
     pnet_roomy, pnet_tight, pnet_busy_master, pnet_chain, pnet_links, pnet_late, pnet_many, pnet_over,
-    pnet_jitter, pnet_jitter, pnet_jitter_counts, pnet_jitter_edge, pnet_jitter_edge,
+    pnet_jitter, pnet_jitter, pnet_jitter_counts, pnet_jitter_edge, pnet_jitter_edge, pnet_other_edition,
     profibus_random, profibus_exact, profibus_ties, profibus_below, profibus_short, profibus_over,
     worldfip_harmonic, worldfip_mixed, worldfip_one_slot, worldfip_many_slots,
     worldfip_full_row, worldfip_last_row, worldfip_many_rows, worldfip_huge,
     worldfip_wrapping, worldfip_no_fit, worldfip_over, worldfip_repeated,
-    damaged, damaged, cut_short, shuffled, wrong_kind, noise, no_stream, field_edge, field_edge,
+    damaged, damaged, cut_short, shuffled, wrong_kind, edition_astray, noise, no_stream, field_edge, field_edge,
 ]
 
 

@@ -1,6 +1,6 @@
 """Sheets that are cut, changed or shuffled, and fields at the ends of their ranges."""
 
-from sheet_records import BILLION, WIDTHS, records_of, sheet
+from sheet_records import BILLION, WIDTHS, record, records_of, sheet
 from sheets_pnet import pnet_jitter, pnet_late, pnet_roomy, pnet_tight
 from sheets_ring import profibus_random, profibus_ties
 from sheets_table import worldfip_harmonic, worldfip_mixed, worldfip_one_slot
@@ -54,7 +54,7 @@ def wrong_kind(rng):
     """Another kind byte at the head of a record, known or unknown."""
     parts = records_of(rng.choice(SOUND)(rng))
     at = rng.randrange(len(parts))
-    kind = rng.choice([0, 1, 2, 3, 4, 5, 6, 7, 8, 16, 99, 255])
+    kind = rng.choice([0, 1, 2, 3, 4, 5, 6, 7, 8, 9, 16, 99, 255])
     parts[at] = bytes([kind]) + parts[at][1:]
     data = b"".join(parts[: at + 1])
     # without its body the wrong kind must still be named before the cut
@@ -63,16 +63,26 @@ def wrong_kind(rng):
 
 def noise(rng):
     data = rng.randbytes(rng.choice([1, 2, 3, 12, 50, 500]))
-    return rng.choice([b"", bytes([rng.randrange(8)])]) + data
+    return rng.choice([b"", bytes([rng.randrange(9)])]) + data
+
+
+def edition_astray(rng):
+    """The record of the edition at any place, out of range, twice, cut or with nothing behind it."""
+    parts = records_of(rng.choice(SOUND)(rng))
+    at = rng.choice([0, 1, 1, 1, 2, len(parts), rng.randint(0, len(parts))])
+    one, other = (record(8, rng.choice([0, 1, 1, 2, 2, 3, 255])) for _ in range(2))
+    before, behind = b"".join(parts[:at]), b"".join(parts[at:])
+    return before + rng.choice([one + behind, one + behind, one + other + behind, one + behind + other, one[:1], one, one + one[:1]])
 
 
 def no_stream(rng):
     head = rng.choice([
-        (1, rng.randint(1, 32)),
-        (3, rng.randint(1, 32), rng.randint(1, 100_000), rng.randint(1, 100_000)),
-        (5, rng.randint(1, 1_000_000)),
+        [(1, rng.randint(1, 32))],
+        [(1, rng.randint(1, 32)), (8, rng.randint(1, 2))],
+        [(3, rng.randint(1, 32), rng.randint(1, 100_000), rng.randint(1, 100_000))],
+        [(5, rng.randint(1, 1_000_000))],
     ])
-    return sheet([head])
+    return sheet(head)
 
 
 # a sound record of each kind, and for each field the values around its range
@@ -84,6 +94,7 @@ SOUND_RECORD = {
     5: [400],
     6: [17, 1_000],
     7: [2, 203, 100_000, 60_000, 30_000],
+    8: [2],
 }
 RANGES = {
     1: [(1, 32)],
@@ -94,11 +105,12 @@ RANGES = {
     6: [(0, 65_535), (1, BILLION)],
     # T has to hold D and J
     7: [(1, 4), (1, 1_548), (90_000, BILLION), (1, 70_000), (0, 40_000)],
+    8: [(1, 2)],
 }
-HEAD_OF = {2: 1, 4: 3, 6: 5, 7: 1}
+HEAD_OF = {2: 1, 4: 3, 6: 5, 7: 1, 8: 1}
 
 
-def with_field(kind, field, value, before=(), after=()):
+def with_field(kind, field, value, before=()):
     """A sheet in which one field has this value and the others are sound."""
     numbers = list(SOUND_RECORD[kind])
     numbers[field] = value
@@ -106,7 +118,8 @@ def with_field(kind, field, value, before=(), after=()):
         rest = [1] + SOUND_RECORD[kind + 1][1:] if kind != 5 else SOUND_RECORD[6]
         return sheet([(kind, *numbers), (kind + 1, *rest)])
     head = (HEAD_OF[kind], *SOUND_RECORD[HEAD_OF[kind]])
-    return sheet([head, *before, (kind, *numbers), *after])
+    behind = [(2, *SOUND_RECORD[2])] if kind == 8 else []
+    return sheet([head, *before, (kind, *numbers), *behind])
 
 
 def around(kind, field):
@@ -121,8 +134,10 @@ def field_edge(rng):
     field = rng.randrange(len(WIDTHS[kind]))
     value = rng.choice(around(kind, field))
     before = []
-    if kind in HEAD_OF:
+    if kind in HEAD_OF and kind != 8:
         before = [(kind, *SOUND_RECORD[kind]) for _ in range(rng.choice([0, 0, 1, 3]))]
         if kind == 6:
             before = [(6, 100 + i, 1_000) for i in range(len(before))]
+        if HEAD_OF[kind] == 1 and rng.random() < 0.3:
+            before.insert(0, (8, rng.randint(1, 2)))
     return with_field(kind, field, value, before)

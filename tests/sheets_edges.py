@@ -2,11 +2,85 @@
 
 import math
 
-from sheet_records import BILLION, MEGABYTE, ONES, WIDTHS, record
+from sheet_records import BILLION, MEGABYTE, ONES, WIDTHS, record, sheet
 from sheets_damaged import around, with_field
 from sheets_pnet import full_segment, jitter_edges, pnet_sheet
 from sheets_ring import profibus_sheet
 from sheets_table import PRIMES, WRAPPING, worldfip_sheet
+
+
+def edition_places():
+    """The record of the edition where it may stand, and where it may not."""
+    head, stream, first, second = (1, 4), (2, 1, 203, 100_000, 90_000), (8, 1), (8, 2)
+    for name, records in [
+        ("first", [second, head, stream]),
+        ("alone", [second]),
+        ("with no stream", [head, second]),
+        ("behind a stream", [head, stream, second]),
+        ("between streams", [head, stream, second, stream]),
+        ("behind a stream of kind 7", [head, (7, *stream[1:], 0), first]),
+        ("twice the same", [head, second, second, stream]),
+        ("1, then 2", [head, first, second, stream]),
+        ("1, then 0", [head, first, (8, 0), stream]),
+        ("twice, apart", [head, first, stream, first]),
+        ("three, then 2", [head, (8, 3), second, stream]),
+        ("then the segment again", [head, second, head, stream]),
+        ("then a ring's stream", [head, second, (4, 1, 9, 9)]),
+        ("then master 5", [head, second, (2, 5, 203, 9, 9)]),
+        ("behind a ring", [(3, 3, 300, 500), second, (4, 1, 400, 8_400)]),
+        ("behind a ring's stream", [(3, 3, 300, 500), (4, 1, 400, 8_400), second]),
+        ("behind an exchange", [(5, 400), first, (6, 17, 1_000)]),
+        ("behind a variable", [(5, 400), (6, 17, 1_000), first]),
+        ("behind no masters", [(1, 0), second, stream]),
+        ("before a stream of kind 7", [head, second, (7, *stream[1:], 0)]),
+    ]:
+        yield "edition %s" % name, sheet(records)
+    for name, records in [("cut", [head]), ("cut behind a stream", [head, stream]), ("cut behind itself", [head, second]), ("cut behind a ring", [(3, 3, 300, 500)])]:
+        yield "edition %s" % name, sheet(records) + bytes([8])
+    yield "edition, then an unknown kind", sheet([head, second]) + bytes([99])
+    yield "edition, then a cut stream", sheet([head, second, stream])[:-1]
+
+
+def edition_figures():
+    """Deadlines and spacings just at what an edition makes of a segment."""
+    # H of 250, 350 and 150 bp, and one silent master
+    cycles = [(1, 203), (1, 203), (2, 303), (4, 103)]
+    for edition, turn in ((None, 760), (1, 760), (2, 1_400)):
+        for by in (0, -1):
+            streams = [(y, c, 100_000, (2 if y == 1 else 1) * turn + by) for y, c in cycles]
+            yield "uneven, edition %s, D %+d" % (edition, by), pnet_sheet(4, streams, edition)
+            yield "uneven, edition %s, last D %+d" % (edition, by), pnet_sheet(4, [(*s[:3], 90_000) for s in streams[:3]] + streams[3:], edition)
+    for edition in (1, 2):
+        even = [(y, 203, 100_000, 2_000) for y in (1, 2, 3, 4, 1, 2, 3, 4)]
+        yield "four masters, edition %d" % edition, pnet_sheet(4, even, edition)
+        yield "four masters, edition %d, late" % edition, pnet_sheet(4, even[:4] + [(1, 203, 100_000, 1_999)] + even[5:], edition)
+    for n in (1, 2, 31, 32):
+        for master in sorted({1, n}):
+            for d in (n * 1_595, n * 1_595 - 1):
+                yield "N %d only master %d D %d, edition 2" % (n, master, d), pnet_sheet(n, [(master, 1_548, d, d)], 2)
+    # W of master 2 is 1,080 bp, and the bound of master 1 under edition 2 1,050 bp: T, less J, holds both, or one bp less
+    for t, j in ((2_130, 0), (2_129, 0), (3_000, 870), (3_000, 871), (1_790, 0), (1_789, 0)):
+        yield "edition 2, T %d J %d" % (t, j), pnet_sheet(3, [(1, 303, t, 1_050, j)] + [(2, 303, 9_999, 9_999)] * 2, 2)
+
+
+def edition_limits(rng):
+    """As many streams as there may be behind an edition, and more."""
+    for count in (80, 81):
+        yield "%d streams on one master behind the edition" % count, full_segment(rng, 1, [count], kinds=(2, 7), edition=2)
+    longest = full_segment(rng, 32, [25] * 32, kinds=(7,), edition=2)
+    one_more = record(7, 1, 200, 5_000_000, 4_500_000, 500_000)
+    yield "the longest sheet with the edition", longest
+    yield "800 streams of kind 2 with edition 1", full_segment(rng, 10, [80] * 10, edition=1)
+    yield "800 streams of kind 2 with edition 2", full_segment(rng, 10, [80] * 10, edition=2)
+    yield "greatest bound, edition 2", full_segment(rng, 32, [80] + [23] * 31, kinds=(2, 7), edition=2)
+    yield "greatest bound, edition 2, silent masters", full_segment(rng, 32, [80] * 10, edition=2)
+    for name, last in [
+        ("801st", one_more), ("801st of kind 2", record(2, 1, 200, 5_000_000, 4_500_000)), ("801st, cut", one_more[:-1]),
+        ("801st, out of range", record(7, 33, 200, 5_000_000, 4_500_000, 500_000)), ("edition again", record(8, 2)), ("edition again, cut", bytes([8])),
+        ("801st, unknown kind", bytes([9])), ("megabytes of kind 7", one_more * (2 * MEGABYTE // 16)),
+    ]:
+        yield "the longest sheet with the edition, then %s" % name, longest + last
+    yield "a megabyte of editions", record(1, 4) + record(8, 1) * (MEGABYTE // 2)
 
 
 def edges(rng):
@@ -79,11 +153,12 @@ def edges(rng):
     yield "the 801st, out of range", full_segment(rng, 32, [25] * 32) + record(2, 33, 1, 9, 9)
     yield "the 801st, cut", full_segment(rng, 32, [25] * 32) + one_more[:-1]
     yield "the 801st, wrong kind", full_segment(rng, 32, [25] * 32) + bytes([4])
-    yield "the 801st, unknown kind", full_segment(rng, 32, [25] * 32) + bytes([8])
+    yield "the 801st, unknown kind", full_segment(rng, 32, [25] * 32) + bytes([9])
+    yield "the 801st, kind 8", full_segment(rng, 32, [25] * 32) + record(8, 1)
     yield "the 801st and 81st at once", eighty + one_more
     longest = full_segment(rng, 32, [25] * 32, kinds=(7,))
     one_late = record(7, 1, 200, 5_000_000, 4_500_000, 500_000)
-    yield "the longest sheet", longest
+    yield "the longest sheet without the edition", longest
     yield "800 streams of kinds 2 and 7", full_segment(rng, 10, [80] * 10, kinds=(2, 7))
     yield "the 801st, kind 7 behind kind 2", full_segment(rng, 32, [25] * 32) + one_late
     yield "the 801st, kind 7 behind kind 7", longest + one_late
@@ -91,12 +166,16 @@ def edges(rng):
     yield "the 801st of kind 7, out of range", longest + record(7, 1, 200, 5_000_000, 4_500_000, 500_001)
     yield "the 801st of kind 7, cut", longest + one_late[:-1]
     yield "the 801st behind kind 7, wrong kind", longest + bytes([4])
-    yield "the 801st behind kind 7, unknown kind", longest + bytes([8])
+    yield "the 801st behind kind 7, unknown kind", longest + bytes([9])
     yield "the 801st of kinds 2 and 7", full_segment(rng, 32, [25] * 32, kinds=(2, 7)) + one_late
     ring800 = profibus_sheet(32, 1, 1, [(y, 1, 1_000_000) for y in range(1, 33) for _ in range(25)])
     yield "800 ring streams", ring800
     yield "the 801st ring stream", ring800 + record(4, 5, 1, 1_000_000)
     yield "the 801st ring stream, D 0", ring800 + record(4, 5, 1, 0)
+
+    yield from edition_places()
+    yield from edition_figures()
+    yield from edition_limits(rng)
 
     # input far longer than any good sheet
     yield "81st, then megabytes of streams", (

@@ -10,11 +10,13 @@ STREAM = b"pnet-stream,1,203 bp,1000 bp,1000 bp\n"
 SEGMENT = b"pnet-segment,1\n"
 TEXT = SEGMENT + STREAM
 JITTER = b"pnet-jitter-stream,1,203 bp,1000 bp,700 bp,300 bp\n"
+EDITION = b"pnet-edition,2\n"
 # the form that is told beside a slip
 FORMS = {
     b"pnet-se": "pnet-segment,MASTERS\n",
     b"pnet-st": "pnet-stream,MASTER,CYCLE bp,SPACING bp,DEADLINE bp\n",
     b"pnet-ji": "pnet-jitter-stream,MASTER,CYCLE bp,SPACING bp,DEADLINE bp,JITTER bp\n",
+    b"pnet-ed": "pnet-edition,EDITION\n",
     b"profibu": "profibus-stream,MASTER,CYCLE bp,DEADLINE bp\n",
     b"worldfi": ("worldfip-exchange,EXCHANGE us\n", "worldfip-variable,IDENTIFIER,PERIOD us\n"),
 }
@@ -82,6 +84,17 @@ LINES = (
     (b"pnet-jitter-stream,1,65536 bp,1000 bp,700 bp,300 bp\n", ", column 22 has '65536 bp'; " + BIG % "65535 bp", None),
     (b"pnet-jitter-stream,1,203 bp,1000 bp,700 bp,4294967296 bp\n", ", column 44 has '4294967296 bp'; " + BIG % "4294967295 bp", None),
     (JITTER[:-1], ", column 50 is the end of the text; wanted there: the end of the line", UNENDED),
+    (b"pnet-edition,2 bp\n", ", column 15 has ' bp'; wanted there: the end of the line", AROUND),
+    (b"pnet-edition,2.0\n", ", column 15 has '.0'; wanted there: the end of the line", DIGITS),
+    (b"pnet-edition,02\n", ", column 14 has '02'; wanted there: a number", ZERO),
+    (b"pnet-edition,second\n", ", column 14 has 'second'; wanted there: a number", DIGITS),
+    (b"pnet-edition,\n", ", column 14 is the end of the line; wanted there: a number", None),
+    (b"pnet-edition,2,1\n", ", column 15 has ',1'; wanted there: the end of the line", None),
+    (b"pnet-edition,2,,,\n", ", column 15 has ','; wanted there: the end of the line", PADDED),
+    (b"pnet-edition,2\r\n", ", column 15 has '\\x0d'; wanted there: the end of the line", LF),
+    (b"pnet-edition,256\n", ", column 14 has '256'; " + BIG % "255", None),
+    (b"pnet-edition,9999999999\n", ", column 14 has '9999999999'; " + BIG % "255", None),
+    (EDITION[:-1], ", column 15 is the end of the text; wanted there: the end of the line", UNENDED),
     (b"profibus-stream,300,400 bp,8400 bp\n", ", column 17 has '300'; " + BIG % "255", None),
     (b"profibus-stream,1,9999999999 bp,8400 bp\n", ", column 19 has '9999999999 bp'; " + BIG % "4294967295 bp", None),
     (b"worldfip-exchange,4294967296 us\n", ", column 19 has '4294967296 us'; " + BIG % "4294967295 us", None),
@@ -106,6 +119,9 @@ STRANGE_LINES = (
     (b"pnet-jitter,1,203 bp,1000 bp,700 bp,300 bp\n", ", column 1 has 'pnet-jitter'" + WORDS, None),
     (b"PNET-JITTER-STREAM,1\n", ", column 1 has 'PNET-JITTER-STREAM'" + WORDS, SMALL),
     (b" " + JITTER, ", column 1 has ' pnet-jitter-stream'" + WORDS, AROUND),
+    (b"pnet-editions,2\n", ", column 1 has 'pnet-editions'" + WORDS, None),
+    (b"pnet-edition;2\n", ", column 1 has 'pnet-edition;2'" + WORDS, SEPARATORS),
+    (b"PNET-EDITION,2\n", ", column 1 has 'PNET-EDITION'" + WORDS, SMALL),
     (b"# a plant\n", ", column 1 has '# a plant'" + WORDS, None),
     (b"\xe9t\xe9\x00\n", ", column 1 has '\\xe9t\\xe9\\x00'" + WORDS, None),
 )
@@ -125,9 +141,16 @@ REFUSED = (
     (SEGMENT + (STREAM + JITTER) * 40 + JITTER, "refused 5 at byte 1122\n", "byte 1122 of the sheet is line 82 of the text\n"),
     (b"worldfip-exchange,1 us\n" + b"worldfip-variable,1,1 us\n" * 2, "refused 7 at byte 12\n", "byte 12 of the sheet is line 3 of the text\n"),
     (b"profibus-stream,1,1 bp,1 bp\n", "refused 3 at byte 0\n", "byte 0 of the sheet is line 1 of the text\n"),
+    (SEGMENT + b"pnet-edition,3\n" + STREAM, "refused 4 at byte 2\n", "byte 2 of the sheet is line 2 of the text\n"),
+    (SEGMENT + b"pnet-edition,0\n" + STREAM, "refused 4 at byte 2\n", "byte 2 of the sheet is line 2 of the text\n"),
+    (SEGMENT + EDITION, "refused 6 at byte 4\n", "byte 4 is where the sheet ends, behind the last line of the text\n"),
+    (SEGMENT + EDITION * 2 + STREAM, "refused 3 at byte 4\n", "byte 4 of the sheet is line 3 of the text\n"),
+    (TEXT + EDITION, "refused 3 at byte 14\n", "byte 14 of the sheet is line 3 of the text\n"),
+    (EDITION + TEXT, "refused 3 at byte 0\n", "byte 0 of the sheet is line 1 of the text\n"),
+    (SEGMENT + EDITION + STREAM + JITTER.replace(b",1,", b",2,", 1), "refused 4 at byte 16\n", "byte 16 of the sheet is line 4 of the text\n"),
 )
 # bytes that no one takes for a text
-PLAIN = (b"\x08", b"\x00pnet-segment,1\n", b"p\x00n\x00e\x00t\x00", b"\x80pnet-segment,1\n", b"\xef\xbb", b"pnet\x7f", b"\nx", TEXT[:5] + b"\x01" + TEXT[5:])
+PLAIN = (b"\x0b", b"\x00pnet-segment,1\n", b"p\x00n\x00e\x00t\x00", b"\x80pnet-segment,1\n", b"\xef\xbb", b"pnet\x7f", b"\nx", TEXT[:5] + b"\x01" + TEXT[5:])
 
 
 def call(program, words, data=b"", **more):

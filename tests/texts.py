@@ -133,7 +133,7 @@ def upper_case(rng, line):
 def other_word(rng, line):
     words = [
         b"", b"pnet", b"pnet-", b"pnet-streams", b"worldfip", b"1", b"#",
-        b"profibus-ring", b"profibus-message", b"pnet-edition", b"pnet-jitter", b"pnet-stream", b"pnet-jitter-stream",
+        b"profibus-ring", b"profibus-message", b"pnet-edition", b"pnet-editions", b"pnet-jitter", b"pnet-stream", b"pnet-jitter-stream",
     ]
     return joined([rng.choice(words)] + line[:-1].split(b",")[1:])
 
@@ -221,7 +221,7 @@ def other_number(rng, records):
 
 
 def no_stream(rng, records):
-    return records[:1]
+    return records[: 2 if records[1][0] == 8 else 1]
 
 
 def no_head(rng, records):
@@ -242,7 +242,13 @@ def borrowed(rng, records):
     return records
 
 
-MISREADINGS = [other_number, other_number, other_number, no_stream, no_stream, no_head, moved, borrowed]
+def other_edition(rng, records):
+    """An edition, in range or not, behind the first record or anywhere."""
+    records.insert(rng.choice([1, 1, 1, rng.randint(0, len(records))]), (8, [rng.choice([0, 1, 2, 3, 255])]))
+    return records
+
+
+MISREADINGS = [other_number, other_number, other_number, no_stream, no_stream, no_head, moved, borrowed, other_edition]
 
 
 def misread(rng):
@@ -265,7 +271,7 @@ def over(rng):
         records = [(5, [1])] + [(6, [i, 10_000]) for i in rng.sample(range(65_536), 64 + more)]
     else:
         ends = rng.choice([[(2, 9_000_000)], [(7, 9_000_000, 0)], [(2, 9_000_000), (7, 8_000_000, 1_000_000)]])
-        records = [(1, [n])]
+        records = [(1, [n])] + rng.choice([[], [(8, [2])]])
         for i in range(min(80 * n, 800) + more):
             kind, *end = rng.choice(ends)
             records.append((kind, [1 + i % n, 9, 9_000_000, *end]))
@@ -328,6 +334,8 @@ def long_edges():
     yield "a megabyte of streams, then one without an end", HEAD_LINE + GOOD_LINE * most + GOOD_LINE[:-1]
     yield "a megabyte of streams without a segment", GOOD_LINE * most
     yield "a megabyte of segments", HEAD_LINE * most
+    yield "a megabyte of editions", HEAD_LINE + b"pnet-edition,2\n" * (sheet_records.MEGABYTE // 15)
+    yield "a megabyte of editions, then a bad line", HEAD_LINE + b"pnet-edition,2\n" * (sheet_records.MEGABYTE // 15) + b"pnet-edition,256\n"
     yield "a megabyte of variables", b"worldfip-exchange,1 us\n" + b"worldfip-variable,1,9 us\n" * most
     for what, one in (("digits", b"1"), ("zeros", b"0"), ("blanks", b" "), ("commas", b","), ("zero bytes", b"\0")):
         yield "a megabyte of %s in a line" % what, HEAD_LINE + b"pnet-stream,1" + one * sheet_records.MEGABYTE + GOOD_LINE
@@ -341,7 +349,7 @@ def edges(rng):
     for name, line in vectors.slips():
         yield name, HEAD_LINE + line + GOOD_LINE
     # each field at the ends of its bytes and its range; kind 4 follows kind 3 alone, which has no line
-    for kind in (1, 2, 5, 6, 7):
+    for kind in (1, 2, 5, 6, 7, 8):
         for field in range(len(WIDTHS[kind])):
             for value in sheets_damaged.around(kind, field):
                 yield "kind %d field %d is %d" % (kind, field + 1, value), written(records_of(sheets_damaged.with_field(kind, field, value)))
@@ -356,6 +364,13 @@ def edges(rng):
     yield "the longest text, then a stream of kind 2", written(longest) + GOOD_LINE
     yield "the longest text, then a stream of kind 7", written(longest + longest[-1:])
     yield "the longest text, then a bad line", written(longest) + b"pnet-jitter-stream,1,203 bp,1000 bp,700 bp,300\n"
+    longest.insert(1, (8, [2]))
+    yield "the longest text with the edition", written(longest)
+    yield "the longest text with the edition, then a stream of kind 2", written(longest) + GOOD_LINE
+    yield "the longest text with the edition, then a stream of kind 7", written(longest + longest[-1:])
+    yield "the longest text with the edition, then the edition again", written(longest + longest[1:2])
+    yield "the longest text with the edition, then a bad line", written(longest) + b"pnet-edition,\n"
+    yield "the longest text with the edition, then one unended", written(longest) + b"pnet-edition,2"
     yield "the longest line that is of the form", HEAD_LINE + written([(7, [255, 65_535, *[sheet_records.ONES] * 3])])
     yield "800 streams", written(records_of(sheets_pnet.full_segment(rng, 32, [25] * 32)))
     yield "800 streams of kind 7", written(records_of(sheets_pnet.full_segment(rng, 32, [25] * 32, kinds=(7,))))

@@ -30,6 +30,11 @@ def events(*records):
     )
 
 
+def under(edition, records):
+    """The sheet of these records with the edition written."""
+    return sheet(records[0], (8, edition), *records[1:])
+
+
 def shown(answer):
     """An answer in the words of the vectors below."""
     if isinstance(answer, Refusal):
@@ -82,6 +87,13 @@ TWO_MASTERS = [
 WAITING = TWO_MASTERS[:3] + [(2, 2, 203, 1_000, 1_000)]
 # page 02, Ask 7: D of 700 bp is all that J of 300 bp leaves of T
 JITTER = (7, 1, 203, 1_000, 700, 300)
+# page 02, Ask 10: H of 350 bp is master 2's, master 1 has 250 bp, and master 3 is silent
+UNEVEN = [
+    (1, 3),
+    (2, 1, 203, 100_000, 100_000),
+    (2, 1, 203, 100_000, 100_000),
+    (2, 2, 303, 100_000, 100_000),
+]
 RING = [(3, 3, 300, 500), (4, 1, 400, 8_400), (4, 1, 500, 10_000), (4, 2, 300, 5_000)]
 TABLE = [(5, 400), (6, 17, 1_000), (6, 18, 2_000), (6, 19, 4_000), (6, 20, 4_000)]
 TABLE_LATE = TABLE[:3] + [(6, 19, 2_000)] + TABLE[4:]
@@ -91,6 +103,7 @@ EIGHTY_EACH = [(1, 10)] + [
 ]
 
 JITTERS = sheet((1, 32), *[(7, 1 + i % 32, 203, 1_000, 700, 300) for i in range(800)])
+LONGEST = JITTERS[:2] + sheet((8, 2)) + JITTERS[2:]
 
 EIGHTY_LINES = b"pnet-segment,10\n" + b"".join(
     b"pnet-stream,%d,200 bp,1000000 bp,1000000 bp\n" % y for y in range(1, 11) for _ in range(80)
@@ -133,9 +146,54 @@ pnet | 05 | 1 at 0
 worldfip | 01 21 | 4 at 0
 pnet | 05 00000190 06 0011 000003e8 | 3 at 0
 read | 07 | 3 at 0
-read | 08 | 2 at 0
+read | 08 | 3 at 0
+read | 09 | 2 at 0
 read | 10 | 2 at 0
-read | 0104 0801 | 2 at 2
+pnet | 0102 0802 020100cb000186a0000186a0 | R 500 0; W 260 0; rounds 1 0
+pnet | 0103 0802 020300cb00000bb800000bb8 02020035000005dc000005dc 0203000300000bb800000bb8 | R 0 750 1500; W 0 510 1020; rounds 0 1 2
+read | 0104 0801 0802 020100cb000003e8000003e8 | 3 at 4
+read | 0104 0801 | 6 at 4
+read | 0104 08 | 1 at 2
+read | 0104 0802 | 6 at 4
+read | 0104 0800 | 4 at 2
+read | 0104 0803 | 4 at 2
+read | 0104 08ff | 4 at 2
+read | 0104 0800 63 | 4 at 2
+read | 0104 0801 63 | 2 at 4
+read | 0104 0801 08 | 3 at 4
+read | 0104 0801 0104 | 3 at 4
+read | 0104 0801 04 | 3 at 4
+read | 0104 0801 02 | 1 at 4
+read | 0104 0801 020500cb000003e8000003e8 | 4 at 4
+read | 0104 0801 020100cb000003e8000003e8 | accepted
+read | 0104 0802 070100cb000003e8000002bc0000012c 020100cb000003e8000003e8 | accepted
+read | 0104 020100cb000003e8000003e8 0802 | 3 at 14
+read | 0104 020100cb000003e8000003e8 0800 | 3 at 14
+read | 0104 020100cb000003e8000003e8 08 | 3 at 14
+read | 0104 070100cb000003e8000002bc0000012c 0801 | 3 at 18
+read | 0104 0802 020100cb000003e8000003e8 0802 | 3 at 16
+read | 0802 | 3 at 0
+read | 0802 0104 020100cb000003e8000003e8 | 3 at 0
+read | 0100 0802 | 4 at 0
+read | 03 01 00000001 00000001 08 | 3 at 10
+read | 03 01 00000001 00000001 0801 | 3 at 10
+read | 05 00000190 0802 | 3 at 5
+profibus | 0101 0802 020100cb000003e8000003e8 | 3 at 0
+worldfip | 0101 0801 020100cb000003e8000003e8 | 3 at 0
+pnet | 0102 020100cb000003e8000001f3 | R 260 0; W 260 0; rounds 1 0
+pnet | 0102 0801 020100cb000003e8000001f3 | R 260 0; W 260 0; rounds 1 0
+pnet | 0102 0802 020100cb000003e8000001f3 | 8 at 1
+pnet | 0102 0802 020100cb000003e8000001f4 | R 500 0; W 260 0; rounds 1 0
+pnet | 0101 0802 020100cb000003e8000003e8 020100cb000003e8000001f3 | 8 at 2
+pnet | 0101 0802 020100cb000186a0000186a0 070100cb00000bb80000000100000000 | 8 at 2
+write | 2 | 4 | 8 1 | 0801 then 4
+write | 2 | 4 | 8 2 | 0802 then 4
+write | 2 | 4 | 8 0 | 4 at 2
+write | 2 | 0 | 8 3 | 4 at 2
+write | 2 | 4 | 8 256 | 4 at 2
+write | 2 | 3 | 8 2 | 13 at 4
+write | 18446744073709551613 | 9 | 8 2 | 13 at 18446744073709551615
+write | 18446744073709551614 | 9 | 8 2 | 13 at 0
 read | 0104 07 01 00cb 000003e8 000003e8 00000000 | accepted
 read | 0104 07 01 00cb 000003e8 00000001 000003e7 | accepted
 read | 0104 07 01 00cb 000003e8 00000001 000003e8 | 4 at 2
@@ -198,6 +256,12 @@ capture | 0101 020100cb000003e8000003e8 | 02 | 2 at 0
 capture | 0101 070100cb000003e8000002bc0000012c | 07 | 2 at 0
 capture | 0101 070100cb000003e8000002bc0000012c | 10 0001 00000000 11 0001 000000fa | 1 250 0 0
 capture | 0102 070100cb000003e8000000630000012c | 02 | 8 at 1
+capture | 0102 0802 020100cb000003e8000003e8 | 10 0001 00000000 11 0001 000001f4 | 1 500 0 0
+capture | 0102 0802 020100cb000003e8000003e8 | 10 0001 00000000 11 0001 000001f5 | 1 501 1 0
+capture | 0102 0801 020100cb000003e8000003e8 | 10 0001 00000000 11 0001 000001f4 | 1 500 1 0
+capture | 0102 0802 020100cb000003e8000001f3 | 02 | 8 at 1
+capture | 0102 0802 020100cb000003e8000001f4 | 08 | 2 at 0
+capture | 0102 0803 020100cb000003e8000001f4 | 02 | 4 at 2
 capture | 0101 020100cb000003e8000003e8 | 10 0001 00000000 11 0001 000000fa 10 0001 00000200 11 0001 000002fb | 2 251 1 0
 capture | 0102 020100cb0000006300000063 | 02 | 8 at 1
 capture | 0101 020100cb000003e8000003e8 | 11 0002 | 1 at 0
@@ -234,6 +298,14 @@ A:1, 05 00000190:1 | 0 | 1000 | 6 at 5
 A:1, 0102 070100cb0000270f00001388000003e8 020200cb0000270f0000270f:1 | 0 | 1000 | total 1000
 A:1, 0102 020100cb0000270f0000270f 070200cb0000270f000000630000270e:2 | 0 | 1000 | 4 at 14
 A:1, 0102 020100cb0000270f0000270f 070200cb0000270f0000006300000000:2 | 0 | 1000 | 8 at 2
+A:1, 0102 0801 020100cb0000270f0000270f:1 | 0 | 760 | total 760
+A:1, 0102 0802 020100cb0000270f0000270f:1 | 0 | 1000 | total 1000
+A:1, 0102 0802 020100cb0000270f0000270f:1 | 0 | 999 | 19 at 0
+0102 0802 020100cb0000270f0000270f:1, 0102 0801 020100cb0000270f0000270f:1 | 30 | 820 | total 820
+A:1, 0102 0802 020100cb0000270f0000270f:2 | 0 | 1000 | 18 at 2
+A:1, 0102 0802 020100cb0000270f000001f3:1 | 0 | 1000 | 8 at 1
+A:1, 0102 0803 020100cb0000270f0000270f:1 | 0 | 1000 | 4 at 2
+A:1, 0102 0801 0801 020100cb0000270f0000270f:1 | 0 | 1000 | 3 at 4
 """
 
 
@@ -247,7 +319,10 @@ export | 03 | 1 at 0
 export | 03 01 00000001 00000001 | 6 at 10
 export | 03 01 00000001 00000001 04 01 00000001 000003e8 | 2 at 0
 import | pnet-segment,2\npnet-jitter-stream,1,9 bp,99 bp,9 bp,0 bp\n | 010207010009000000630000000900000000
-import | pnet-segment,1\npnet-edition,1\npnet-jitter-stream,1,9 bp,99 bp,9 bp,0 bp\n | 23 at 2
+import | pnet-segment,1\npnet-edition,1\npnet-jitter-stream,1,9 bp,99 bp,9 bp,0 bp\n | 0101080107010009000000630000000900000000
+import | pnet-segment,3\nprofibus-ring,3,300 bp\n | 23 at 2
+export | 0101 0802 07 01 0009 000003e8 00000384 00000000 | pnet-segment,1\npnet-edition,2\npnet-jitter-stream,1,9 bp,1000 bp,900 bp,0 bp\n
+import | pnet-segment,1\npnet-edition,2\npnet-jitter-stream,1,9 bp,1000 bp,900 bp,0 bp\n | 0101080207010009000003e80000038400000000
 import | pnet-segment,33\n | 4 at 0
 import | pnet-segment,256\n | 23 at 1
 import | pnet-segment,2\npnet-stream,1,65535 bp,9 bp,9 bp\n | 4 at 2
@@ -265,7 +340,26 @@ export | 05 00000190 06 0000 000003e8 06 ffff 3b9aca00 | worldfip-exchange,400 u
 import | worldfip-exchange,400 us\nworldfip-variable,0,1000 us\nworldfip-variable,65535,1000000000 us\n | 0500000190060000000003e806ffff3b9aca00
 export | - | 1 at 0
 export | 07 | 3 at 0
-export | 08 | 2 at 0
+export | 08 | 3 at 0
+export | 09 | 2 at 0
+export | 0104 0801 | 6 at 4
+export | 0104 0803 | 4 at 2
+export | 0101 020100cb000003e8000003e8 0801 | 3 at 14
+export | 0101 0801 020100cb000003e8000003e8 | pnet-segment,1\npnet-edition,1\npnet-stream,1,203 bp,1000 bp,1000 bp\n
+import | pnet-segment,1\npnet-edition,1\npnet-stream,1,203 bp,1000 bp,1000 bp\n | 01010801020100cb000003e8000003e8
+import | pnet-segment,4\npnet-edition,0\n | 4 at 2
+import | pnet-segment,4\npnet-edition,3\n | 4 at 2
+import | pnet-segment,4\npnet-edition,255\n | 4 at 2
+import | pnet-segment,4\npnet-edition,256\n | 23 at 2
+import | pnet-segment,4\npnet-edition,2 bp\n | 23 at 2
+import | pnet-segment,4\npnet-edition,2\n | 6 at 4
+import | pnet-segment,4\npnet-edition,2 | 23 at 2
+import | pnet-segment,4\npnet-edition,1\npnet-edition,2\n | 3 at 4
+import | pnet-segment,4\npnet-edition,1\nx\n | 23 at 3
+import | pnet-segment,4\npnet-stream,1,203 bp,1000 bp,1000 bp\npnet-edition,2\n | 3 at 14
+import | pnet-edition,2\n | 3 at 0
+import | pnet-edition,2\npnet-segment,4\n | 3 at 0
+import | worldfip-exchange,400 us\npnet-edition,1\n | 3 at 5
 export | 0101 070100cb000003e8000002bd0000012c | 4 at 2
 export | 0104 04 | 3 at 2
 export | 0121 | 4 at 0
@@ -410,7 +504,26 @@ worldfip-variable,17,4294967296 us
 profibus-ring,3,300 bp,500 bp
 profibus-ring,3,300 bp
 profibus-message,1,500 bp
-pnet-edition,2
+pnet-edition
+pnet-edition,
+pnet-edition,02
+pnet-edition,2 bp
+pnet-edition,2\x20
+pnet-edition,2\r
+pnet-edition,2,
+pnet-edition,2,1
+pnet-edition,,2
+pnet-edition, 2
+pnet-edition,-1
+pnet-edition,2.0
+pnet-edition,256
+pnet-edition,258
+pnet-edition;2
+pnet-edition 2
+Pnet-edition,2
+pnet_edition,2
+pnet-editions,2
+\x20pnet-edition,2
 pnet-jitter-stream,1,203 bp,1000 bp,900 bp
 pnet-jitter-stream,1,203 bp,1000 bp,900 bp,
 pnet-jitter-stream,1,203 bp,1000 bp,900 bp,0
@@ -529,6 +642,46 @@ PROSE = [
      "R 1000 500; W 1000 500; rounds 2 1"),
     ("the greatest J, and a deadline too short for it",
      lambda: opinion.plan_pnet(sheet(*TWO_MASTERS[:3], (7, 2, 203, 1_000_000_000, 1, 999_999_999))), "8 at 3"),
+    # page 02, Ask 10. Edition 1: V = 250 + 350 + 10 = 610; W of master 1 is 2 * 610 - (2 - 1) * 340 - 2 * 0
+    ("no edition written", lambda: opinion.plan_pnet(sheet(*UNEVEN)), "R 1220 610 0; W 880 610 0; rounds 1 1 0"),
+    ("edition 1 written", lambda: opinion.plan_pnet(under(1, UNEVEN)), "R 1220 610 0; W 880 610 0; rounds 1 1 0"),
+    # Edition 2: V = 3 * 350; W of master 1 is 2 * 1,050 - (2 - 1) * 340 - 2 * 340, of master 2 1,050 - 0 - 1 * 340
+    ("edition 2 written", lambda: opinion.plan_pnet(under(2, UNEVEN)), "R 2100 1050 0; W 1080 710 0; rounds 1 1 0"),
+    ("the report of edition 1", lambda: opinion.report(under(1, UNEVEN)),
+     "P-NET segment\n"
+     "M01 bound 1220 bp 15885417 ns refined 880 bp 11458334 ns 1 rounds\n"
+     "M02 bound 610 bp 7942709 ns refined 610 bp 7942709 ns 1 rounds\n"),
+    ("the report of edition 2", lambda: opinion.report(under(2, UNEVEN)),
+     "P-NET segment\n"
+     "M01 bound 2100 bp 27343750 ns refined 1080 bp 14062500 ns 1 rounds\n"
+     "M02 bound 1050 bp 13671875 ns refined 710 bp 9244792 ns 1 rounds\n"),
+    ("the editions agree where every master has the largest H", lambda: opinion.plan_pnet(under(2, TWO_MASTERS)),
+     "R 1000 500; W 760 500; rounds 1 1"),
+    ("the largest H is the searching master's: another saves that, less 10",
+     lambda: opinion.plan_pnet(
+         sheet((1, 2), (8, 2), (2, 1, 303, 100_000, 100_000), (2, 1, 103, 100_000, 100_000), (2, 2, 203, 100_000, 100_000))),
+     "R 1400 700; W 1060 700; rounds 1 1"),
+    ("31 silent masters",
+     lambda: opinion.plan_pnet(sheet((1, 32), (8, 2), (2, 5, 1_548, 100_000, 51_040))),
+     "R %s; W %s; rounds %s" % tuple(" ".join(["0"] * 4 + [x] + ["0"] * 27) for x in ("51040", "1905", "1"))),
+    ("31 silent masters, and a deadline one bp below 32 * 1,595",
+     lambda: opinion.plan_pnet(sheet((1, 32), (8, 2), (2, 5, 1_548, 100_000, 51_039))), "8 at 1"),
+    ("the same under edition 1, with 1,595 + 31 * 10",
+     lambda: opinion.plan_pnet(sheet((1, 32), (8, 1), (2, 5, 1_548, 100_000, 1_905))).bound[4], "1905"),
+    ("a master alone, with the editions alike",
+     lambda: opinion.plan_pnet(sheet((1, 1), (8, 2), (2, 1, 203, 1_000, 250))), "R 250; W 250; rounds 1"),
+    # 1,080 bp and the 1,050 bp before them, edition 2's own bound, hold one request of T 2,130, and two of T 2,129
+    ("a window that holds one request under edition 2",
+     lambda: opinion.plan_pnet(sheet((1, 3), (8, 2), (2, 1, 303, 2_130, 2_130), *[(2, 2, 303, 9_999, 9_999)] * 2)),
+     "R 1050 2100 0; W 710 1080 0; rounds 1 1 0"),
+    ("a window that holds two requests under edition 2",
+     lambda: opinion.plan_pnet(sheet((1, 3), (8, 2), (2, 1, 303, 2_129, 2_129), *[(2, 2, 303, 9_999, 9_999)] * 2)),
+     "R 1050 2100 0; W 710 1420 0; rounds 1 2 0"),
+    ("13 before 8 under edition 2", lambda: opinion.plan_pnet(sheet((1, 2), (8, 2), (2, 1, 203, 499, 499)), (2, 2, 1)), "13 at 2"),
+    ("room for masters, not for kind 8", lambda: opinion.plan_pnet(sheet((1, 2), (8, 2), (2, 1, 203, 500, 500)), (2, 2, 2)),
+     "R 500 0; W 260 0; rounds 1 0"),
+    ("80 of a master behind kind 8", lambda: opinion.read(sheet((1, 2), (8, 2), *TWO_MASTERS[1:2] * 80)), "accepted"),
+    ("the 81st of a master behind kind 8", lambda: opinion.read(sheet((1, 2), (8, 2), *TWO_MASTERS[1:2] * 81)), "5 at 964"),
     ("80 of a master, by turns of kinds 2 and 7",
      lambda: opinion.read(sheet((1, 2), *[(2, 1, 203, 1_000, 700), JITTER] * 40)), "accepted"),
     ("the 81st of a master, of kind 2",
@@ -544,6 +697,12 @@ PROSE = [
     ("the 801st stream, of kind 2", lambda: opinion.read(JITTERS + sheet((2, 32, 203, 1_000, 700))), "5 at 12802"),
     ("the 801st stream of kind 7, out of range", lambda: opinion.read(JITTERS + sheet((7, 32, 203, 1_000, 701, 300))), "4 at 12802"),
     ("the 801st stream of kind 7, cut", lambda: opinion.read(JITTERS + b"\x07"), "1 at 12802"),
+    ("the longest sheet, with the edition", lambda: len(LONGEST), "12804"),
+    ("the longest sheet with the edition is read", lambda: opinion.read(LONGEST), "accepted"),
+    ("the 801st stream behind the edition", lambda: opinion.read(LONGEST + sheet((7, 32, 203, 1_000, 700, 300))), "5 at 12804"),
+    ("the 801st stream behind the edition, out of range", lambda: opinion.read(LONGEST + sheet((7, 33, 203, 1_000, 700, 300))), "4 at 12804"),
+    ("the 801st stream behind the edition, cut", lambda: opinion.read(LONGEST + b"\x07"), "1 at 12804"),
+    ("an edition behind 800 streams", lambda: opinion.read(LONGEST + b"\x08"), "3 at 12804"),
     ("streams of both kinds are numbered together",
      lambda: opinion.report(sheet((1, 1), (2, 1, 203, 9_999, 9_999), JITTER, (2, 1, 203, 1_000, 999), JITTER)),
      "refused 8 at stream 2\n"),
@@ -719,7 +878,29 @@ PROSE = [
     ("the 801st line of a stream, behind lines of kind 7",
      lambda: opinion.import_text(opinion.export_sheet(JITTERS) + GOOD_LINE), "5 at 12802"),
     ("the word of kind 7 makes a text", lambda: opinion.report(b"pnet-jitter-stream,"), "refused 23 at line 1\n"),
-    ("unknown kind to the writer", lambda: opinion.write_record(0, 9, 8, ()), "2 at 9"),
+    ("the most room that a sheet with the edition takes", lambda: opinion.import_text(opinion.export_sheet(LONGEST), 12_803), "13 at 12804"),
+    ("the 801st line of a stream, behind the edition",
+     lambda: opinion.import_text(opinion.export_sheet(LONGEST) + GOOD_LINE), "5 at 12804"),
+    ("the word of kind 8 makes a text", lambda: opinion.report(b"pnet-edition,"), "refused 23 at line 1\n"),
+    ("the report of a text that begins with its edition", lambda: opinion.report(b"pnet-edition,2\n" + HEAD_LINE), "refused 3 at byte 0\n"),
+    ("the report of a text of edition 2",
+     lambda: opinion.report(HEAD_LINE + b"pnet-edition,2\n" + GOOD_LINE),
+     "P-NET segment\nM01 bound 500 bp 6510417 ns refined 260 bp 3385417 ns 1 rounds\n"),
+    ("a capture beside edition 2: a response within its bound, above that of edition 1",
+     lambda: opinion.capture_report(HEAD_LINE + b"pnet-edition,2\n" + GOOD_LINE, events((16, 1, 5), (17, 1, 505))),
+     "P-NET capture\n"
+     "stream 1 M01 bound 500 bp 6510417 ns largest 500 bp 6510417 ns 1 answers 0 above 0 open\n"
+     "every answer within its bound\n"),
+    ("a path over both editions, each segment by its own",
+     lambda: opinion.path_report([(under(1, UNEVEN), 2), (under(2, UNEVEN), 1), (sheet(*UNEVEN), 1)], [5, 30], 4_000),
+     "P-NET path\n"
+     "segment 1 M02 bound 610 bp\n"
+     "gateway 1 request 5 bp reply 5 bp\n"
+     "segment 2 M01 bound 2100 bp\n"
+     "gateway 2 request 30 bp reply 30 bp\n"
+     "segment 3 M01 bound 1220 bp\n"
+     "total 4000 bp 52083334 ns deadline 4000 bp\n"),
+    ("unknown kind to the writer", lambda: opinion.write_record(0, 9, 9, ()), "2 at 9"),
     ("a whole record", lambda: opinion.write_record(14, 2, 2, (32, 1_548, 9, 9)),
      "0220060c0000000900000009 then 14"),
     ("one byte short", lambda: opinion.write_record(13, 2, 2, (32, 1_548, 9, 9)), "13 at 14"),
