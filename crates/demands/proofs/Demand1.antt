@@ -38,7 +38,7 @@ every-sequence-is-read-or-refused s = split (reading s) refl
     split (Read S) e = inl (S, e)
     split (Not n p) e = inr (n, p, e)
 
--- however long it is, its first 12,818 bytes settle the answer
+-- however long it is, its first 12,820 bytes settle the answer
 pub a-prefix-settles-the-answer : (s : List ℕ) → reading s ≡ reading (take enough s)
 a-prefix-settles-the-answer = reading-prefix
 

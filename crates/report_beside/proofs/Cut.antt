@@ -1,4 +1,4 @@
--- Of the sheet that a capture is laid beside, only what is read counts. So a bounded buffer serves: bytes behind its first 12,818 change neither the
+-- Of the sheet that a capture is laid beside, only what is read counts. So a bounded buffer serves: bytes behind its first 12,820 change neither the
 -- report nor how the call ends. Of the capture every byte counts. Assumes nothing.
 use mathlib.Core.Path.{_≡_, ap}
 use mathlib.Core.List.{List}

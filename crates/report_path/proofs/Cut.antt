@@ -1,4 +1,4 @@
--- Of each sheet of a path only what is read counts. So a bounded buffer serves: bytes behind its first 12,818 change neither the path's report nor whether
+-- Of each sheet of a path only what is read counts. So a bounded buffer serves: bytes behind its first 12,820 change neither the path's report nor whether
 -- it is accepted. Assumes nothing.
 use mathlib.Core.Path.{_≡_, refl, ap, _∙_, fun-ext}
 use mathlib.Core.Bool.{Bool}

@@ -27,7 +27,7 @@ use Rattle.sheet_line.specs.Lines.{hasWord}
 use Rattle.sheet_line.proofs.Lines.{known-but-3}
 use Rattle.sheet_pieces.specs.Steps.{room, placeAfter, keptMore, sheetMore}
 
-pub room-is : room ≡ 12834
+pub room-is : room ≡ 12836
 unfolding room
 room-is = refl
 

@@ -31,7 +31,7 @@ use Rattle.sheet_read.proofs.Cases.Stops.{by-record, at-end}
 use Rattle.sheet_read.proofs.Counts.{count-more, count-none}
 use Rattle.sheet_record.proofs.Ranges.{edition-ranges}
 use Rattle.sheet_record.proofs.Records.{met-same, met-other}
-use Rattle.sheet_read.proofs.Settings.{Settled, settled}
+use Rattle.sheet_read.proofs.Settings.{Settled, settled, one-setting}
 use Rattle.sheet_read.proofs.Settings.Settled.{unset, set}
 use Rattle.sheet_read.proofs.Order.{limits-of, stream-only, Placed, fits-then, stream-of, nth, first-passes, head-some, adds-stream, adds-setting, behind-first, how-many, stream-at}
 use Rattle.sheet_read.proofs.Order.Placed.{as-first, as-setting, as-stream}
@@ -52,6 +52,9 @@ pub record Known (s : List ℕ) (S : Sheet) : Type 0 where
   -- the streams are of its bus, and in range behind it
   pub kinds : (i : ℕ) → i < length (S .streams) → isStreamOf (busIn S) (getD (S .streams) i nothing .kind) ≡ true
   pub ranged : (i : ℕ) → i < length (S .streams) → inRange (given S (getD (S .streams) i nothing .a)) (getD (S .streams) i nothing) ≡ true
+  -- one setting at most, which is the edition
+  pub few-settings : length (S .settings) ≤ 1
+  pub setting-kinds : (i : ℕ) → i < length (S .settings) → getD (S .settings) i nothing .kind ≡ 8
   -- the edition that the bytes say, 1 or 2
   pub edition : busIn S ≡ 1 → editionAt s ≡ editionOf S
   pub editions : busIn S ≡ 1 → (1 ≤ editionOf S) × (editionOf S ≤ 2)
@@ -240,6 +243,10 @@ module _ (s : List ℕ) (m : ℕ) (u : Upto s (suc m)) where
             let q : metOf s 2 8 ≡ record { found = nth s 1; next = placeOf s 2 } = met-same s 2 8 e ∙ (ap (metAt s) (sym place-one) ∙ met-at 1 some) in
             rw (one, q, ne-eqb (placeOf s 2) 2 (λ z. omega (arith, place-next s 1, place-one))) refl
 
+  setting-is-8 : (i : ℕ) → i < length (before s (suc m) .settings) → Settled s m → getD (before s (suc m) .settings) i nothing .kind ≡ 8
+  setting-is-8 i l (unset e first) = absurd (omega (arith, ap length e))
+  setting-is-8 i l (set some f k one) = let z : i ≡ 0 = omega (arith, ap length one) in rw (z, one) k
+
   known-there : 1 ≤ length (before s (suc m) .streams) → Known s (before s (suc m))
   unfolding before recordsOf placeOf decode
   known-there h =
@@ -260,6 +267,8 @@ module _ (s : List ℕ) (m : ℕ) (u : Upto s (suc m)) where
         head-ranged = rw q (p .is-ranged);
         kinds = λ i l. rw q (d .kinds i l);
         ranged = λ i l. rw q (d .ranged i l);
+        few-settings = one-setting s m u;
+        setting-kinds = λ i l. setting-is-8 i l (settled s m u);
         edition = λ e. edition-there (omega (arith, how-many s m u)) (on-pnet e);
         editions = λ e. edition-ranged (omega (arith, how-many s m u)) (on-pnet e);
         per-master = λ k e. d .per-master k (rw q at e);

@@ -48,9 +48,18 @@ too-big = (refl, refl, refl, refl)
 -- a leading zero, a unit that is missing, one of the wrong kind, the word of a kind that has not landed
 not-of-the-form : (importAnswer 99 (word "pnet-segment,00\n") ≡ put.Refused 23 1) × (importAnswer 99 (word "worldfip-exchange,184\n") ≡ put.Refused 23 1)
     × (importAnswer 99 (word "worldfip-exchange,184 bp\n") ≡ put.Refused 23 1)
-    × (importAnswer 99 (word "pnet-segment,2\npnet-edition,2\n") ≡ put.Refused 23 2)
+    × (importAnswer 99 (word "pnet-segment,2\nprofibus-ring,2,500 bp\n") ≡ put.Refused 23 2)
 unfolding exportAnswer exportBytes importAnswer importBytes sheetOf decimal widthOf holds firstOf places
 not-of-the-form = (refl, refl, refl, refl)
+
+-- by edition 2, without a stream, by another edition, with a unit, and where it may not stand
+by-edition : (importAnswer 99 (word "pnet-segment,2\npnet-edition,2\npnet-stream,1,9 bp,99 bp,99 bp\n") ≡ put.Next 16)
+    × (importAnswer 99 (word "pnet-segment,2\npnet-edition,2\n") ≡ put.Refused 6 4)
+    × (importAnswer 99 (word "pnet-segment,2\npnet-edition,3\n") ≡ put.Refused 4 2)
+    × (importAnswer 99 (word "pnet-segment,2\npnet-edition,2 bp\n") ≡ put.Refused 23 2)
+    × (importAnswer 99 (word "worldfip-exchange,184 us\npnet-edition,1\n") ≡ put.Refused 3 5)
+unfolding exportAnswer exportBytes importAnswer importBytes sheetOf decimal widthOf holds firstOf places
+by-edition = (refl, refl, refl, refl, refl)
 
 -- with release jitter, and with J past T - D
 jittered : (importAnswer 99 (word "pnet-segment,2\npnet-jitter-stream,1,9 bp,99 bp,9 bp,90 bp\n") ≡ put.Next 18)

@@ -1,6 +1,6 @@
 -- Page 02, 'Ask 14': export and import are inverse on all sheets that read without refusal and are not of kind 3. The laws of the two calls are at the end.
 -- Assumes nothing.
-use Prim.Native.Nat.{ℕ, zero, suc, _/_, _%_, _^_, _≤_, _<_}
+use Prim.Native.Nat.{ℕ, zero, suc, _+_, _-_, _/_, _%_, _^_, _≤_, _<_}
 use mathlib.Core.Path.{_≡_, refl, sym, ap, _∙_, subst}
 use mathlib.Core.List.{List, [], _∷_, _++_}
 use mathlib.Core.Bool.{Bool, true, false, not, _||_, true≢false}
@@ -8,8 +8,8 @@ use mathlib.Core.Logic.{_⊎_, inl, inr}
 use native.Mathlib.Omega.{arith}
 use borrow.Author.Tests.{eqb-true, ltb-true, ltb-false, le-ltb, not-false}
 use lib.Dec.{ltb, eqb}
-use lib.ListN.{length, getD, take, drop}
-use lib.Seq.{take-at, drop-at}
+use lib.ListN.{length, getD, take, drop, length-append, List·getD-append}
+use lib.Seq.{take-at, drop-at, getD-append-add}
 use Rattle.common.specs.Checks.{check, verdict}
 use Rattle.common.specs.Checks.Verdict.{Passed}
 use Rattle.common.proofs.Checks.{Clear, passed-if, passed-then}
@@ -31,7 +31,7 @@ use Rattle.sheet_read.specs.Records.{recordsIn, bytesOf}
 use Rattle.sheet_read.specs.Whole.{Outcome, reading}
 use Rattle.sheet_read.specs.Whole.Outcome.{Read, Not}
 use Rattle.sheet_read.proofs.Order.{stream-of}
-use Rattle.sheet_read.proofs.Known.{reading-whole, reading-read, settings-none}
+use Rattle.sheet_read.proofs.Known.{reading-read}
 use Rattle.sheet_read.proofs.Trips.{writable, read-right, read-written}
 use Rattle.sheet_line.specs.Lines.{wordOf, hasWord, inBytes, sayable}
 use Rattle.sheet_line.proofs.Lines.{known-but-3}
@@ -63,28 +63,40 @@ each-sayable [] h = none
 each-sayable (r ∷ rs) h = more (h 0 (omega arith)) (each-sayable rs (λ i l. h (suc i) (omega arith)))
 
 module _ (s : List ℕ) (S : Sheet) (e : reading s ≡ Read S) where
-  -- a first record and its streams
-  pub records-are : recordsIn S ≡ S .head ∷ S .streams
+  -- a first record, its settings and its streams
+  pub how-many-records : length (recordsIn S) ≡ 1 + length (S .settings) + length (S .streams)
   unfolding recordsIn
-  records-are =
-      let r = reading-whole s S e in
-      let q : S .settings ≡ [] = ap (λ (x : Sheet). x .settings) (r .says) ∙ settings-none s (r .m) (r .upto) in
-      rw q
+  how-many-records = omega (arith, length-append (S .settings) (S .streams))
 
   pub ranged-at : (i : ℕ) → i < length (recordsIn S) → inRange greatest (getD (recordsIn S) i nothing) ≡ true
   ranged-at i l = writable (recordsIn S) (read-right s S e) i l .1
 
   -- where the first record has a word, all have
-  word-at : hasWord (S .head .kind) ≡ true → (i : ℕ) → i < length (S .head ∷ S .streams) → hasWord (getD (S .head ∷ S .streams) i nothing .kind) ≡ true
+  behind-word : (i : ℕ) → i < length (S .settings ++ S .streams) → hasWord (getD (S .settings ++ S .streams) i nothing .kind) ≡ true
+  unfolding hasWord wordOf kinds
+  behind-word i l = split (ltb i (length (S .settings))) refl
+    where
+      split : (b : Bool) → ltb i (length (S .settings)) ≡ b → hasWord (getD (S .settings ++ S .streams) i nothing .kind) ≡ true
+      split true q =
+          let k = ltb-true i (length (S .settings)) q in
+          rw (List·getD-append (S .settings) (S .streams) nothing i k, reading-read s S e .setting-kinds i k) refl
+      split false q =
+          let k = ltb-false i (length (S .settings)) q in
+          let j = i - length (S .settings) in
+          let z : i ≡ length (S .settings) + j = omega arith in
+          let r = getD (S .streams) j nothing in
+          let w = stream-word (r .kind) (stream-of (busIn S) (r .kind) (reading-read s S e .kinds j (omega (arith, length-append (S .settings) (S .streams)))) .0) in
+          rw (z, getD-append-add (S .settings) (S .streams) j nothing) w
+
+  word-at : hasWord (S .head .kind) ≡ true → (i : ℕ) → i < length (recordsIn S) → hasWord (getD (recordsIn S) i nothing .kind) ≡ true
+  unfolding recordsIn
   word-at w zero l = w
-  word-at w (suc i) l =
-      let r = getD (S .streams) i nothing in
-      stream-word (r .kind) (stream-of (busIn S) (r .kind) (reading-read s S e .kinds i (omega arith)) .0)
+  word-at w (suc i) l = behind-word i (omega arith)
 
   pub all-sayable : hasWord (S .head .kind) ≡ true → AllSayable (recordsIn S)
   all-sayable w =
       each-sayable (recordsIn S)
-      (λ i l. ranged-sayable greatest (getD (recordsIn S) i nothing) (rw records-are (word-at w i (rw records-are at l))) (ranged-at i l) (omega arith) (omega arith))
+      (λ i l. ranged-sayable greatest (getD (recordsIn S) i nothing) (word-at w i l) (ranged-at i l) (omega arith) (omega arith))
 
   -- its text stands for it
   pub text-stands : hasWord (S .head .kind) ≡ true → ((i : ℕ) → getD s i 0 < 256) → StandsFor (sheetText S) s

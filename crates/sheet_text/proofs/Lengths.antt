@@ -25,9 +25,9 @@ use Rattle.sheet_line.specs.Lines.{lineText}
 use Rattle.sheet_line.proofs.Lines.{Small, line-most}
 use Rattle.sheet_pieces.specs.Texts.{textOf}
 use Rattle.sheet_text.specs.Answers.{sheetText, most-text, exportAnswer, importAnswer}
-use Rattle.sheet_text.proofs.Inverse.{records-are, ranged-at, export-then, import-then}
+use Rattle.sheet_text.proofs.Inverse.{how-many-records, ranged-at, export-then, import-then}
 
-pub most-text-is : most-text ≡ 76896
+pub most-text-is : most-text ≡ 76992
 unfolding most-text mostInAll
 most-text-is = refl
 
@@ -61,18 +61,19 @@ text-at-most s S e =
     omega (
       arith,
       lines-at-most (recordsIn S) (ranged-at s S e),
-      ap length (records-are s S e),
+      how-many-records s S e,
+      reading-read s S e .few-settings,
       reading-read s S e .few,
       most-text-is,
     )
 
 -- the lengths that are answered: no one takes them for a refusal behind 2^32 (planner_exports)
-pub written-at-most : (room : ℕ) (s : List ℕ) (n : ℕ) → exportAnswer room s ≡ put.Next n → n ≤ 76896
+pub written-at-most : (room : ℕ) (s : List ℕ) (n : ℕ) → exportAnswer room s ≡ put.Next n → n ≤ 76992
 written-at-most room s n e =
     let x = export-then room s n e in
     omega (arith, x .is-length, text-at-most s (x .sheet) (x .reads), most-text-is)
 
-pub read-at-most : (room : ℕ) (t : List ℕ) (n : ℕ) → importAnswer room t ≡ put.Next n → n ≤ 12802
+pub read-at-most : (room : ℕ) (t : List ℕ) (n : ℕ) → importAnswer room t ≡ put.Next n → n ≤ 12804
 read-at-most room t n e =
     let x = import-then room t n e in
     omega (arith, x .is-length, length-at-most (x .bytes) (x .sheet) (x .reads), longest-sheet-is)

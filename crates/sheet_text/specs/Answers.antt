@@ -32,10 +32,10 @@ unfoldable pub sheetText : Sheet → List ℕ
 unfolding textOf recordsIn
 sheetText S = textOf (recordsIn S)
 
--- none is longer: a first record and 800 streams, and no line has more than 96 bytes, 76,896 in all
+-- none is longer: a first record, the edition and 800 streams, and no line has more than 96 bytes, 76,992 in all
 unfoldable pub most-text : ℕ
 unfolding mostInAll
-most-text = suc (mostInAll pnet) * 96
+most-text = suc (suc (mostInAll pnet)) * 96
 
 unfoldable pub exportChecks : ℕ → Sheet → List Check
 unfolding hasWord sheetText

@@ -19,7 +19,7 @@ struct Sheet {
     deadline: u32,
     jitter: u32,
     streams: usize,
-    bytes: [u8; 12802],
+    bytes: [u8; 12804],
     owner: [u8; 800],
     cycle: [u16; 800],
 }
@@ -39,7 +39,7 @@ impl Sheet {
             d: 0,
             e: 0,
         };
-        let mut bytes = [0u8; 12802];
+        let mut bytes = [0u8; 12804];
         sheet_write::put_record(&mut bytes, 0, head);
         Sheet {
             masters,

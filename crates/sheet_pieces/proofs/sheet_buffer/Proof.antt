@@ -5,7 +5,7 @@ use Rattle.sheet_pieces.proofs.sheet_buffer.Statement.{statement}
 use Rattle.sheet_pieces.proofs.sheet_buffer.Tie as tie
 
 returns : tie.Need-returns
-returns c = rw room-is (zeros 12834)
+returns c = rw room-is (zeros 12836)
 
 pub sheet-buffer-spec : {M : Type 1} → statement M
 sheet-buffer-spec = tie.close (tie.spec returns)
