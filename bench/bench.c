@@ -116,6 +116,16 @@ static void with_jitter(uint32_t jitter)
     }
 }
 
+/* The P-NET sheet at hand with its edition written, and with so many more masters, which have no streams. */
+static void with_edition(uint32_t edition, uint32_t silent)
+{
+    for (size_t at = length; at > 2; at--)
+        sheet[at + 1] = sheet[at - 1];
+    length += 2;
+    sheet[1] = (uint8_t)(sheet[1] + silent);
+    sheet[2] = 8, sheet[3] = (uint8_t)edition;
+}
+
 static void profibus_sheet(uint32_t masters, uint32_t streams)
 {
     length = 0;
@@ -326,6 +336,9 @@ static int agree(void)
     return we_put.length == they_put.length && memcmp(we_put.bytes, they_put.bytes, sizeof we_put.bytes) == 0;
 }
 
+/* how what is measured stands before its figures */
+#define NAME "%-48s"
+
 static int wrong;
 
 /* whether the two answer alike: the refusal's number, its place, and all results */
@@ -355,7 +368,7 @@ static void spoiled(const char *name, uint8_t *bytes, size_t *size, int (*proved
             asked++;
         }
     *size = whole;
-    printf("%-44s %12ld asked %9ld refused %8ld differ\n", name, asked, refused, differ);
+    printf(NAME " %12ld asked %9ld refused %8ld differ\n", name, asked, refused, differ);
     wrong |= differ != 0;
 }
 
@@ -363,58 +376,72 @@ static void line(const char *name, int (*proved)(void), int (*plain)(void))
 {
     int refusal;
     if (!alike(proved, plain, &refusal)) {
-        printf("%-44s the two differ\n", name);
+        printf(NAME " the two differ\n", name);
         wrong = 1;
         return;
     }
     double a, b;
     timed(proved, plain, &a, &b);
-    printf("%-44s %12.0f ns %12.0f ns %8.2f", name, a, b, a / b);
+    printf(NAME " %12.0f ns %12.0f ns %8.2f", name, a, b, a / b);
     if (records)
         printf(" %12.2f %8.2f", a / records, b / records);
     printf(" %s\n", refusal ? "(refused)" : "");
 }
 
-/* a P-NET sheet by its streams, its masters and the greatest round count; J for one whose streams have it */
+/* what a P-NET sheet is called: its edition where that is written, J for one whose streams have it, and how many there are */
+static int call(char *name, size_t room)
+{
+    size_t front = sheet[2] == 8 ? 4 : 2;
+    uint32_t late = sheet[front] == 7;
+
+    return snprintf(name, room, "P-NET%s%s, %u streams", front == 2 ? "" : sheet[3] == 2 ? " ed. 2" : " ed. 1", late ? " J" : "",
+                    (uint32_t)(length - front) / (late ? 16 : 12));
+}
+
+/* a P-NET sheet by that, its masters and the greatest round count */
 static void pnet_line(void)
 {
-    char name[64];
-    uint32_t most = 0, late = sheet[2] == 7;
+    char name[80];
+    uint32_t most = 0;
+    int at = call(name, sizeof name);
 
     their_pnet();
     for (uint32_t k = 0; k < sheet[1]; k++)
         most = theirs[2][k] > most ? theirs[2][k] : most;
-    snprintf(name, sizeof name, "P-NET%s, %u streams, %u masters, rounds %u", late ? " J" : "", (uint32_t)(length - 2) / (late ? 16 : 12), sheet[1], most);
+    snprintf(name + at, sizeof name - (size_t)at, ", %u masters, rounds %u", sheet[1], most);
     line(name, our_pnet, their_pnet);
 }
 
 /* its text, written and read */
 static void text_lines(void)
 {
-    char name[64];
-    uint32_t late = sheet[2] == 7, streams = (uint32_t)(length - 2) / (late ? 16 : 12);
+    char name[80];
+    int at = call(name, sizeof name);
 
     text_of_sheet();
-    snprintf(name, sizeof name, "P-NET%s, %u streams, written as %u bytes", late ? " J" : "", streams, (uint32_t)written);
+    snprintf(name + at, sizeof name - (size_t)at, ", written as %u bytes", (uint32_t)written);
     line(name, our_text, their_text);
-    snprintf(name, sizeof name, "P-NET%s, %u streams, read from %u bytes", late ? " J" : "", streams, (uint32_t)written);
+    snprintf(name + at, sizeof name - (size_t)at, ", read from %u bytes", (uint32_t)written);
     line(name, our_sheet, their_sheet);
 }
 
 int main(void)
 {
-    printf("%-44s %15s %15s %8s\n", "sheet", "proved", "plain C", "ratio");
+    printf(NAME " %15s %15s %8s\n", "sheet", "proved", "plain C", "ratio");
     pnet_sheet(2, 3, 100000), pnet_line();
     pnet_sheet(4, 10, 100000), pnet_line();
     for (uint32_t streams = 100; streams <= 800; streams *= 2)
         pnet_sheet(20, streams, 1000000), pnet_line();
     with_jitter(500000), pnet_line(); /* the last of these */
+    pnet_sheet(20, 800, 1000000), with_edition(2, 0), pnet_line();
+    pnet_sheet(20, 800, 1000000), with_edition(2, 12), pnet_line();
     pnet_sheet(32, 800, 1000000), pnet_line();
     pnet_chain(4, 1, 4, 10, 6), pnet_line();
     pnet_chain(32, 1, 30, 100, 70), pnet_line();
     pnet_chain(32, 8, 80, 800, 160), pnet_line();
     pnet_chain(32, 3, 80, 800, 560), pnet_line();
     with_jitter(500000), pnet_line();
+    pnet_chain(32, 3, 80, 800, 560), with_edition(2, 0), pnet_line(); /* every cycle is as long, so the search goes the same way */
     pnet_chain(15, 5, 80, 800, 400), pnet_line();
     for (uint32_t streams = 100; streams <= 800; streams *= 2)
         pnet_chain(32, 1, streams < 200 ? 40 : 80, streams, 60), pnet_line();
@@ -435,12 +462,13 @@ int main(void)
     worldfip_sheet(64, 4096, 100);
     line("WorldFIP, 64 variables, 4096 rows, 100 slots", our_worldfip, their_worldfip);
 
-    printf("\n%-44s %15s %15s %8s\n", "text", "proved", "plain C", "ratio");
+    printf("\n" NAME " %15s %15s %8s\n", "text", "proved", "plain C", "ratio");
     pnet_sheet(2, 3, 100000), text_lines();
     pnet_sheet(20, 800, 100000), text_lines();
     with_jitter(50000), text_lines();
+    pnet_sheet(20, 800, 100000), with_edition(2, 0), text_lines();
 
-    printf("\n%-44s %15s %15s %8s %21s\n", "capture", "proved", "plain C", "ratio", "ns a record");
+    printf("\n" NAME " %15s %15s %8s %21s\n", "capture", "proved", "plain C", "ratio", "ns a record");
     pnet_sheet(2, 3, 100000);
     capture_of(3, SHORT);
     line("10 KB, 2 masters, 3 streams", our_capture, their_capture);
@@ -462,6 +490,12 @@ int main(void)
     spoiled("P-NET, 100 streams, 10 masters", sheet, &length, our_pnet, their_pnet);
     with_jitter(50000);
     spoiled("P-NET J, 100 streams, 10 masters", sheet, &length, our_pnet, their_pnet);
+    pnet_sheet(10, 100, 100000), with_edition(1, 3);
+    spoiled("P-NET ed. 1, 100 streams, 13 masters", sheet, &length, our_pnet, their_pnet);
+    pnet_sheet(10, 100, 100000), with_edition(2, 3);
+    spoiled("P-NET ed. 2, 100 streams, 13 masters", sheet, &length, our_pnet, their_pnet);
+    pnet_sheet(10, 100, 100000), with_jitter(50000), with_edition(2, 3);
+    spoiled("P-NET ed. 2 J, 100 streams, 13 masters", sheet, &length, our_pnet, their_pnet);
     profibus_sheet(10, 100);
     spoiled("PROFIBUS, 10 masters, 100 streams", sheet, &length, our_profibus, their_profibus);
     worldfip_sheet(16, 256, 8);
@@ -470,16 +504,24 @@ int main(void)
     capture_of(3, 300);
     spoiled("a sheet beside a capture", sheet, &length, our_capture, their_capture);
     spoiled("a capture of 300 records", capture, &captured, our_capture, their_capture);
+    with_edition(2, 1);
+    spoiled("a sheet of edition 2 beside a capture", sheet, &length, our_capture, their_capture);
+    spoiled("a capture of 300 records beside edition 2", capture, &captured, our_capture, their_capture);
     pnet_sheet(10, 100, 100000);
     spoiled("a sheet written as text", sheet, &length, our_text, their_text);
     with_jitter(50000);
     spoiled("a sheet with J written as text", sheet, &length, our_text, their_text);
+    with_edition(2, 0);
+    spoiled("a sheet with J and its edition written as text", sheet, &length, our_text, their_text);
     pnet_sheet(4, 10, 100000);
     text_of_sheet();
     spoiled("a text of 11 lines", text, &written, our_sheet, their_sheet);
     with_jitter(50000);
     text_of_sheet();
     spoiled("a text of 11 lines with J", text, &written, our_sheet, their_sheet);
+    with_edition(2, 0);
+    text_of_sheet();
+    spoiled("a text of 12 lines with J and an edition", text, &written, our_sheet, their_sheet);
     worldfip_sheet(16, 256, 8);
     text_of_sheet();
     spoiled("a text of 17 lines", text, &written, our_sheet, their_sheet);
