@@ -53,6 +53,7 @@ pub(crate) fn big_cell(line: &[u8], taken: Record) -> usize {
 pub(crate) fn behind_number(kind: u8, cell: usize) -> u8 {
     match kind {
         1 => b'\n',
+        8 => b'\n',
         5 => b' ',
         _ => { if cell == 1 { b',' } else { b' ' } }
     }

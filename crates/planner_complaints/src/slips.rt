@@ -27,13 +27,14 @@ use sheet_record::record_at;
 // ---- Lists of words, a line for each number from 1 on
 
 // The form of a line, by its kind. Kind 3 has none.
-const FORMS: [u8; 254] = *b"pnet-segment,MASTERS
+const FORMS: [u8; 275] = *b"pnet-segment,MASTERS
 pnet-stream,MASTER,CYCLE bp,SPACING bp,DEADLINE bp
 
 profibus-stream,MASTER,CYCLE bp,DEADLINE bp
 worldfip-exchange,EXCHANGE us
 worldfip-variable,IDENTIFIER,PERIOD us
 pnet-jitter-stream,MASTER,CYCLE bp,SPACING bp,DEADLINE bp,JITTER bp
+pnet-edition,EDITION
 ";
 
 // What can be wanted at a place.
@@ -128,7 +129,7 @@ fn tell_form(kind: u8) {
     say(&FORMS, kind as usize);
 }
 
-// The unit of a cell's number, if it has one: masters and identifiers stand first and have none.
+// The unit of a cell's number, if it has one: masters, identifiers and editions stand first and have none.
 fn say_unit(kind: u8, cell: usize) {
     if (cell == 1) & (kind != 5) {
         return;
@@ -146,7 +147,7 @@ fn tell_word(name: &[u8], number: usize, line: &[u8]) {
     show_place(name, number, line, 0);
     tell_wanted(WORD);
     complain(
-        b"planner: pnet-segment, pnet-stream, profibus-stream, worldfip-exchange, worldfip-variable, pnet-jitter-stream\n",
+        b"planner: pnet-segment, pnet-stream, profibus-stream, worldfip-exchange, worldfip-variable, pnet-jitter-stream, pnet-edition\n",
     );
     advise(advice_on_word(line));
 }
