@@ -25,7 +25,7 @@ NAMES = {
     5: "WorldFIP",
     6: "WorldFIP variable",
     7: "P-NET stream with jitter",
-    8: "P-NET edition",
+    8: "P-NET rule",
 }
 # each field's bytes, name and unit
 FIELDS = {

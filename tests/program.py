@@ -31,6 +31,7 @@ GOOD = {
     5: (400,),
     6: (17, 1000),
     7: (1, 203, second_opinion.BILLION, 1, 0),
+    8: (1,),
 }
 # what a field's greatest value is called, where it stands in another field, with the others as above
 NAMED = {
@@ -47,6 +48,9 @@ PHRASES = (
     "at most %d streams" % second_opinion.STREAMS_LIMIT,
     "at most %d for one master" % second_opinion.STREAMS_LIMIT_OF_MASTER,
     "at most %d variables" % second_opinion.VARIABLES_LIMIT,
+    "one of kind 8 may stand just behind kind 1.",
+    "Edition 1 of the P-NET rule, which holds without kind 8,",
+    "%d bp if it has no streams; edition 2 charges every master the longest" % second_opinion.UNUSED_VISIT,
     "48 in %d us" % second_opinion.us_up(48),
     "6 in %d ns" % second_opinion.ns_up(6),
     "a kind that is not %d..%d" % (min(second_opinion.WIDTHS), max(second_opinion.WIDTHS)),
@@ -69,7 +73,10 @@ REFUSALS = [number for number in range(1, 20) if number != 13] + [23]
 GOOD_SHEET = bytes.fromhex("0101020100cb000003e8000003e8")
 # T 1000, D 700, J 300
 JITTER_SHEET = bytes.fromhex("0101070100cb000003e8000002bc0000012c")
-LONGEST_SHEET = bytes([1, 32]) + b"".join(bytes([7, 1 + i % 32]) + JITTER_SHEET[4:] for i in range(800))
+# a silent master beside the stream: the bound is 500 bp, and under edition 1 260 bp
+EDITION_SHEET = bytes.fromhex("01020802020100cb000003e8000003e8")
+EDITION_TEXT = b"pnet-segment,2\n" + slips.EDITION + slips.STREAM
+LONGEST_SHEET = bytes([1, 32, 8, 2]) + b"".join(bytes([7, 1 + i % 32]) + JITTER_SHEET[4:] for i in range(800))
 RING_SHEET = bytes.fromhex("03010000012c000001f4" "040100000190000020d0")
 BAD_TEXT = slips.TEXT.replace(b"203 bp", b"203bp")
 # 64 variables in each of 4,096 rows: no pipe holds its report
@@ -77,7 +84,7 @@ TABLE = bytes.fromhex("0500000001") + b"".join(
     b"\x06" + (60_000 + n).to_bytes(2, "big") + (1_000 if n else 4_096_000).to_bytes(4, "big") for n in range(64))
 KIND = re.compile(r" {3}(\d) +(\d+)  ([^:]+): (.*)")
 FIELD = re.compile(r"(.+) \((\d)\) (?:(any)|(\d+)\.\.(\w+(?: ?- ?\w+)?)(?: (bp|us))?)$")
-UNTIMED = ("masters", "master", "identifier")
+UNTIMED = ("masters", "master", "identifier", "edition")
 
 
 def run(program, words, data=b""):
@@ -253,12 +260,18 @@ def refused_troubles(program, words, told, data=b""):
 
 def exchange_troubles(program, folder, sheet, text):
     """Sheets as text and back, by name and on standard input, whole or not at all."""
-    for command, data, name, made in (("--export", GOOD_SHEET, sheet, slips.TEXT), ("--export", slips.TEXT, text, slips.TEXT), ("--import", slips.TEXT, text, GOOD_SHEET)):
+    edition = os.path.join(folder, "edition.csv")
+    with open(edition, "wb") as file:
+        file.write(EDITION_TEXT)
+    for command, data, name, made in (
+        ("--export", GOOD_SHEET, sheet, slips.TEXT), ("--export", slips.TEXT, text, slips.TEXT), ("--import", slips.TEXT, text, GOOD_SHEET),
+        ("--export", EDITION_TEXT, edition, EDITION_TEXT), ("--import", EDITION_TEXT, edition, EDITION_SHEET),
+    ):
         for words, given in (([command], data), ([command, "-"], data), ([command, name], b"")):
             done = slips.call(program, words, given, env=AS_BUILT)
             if (done.stdout, done.stderr, done.returncode) != (made, b"", 0):
                 yield "%s: wrote %r, said %r and ended with %d" % (words, done.stdout, done.stderr, done.returncode)
-    for data in (GOOD_SHEET, TABLE, GOOD_SHEET[:2] + GOOD_SHEET[2:] * 80, JITTER_SHEET, LONGEST_SHEET):
+    for data in (GOOD_SHEET, TABLE, GOOD_SHEET[:2] + GOOD_SHEET[2:] * 80, JITTER_SHEET, EDITION_SHEET, LONGEST_SHEET):
         name = os.path.join(folder, "any.sheet")
         with open(name, "wb") as file:
             file.write(data)
@@ -278,6 +291,13 @@ def exchange_troubles(program, folder, sheet, text):
         ("--import", slips.SEGMENT, name + "refused 6 at byte 2\n"),
         ("--import", slips.TEXT * 2, name + "byte 14 of the sheet is line 3 of the text\n"),
         ("--import", BAD_TEXT, name + "refused 23 at line 2\n"),
+        ("--import", EDITION_TEXT.replace(b"n,2", b"n,3"), name + "refused 4 at byte 2\n"),
+        ("--import", EDITION_TEXT.replace(b"n,2", b"n,3"), name + "byte 2 of the sheet is line 2 of the text\n"),
+        ("--import", EDITION_TEXT.replace(b"n,2", b"n,256"), name + "refused 23 at line 2\n"),
+        ("--import", EDITION_TEXT.replace(b"n,2", b"n,256"), "at most 255 there\nplanner: the form of that line: pnet-edition,EDITION\n"),
+        ("--import", EDITION_TEXT + slips.EDITION, name + "refused 3 at byte 16\n"),
+        ("--export", EDITION_SHEET[:4], name + "refused 6 at byte 4\n"),
+        ("--export", EDITION_SHEET.replace(b"\x08\x02", b"\x08\x03"), name + "refused 4 at byte 2\n"),
         ("--import", b" " + slips.TEXT, name + "refused 23 at line 1\n"),
         ("--import", b" " + slips.TEXT, slips.AROUND),
         ("--import", GOOD_SHEET, slips.BYTES),
@@ -289,6 +309,25 @@ def same_troubles(program, texts, sheets, data=b""):
     """A text has the report of its sheet."""
     if run(program, texts, data) != run(program, sheets, data):
         yield "%s: %r, %s: %r" % (texts, run(program, texts, data), sheets, run(program, sheets, data))
+
+
+def edition_troubles(program, folder):
+    """The samples of both editions, by text: how each ends, that edition 1 is as good as none, and that a text out of range is told its line."""
+    first, second, late = (str(ROOT / "samples" / ("pnet-%s-edition%s.csv" % name)) for name in (("first", ""), ("second", ""), ("second", "-late")))
+    for name, ending in ((first, 0), (second, 0), (late, 1), (str(ROOT / "samples" / "damaged-edition.sheet"), 1)):
+        yield from end_troubles(program, [name], ending)
+    for deadline, ending in (("2770", 0), ("2769", 1)):
+        yield from end_troubles(program, ["--path", deadline, "bp", first, "2", "30", "bp", second, "1"], ending)
+    written = pathlib.Path(first).read_bytes()
+    if run(program, [first]) != run(program, [], written.replace(b"pnet-edition,1\n", b"")):
+        yield "edition 1 written is not as without"
+    if run(program, [late])[2] == run(program, [], pathlib.Path(late).read_bytes().replace(slips.EDITION, b""))[2]:
+        yield "edition 2 is as edition 1"
+    name = os.path.join(folder, "edition.csv")
+    for edition, took, ending in ((b"2", 500, 0), (b"2", 501, 1), (b"1", 260, 0), (b"1", 261, 1)):
+        with open(name, "wb") as file:
+            file.write(EDITION_TEXT.replace(b"n,2", b"n," + edition))
+        yield from end_troubles(program, [name, "-"], ending, event(16, 1, 0) + event(17, 1, took))
 
 
 def long_troubles(program):
@@ -333,6 +372,7 @@ def text_troubles(program, folder, sheet):
         out, err, status = run(program, words, data)
         if (out, status) != (report, 1) or ": line 2, column 18 has 'bp'; wanted there: a blank" not in err:
             yield "%s: wrote %r, said %r and ended with %d" % (words, out, err, status)
+    yield from edition_troubles(program, folder)
     yield from long_troubles(program)
 
 

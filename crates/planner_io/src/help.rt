@@ -5,7 +5,7 @@ use crate::output::put;
 use planner_complaints::complain;
 
 // The version of the project.
-const VERSION: [u8; 14] = *b"planner 1.7.0
+const VERSION: [u8; 14] = *b"planner 1.8.0
 ";
 
 // How the program is called, but for its commands.
@@ -74,6 +74,7 @@ kind  body  fields, each with its bytes and its range
    7    15  P-NET stream with release jitter: master (1) 1..N, longest cycle
             C (2) 1..1548 bp, spacing T (4) 1..1000000000 bp, deadline
             D (4) 1..T-J bp, jitter J (4) 0..T-1 bp
+   8     1  P-NET rule: edition (1) 1..2
 ",
     )
 }
@@ -81,11 +82,15 @@ kind  body  fields, each with its bytes and its range
 fn rules() -> bool {
     put(
         b"
-The first record is 1, 3 or 5; all later ones are 2 or 7, 4 or 6 to match. P-NET
-and PROFIBUS: at most 800 streams, at most 80 for one master. WorldFIP: at most
-64 variables, no identifier twice. us are microseconds and ns nanoseconds.
-bp are bit periods: of P-NET, 48 in 625 us or 6 in 78125 ns; of that ring for
-PROFIBUS.
+The first record is 1, 3 or 5; all later ones are 2 or 7, 4 or 6 to match, but
+one of kind 8 may stand just behind kind 1. P-NET and PROFIBUS: at most 800
+streams, at most 80 for one master. WorldFIP: at most 64 variables, no
+identifier twice. us are microseconds and ns nanoseconds. bp are bit periods: of
+P-NET, 48 in 625 us or 6 in 78125 ns; of that ring for PROFIBUS.
+
+Edition 1 of the P-NET rule, which holds without kind 8, charges each master the
+longest that it holds the token itself, and 10 bp if it has no streams; edition
+2 charges every master the longest that any of them does.
 
 A P-NET stream keeps its spacing if each request comes 0 to J after a nominal
 time of its own, and these are at least T apart; without jitter, if its requests
@@ -106,6 +111,7 @@ one of these words and a comma, and has one record a line:
    worldfip-exchange,EXCHANGE us
    worldfip-variable,IDENTIFIER,PERIOD us
    pnet-jitter-stream,MASTER,CYCLE bp,SPACING bp,DEADLINE bp,JITTER bp
+   pnet-edition,EDITION
 
 Numbers are decimal digits with no zero in front; behind each time stands one
 blank and its unit; each line ends with LF, the last one too. --export writes
@@ -175,7 +181,7 @@ fn refusals() -> bool {
         b"
 A sheet that cannot be planned is refused with a number and a place:
 
-   1  it is empty, or ends inside a record    2  a kind that is not 1..7
+   1  it is empty, or ends inside a record    2  a kind that is not 1..8
    3  a kind in the wrong position            4  a field out of range
    5  one stream more than a limit allows     6  a first record and no stream
    7  an identifier met before                8  a P-NET bound above a deadline
