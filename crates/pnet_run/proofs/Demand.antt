@@ -1,6 +1,6 @@
 -- Demand 3, sentence by sentence, and what page 02's Asks 2, 7 and 10 add to it. The bus and its runs are in specs/Run, the words of the promise in
 -- specs/Promise, and the bound R and the refined figure W are the planner's, of crates/pnet_rules, by the charge of the sheet's edition. Assumes nothing.
-use Prim.Native.Nat.{ℕ, _-_, _*_, _≤_}
+use Prim.Native.Nat.{ℕ, _-_, _≤_}
 use mathlib.Core.Path.{_≡_}
 use mathlib.Core.Bool.{false}
 use mathlib.Core.List.{List}
