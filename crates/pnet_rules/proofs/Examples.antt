@@ -1,7 +1,7 @@
 -- Sheets worked by hand: page 01's third case, whose figures under the count of page 02, Ask 2, are R 1,000 and 500, W 760 and 500, rounds 1 and 1;
 -- and the sheet of that ask, T and D of the second master's stream 1,000 bp: W 1,000 after 2 rounds. With 1,300 bp it is 760, the least of
 -- two solutions. Page 02, Ask 7: with J of that stream 2,500 bp and T 3,000 it is 1,000 after 2 rounds, with T 4,000 it is 760 after 1.
--- Assumes nothing.
+-- Ask 10: two sheets under edition 2, and what they say under edition 1. Assumes nothing.
 use Prim.Native.Nat.{ℕ}
 use mathlib.Core.Path.{_≡_, refl}
 use mathlib.Core.List.{[], _∷_}
@@ -58,3 +58,47 @@ refineds-with-jitter = (refl, refl, refl, refl)
 rounded-once : (refined (pair 4000 1500) 1 ≡ 760) × (rounds (pair 4000 1500) 1 ≡ 1)
 unfolding segmentOf streamAt owns count longest hold largest charged turnBy boundBy turn bound upto greatest up firstOf saving rightBy valueOf stands roundsOf mostRounds askedBy right rounds refined
 rounded-once = (refl, refl)
+
+-- ---- Page 02, Ask 10
+
+-- a segment of N masters by the setting of an edition
+abbrev edition : ℕ → Record
+edition e = record { kind = 8; a = e; b = 0; c = 0; d = 0; e = 0 }
+
+abbrev lone : ℕ → Segment
+unfolding segmentOf
+lone e = segmentOf (record { head = record { kind = 1; a = 2; b = 0; c = 0; d = 0; e = 0 }; settings = edition e ∷ []; streams = stream 1 100000 ∷ [] })
+
+-- master 2 is silent: it is charged 250 too, and saves 240 of them
+charged-alike : (bound (lone 2) 1 ≡ 500) × (bound (lone 2) 2 ≡ 0) × (refined (lone 2) 1 ≡ 260) × (refined (lone 2) 2 ≡ 0) × (rounds (lone 2) 1 ≡ 1) × (rounds (lone 2) 2 ≡ 0)
+unfolding segmentOf streamAt owns count longest hold largest charged turnBy boundBy turn bound upto greatest up firstOf saving rightBy valueOf stands roundsOf mostRounds askedBy right rounds refined
+charged-alike = (refl, refl, refl, refl, refl, refl)
+
+-- under edition 1 it is charged 10, and saves nothing
+charged-apart : (bound (lone 1) 1 ≡ 260) × (refined (lone 1) 1 ≡ 260) × (rounds (lone 1) 1 ≡ 1)
+unfolding segmentOf streamAt owns count longest hold largest charged turnBy boundBy turn bound upto greatest up firstOf saving rightBy valueOf stands roundsOf mostRounds askedBy right rounds refined
+charged-apart = (refl, refl, refl)
+
+-- three masters, the first of them silent; the longest cycle is one of the third's
+abbrev three : ℕ → Segment
+unfolding segmentOf
+three e =
+    segmentOf
+    (record {
+      head = record { kind = 1; a = 3; b = 0; c = 0; d = 0; e = 0 };
+      settings = edition e ∷ [];
+      streams = stream 3 3000 ∷ record { kind = 2; a = 2; b = 53; c = 1500; d = 1500; e = 0 } ∷ record { kind = 2; a = 3; b = 3; c = 3000; d = 3000; e = 0 } ∷ [];
+    })
+
+three-bounds : (bound (three 2) 1 ≡ 0) × (bound (three 2) 2 ≡ 750) × (bound (three 2) 3 ≡ 1500)
+unfolding segmentOf streamAt owns count longest hold largest charged turnBy boundBy turn bound upto greatest
+three-bounds = (refl, refl, refl)
+
+-- the window of master 2's requests is W and 750: 780 and 750 are more than one spacing, and 780 and the 360 of edition 1 would not be
+three-refineds : (refined (three 2) 1 ≡ 0) × (refined (three 2) 2 ≡ 510) × (refined (three 2) 3 ≡ 1020) × (rounds (three 2) 1 ≡ 0) × (rounds (three 2) 2 ≡ 1) × (rounds (three 2) 3 ≡ 2)
+unfolding segmentOf streamAt owns count longest hold largest charged turnBy boundBy turn bound upto greatest up firstOf saving rightBy valueOf stands roundsOf mostRounds askedBy right rounds refined
+three-refineds = (refl, refl, refl, refl, refl, refl)
+
+three-first : (bound (three 1) 2 ≡ 360) × (bound (three 1) 3 ≡ 720)
+unfolding segmentOf streamAt owns count longest hold largest charged turnBy boundBy turn bound upto greatest
+three-first = (refl, refl)

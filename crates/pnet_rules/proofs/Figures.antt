@@ -66,13 +66,17 @@ module _ (h : ℕ → ℕ) (a : ℕ → ℕ → ℕ) (S : Segment) (k : ℕ) whe
 
 -- ---- The planner's
 
-pub asked-rises : (h : ℕ → ℕ) (S : Segment) (y v w : ℕ) → v ≤ w → askedBy h S y v ≤ askedBy h S y w
+-- as many requests, or more, with as large an R(y) and in as long a window
+pub asked-no-less : (h g : ℕ → ℕ) (S : Segment) (y v w : ℕ) → boundBy h S y ≤ boundBy g S y → v ≤ w → askedBy h S y v ≤ askedBy g S y w
 unfolding askedBy
-asked-rises h S y v w l = upto-mono _ _ (S .number) (λ i lo hi. split (owns S y i) (up-rises _ _ (S .stream i .spacing) (omega arith)))
+asked-no-less h g S y v w r l = upto-mono _ _ (S .number) (λ i lo hi. split (owns S y i) (up-rises _ _ (S .stream i .spacing) (omega arith)))
   where
     split : {x z : ℕ} (b : Bool) → x ≤ z → when b x ≤ when b z
     split true q = q
     split false q = omega arith
+
+pub asked-rises : (h : ℕ → ℕ) (S : Segment) (y v w : ℕ) → v ≤ w → askedBy h S y v ≤ askedBy h S y w
+asked-rises h S y v w l = asked-no-less h h S y v w (omega arith) l
 
 module _ (S : Segment) (k : ℕ) where
   module _ (lo : 1 ≤ k) (hi : k ≤ S .masters) where

@@ -47,17 +47,6 @@ module _ (h : ℕ → ℕ) (s k y : ℕ) where
       split true = omega arith
       split false = term-is s (min s n) (h y) (omega arith) big
 
-  charge-rises : (m n : ℕ) → m ≤ n → charge h s k m y ≤ charge h s k n y
-  unfolding charge
-  charge-rises m n l = split (eqb y k)
-    where
-      q : min s m * (h y - 10) ≤ min s n * (h y - 10)
-      q = let p : min s m ≤ min s n = omega arith in mul-le-mul {n₁ = min s m} {m₁ = h y - 10} {n₂ = min s n} {m₂ = h y - 10} p (omega arith)
-
-      split : (b : Bool) → cond b (s * h y) (10 * s + min s m * (h y - 10)) ≤ cond b (s * h y) (10 * s + min s n * (h y - 10))
-      split true = omega arith
-      split false = omega (arith, q)
-
   -- as many visits, as large a charge
   charge-same : (m n : ℕ) → visit s k m y ≡ visit s k n y → charge h s k m y ≡ charge h s k n y
   unfolding charge visit
@@ -67,6 +56,21 @@ module _ (h : ℕ → ℕ) (s k y : ℕ) where
           → cond b (s * h y) (10 * s + min s m * (h y - 10)) ≡ cond b (s * h y) (10 * s + min s n * (h y - 10))
       split true q = refl
       split false q = ap (λ (x : ℕ). 10 * s + x * (h y - 10)) q
+
+-- it is never less of a larger charge and with more requests
+charge-rises : (h g : ℕ → ℕ) (s k y m n : ℕ) → h y ≤ g y → m ≤ n → charge h s k m y ≤ charge g s k n y
+unfolding charge
+charge-rises h g s k y m n l a = split (eqb y k)
+  where
+    own : s * h y ≤ s * g y
+    own = mul-le-mul {n₁ = s} {m₁ = h y} {n₂ = s} {m₂ = g y} (omega arith) l
+
+    other : min s m * (h y - 10) ≤ min s n * (g y - 10)
+    other = mul-le-mul {n₁ = min s m} {m₁ = h y - 10} {n₂ = min s n} {m₂ = g y - 10} (omega arith) (omega arith)
+
+    split : (b : Bool) → cond b (s * h y) (10 * s + min s m * (h y - 10)) ≤ cond b (s * g y) (10 * s + min s n * (g y - 10))
+    split true = own
+    split false = omega (arith, other)
 
 visit-rises : (s k y m n : ℕ) → m ≤ n → visit s k m y ≤ visit s k n y
 unfolding visit
@@ -93,18 +97,6 @@ module _ (h : ℕ → ℕ) (a : ℕ → ℕ → ℕ) (N s k : ℕ) where
   unfolding rightOf
   right-at-most w = omega arith
 
-  -- the sum of the visits, at most (N - 1)·s
-  visits : ℕ → ℕ
-  visits w = upto (λ y. visit s k (a y w) y) N
-
-  visits-at-most : 1 ≤ k → k ≤ N → (w : ℕ) → visits w ≤ (N - 1) * s
-  unfolding visits
-  visits-at-most lo hi w =
-      let own : upto (λ y. when (eqb y k) s) N ≡ s = upto-only s k N lo hi in
-      let all : upto (λ y. visit s k (a y w) y + when (eqb y k) s) N ≤ N * s = upto-most _ s N (λ y l u. visit-and-own s k (a y w) y) in
-      let less : suc (N - 1) * s ≡ N * s = ap (λ (x : ℕ). x * s) (omega arith) in
-      omega (arith, upto-add (λ y. visit s k (a y w) y) (λ y. when (eqb y k) s) N, suc-mul (N - 1) s)
-
   module _ (big : (y : ℕ) → 1 ≤ y → y ≤ N → 10 ≤ h y) where
     parts : (w : ℕ) → s * upto h N ≡ upto (λ y. saving h s k (a y w) y) N + upto (λ y. charge h s k (a y w) y) N
     parts w =
@@ -120,44 +112,64 @@ module _ (h : ℕ → ℕ) (a : ℕ → ℕ → ℕ) (N s k : ℕ) where
     unfolding rightOf
     right-is-charges w = omega (arith, parts w)
 
-    module _ (grows : (y v w : ℕ) → v ≤ w → a y v ≤ a y w) where
-      pub right-rises : (v w : ℕ) → v ≤ w → rightOf h a N s k v ≤ rightOf h a N s k w
-      right-rises v w l =
-          rw (right-is-charges v, right-is-charges w)
-          (upto-mono (λ y. charge h s k (a y v) y) (λ y. charge h s k (a y w) y) N (λ y lo hi. charge-rises h s k y (a y v) (a y w) (grows y v w l)))
+-- of two charges the larger has no less a right side, where as many are asked for, or more
+pub right-no-less : (h g : ℕ → ℕ) (a b : ℕ → ℕ → ℕ) (N s k v w : ℕ) → ((y : ℕ) → 1 ≤ y → y ≤ N → 10 ≤ h y) → ((y : ℕ) → 1 ≤ y → y ≤ N → h y ≤ g y)
+    → ((y : ℕ) → a y v ≤ b y w) → rightOf h a N s k v ≤ rightOf g b N s k w
+right-no-less h g a b N s k v w big less more =
+    rw (right-is-charges h a N s k big v, right-is-charges g b N s k (λ y lo hi. omega (arith, big y lo hi, less y lo hi)) w)
+    (upto-mono (λ y. charge h s k (a y v) y) (λ y. charge g s k (b y w) y) N (λ y lo hi. charge-rises h g s k y (a y v) (b y w) (less y lo hi) (more y)))
 
-      -- no value of the sequence is above s·V
-      pub right-value-at-most : (m : ℕ) → valueOf (rightOf h a N s k) m ≤ s * upto h N
-      right-value-at-most m = value-at-most (rightOf h a N s k) right-rises (s * upto h N) (right-at-most (s * upto h N)) m
+-- ---- The search
 
-      visits-rise : (v w : ℕ) → v ≤ w → visits v ≤ visits w
-      unfolding visits
-      visits-rise v w l = upto-mono (λ y. visit s k (a y v) y) (λ y. visit s k (a y w) y) N (λ y lo hi. visit-rises s k y (a y v) (a y w) (grows y v w l))
+module _ (h : ℕ → ℕ) (a : ℕ → ℕ → ℕ) (N s k : ℕ) where
+  -- the sum of the visits, at most (N - 1)·s
+  visits : ℕ → ℕ
+  visits w = upto (λ y. visit s k (a y w) y) N
 
-      -- the same visits, the same right side
-      visits-settle : (v w : ℕ) → v ≤ w → visits v ≡ visits w → rightOf h a N s k v ≡ rightOf h a N s k w
-      unfolding visits
-      visits-settle v w l e =
-          rw (right-is-charges v, right-is-charges w)
-          (upto-same (λ y. charge h s k (a y v) y) (λ y. charge h s k (a y w) y) N (λ y lo hi. charge-same h s k y (a y v) (a y w) (each y lo hi)))
-        where
-          each : (y : ℕ) → 1 ≤ y → y ≤ N → visit s k (a y v) y ≡ visit s k (a y w) y
-          each =
-              upto-terms (λ y. visit s k (a y v) y) (λ y. visit s k (a y w) y) N
-              (λ y lo hi. visit-rises s k y (a y v) (a y w) (grows y v w l)) e
+  visits-at-most : 1 ≤ k → k ≤ N → (w : ℕ) → visits w ≤ (N - 1) * s
+  unfolding visits
+  visits-at-most lo hi w =
+      let own : upto (λ y. when (eqb y k) s) N ≡ s = upto-only s k N lo hi in
+      let all : upto (λ y. visit s k (a y w) y + when (eqb y k) s) N ≤ N * s = upto-most _ s N (λ y l u. visit-and-own s k (a y w) y) in
+      let less : suc (N - 1) * s ≡ N * s = ap (λ (x : ℕ). x * s) (omega arith) in
+      omega (arith, upto-add (λ y. visit s k (a y w) y) (λ y. when (eqb y k) s) N, suc-mul (N - 1) s)
 
-      module _ (lo : 1 ≤ k) (hi : k ≤ N) where
-        -- a search that still moves before value m has an m of at most 1 + (N - 1)·s
-        pub right-moves-at-most : (m : ℕ) → ((j : ℕ) → j < m → valueOf (rightOf h a N s k) j ≡ valueOf (rightOf h a N s k) (suc j) → ⊥) → m ≤ 1 + (N - 1) * s
-        right-moves-at-most = moves-at-most (rightOf h a N s k) right-rises visits visits-rise ((N - 1) * s) (visits-at-most lo hi) visits-settle
+  module _ (big : (y : ℕ) → 1 ≤ y → y ≤ N → 10 ≤ h y) (grows : (y v w : ℕ) → v ≤ w → a y v ≤ a y w) where
+    pub right-rises : (v w : ℕ) → v ≤ w → rightOf h a N s k v ≤ rightOf h a N s k w
+    right-rises v w l = right-no-less h h a a N s k v w big (λ y lo hi. omega arith) (λ y. grows y v w l)
 
-        -- the round count is the first m whose value equals the next one
-        pub right-rounds : Settles (rightOf h a N s k) (roundsOf (rightOf h a N s k) (1 + (N - 1) * s))
-        right-rounds = rounds-settle (rightOf h a N s k) right-rises visits visits-rise ((N - 1) * s) (visits-at-most lo hi) visits-settle
+    -- no value of the sequence is above s·V
+    pub right-value-at-most : (m : ℕ) → valueOf (rightOf h a N s k) m ≤ s * upto h N
+    right-value-at-most m = value-at-most (rightOf h a N s k) right-rises (s * upto h N) (right-at-most h a N s k (s * upto h N)) m
 
-        pub right-rounds-at-most : roundsOf (rightOf h a N s k) (1 + (N - 1) * s) ≤ 1 + (N - 1) * s
-        right-rounds-at-most = rounds-at-most (rightOf h a N s k) right-rises visits visits-rise ((N - 1) * s) (visits-at-most lo hi) visits-settle
+    visits-rise : (v w : ℕ) → v ≤ w → visits v ≤ visits w
+    unfolding visits
+    visits-rise v w l = upto-mono (λ y. visit s k (a y v) y) (λ y. visit s k (a y w) y) N (λ y lo hi. visit-rises s k y (a y v) (a y w) (grows y v w l))
 
-        -- and the value there is the least solution
-        pub right-least : Least (rightOf h a N s k) (valueOf (rightOf h a N s k) (roundsOf (rightOf h a N s k) (1 + (N - 1) * s)))
-        right-least = still-least (rightOf h a N s k) right-rises _ (right-rounds .still)
+    -- the same visits, the same right side
+    visits-settle : (v w : ℕ) → v ≤ w → visits v ≡ visits w → rightOf h a N s k v ≡ rightOf h a N s k w
+    unfolding visits
+    visits-settle v w l e =
+        rw (right-is-charges h a N s k big v, right-is-charges h a N s k big w)
+        (upto-same (λ y. charge h s k (a y v) y) (λ y. charge h s k (a y w) y) N (λ y lo hi. charge-same h s k y (a y v) (a y w) (each y lo hi)))
+      where
+        each : (y : ℕ) → 1 ≤ y → y ≤ N → visit s k (a y v) y ≡ visit s k (a y w) y
+        each =
+            upto-terms (λ y. visit s k (a y v) y) (λ y. visit s k (a y w) y) N
+            (λ y lo hi. visit-rises s k y (a y v) (a y w) (grows y v w l)) e
+
+    module _ (lo : 1 ≤ k) (hi : k ≤ N) where
+      -- a search that still moves before value m has an m of at most 1 + (N - 1)·s
+      pub right-moves-at-most : (m : ℕ) → ((j : ℕ) → j < m → valueOf (rightOf h a N s k) j ≡ valueOf (rightOf h a N s k) (suc j) → ⊥) → m ≤ 1 + (N - 1) * s
+      right-moves-at-most = moves-at-most (rightOf h a N s k) right-rises visits visits-rise ((N - 1) * s) (visits-at-most lo hi) visits-settle
+
+      -- the round count is the first m whose value equals the next one
+      pub right-rounds : Settles (rightOf h a N s k) (roundsOf (rightOf h a N s k) (1 + (N - 1) * s))
+      right-rounds = rounds-settle (rightOf h a N s k) right-rises visits visits-rise ((N - 1) * s) (visits-at-most lo hi) visits-settle
+
+      pub right-rounds-at-most : roundsOf (rightOf h a N s k) (1 + (N - 1) * s) ≤ 1 + (N - 1) * s
+      right-rounds-at-most = rounds-at-most (rightOf h a N s k) right-rises visits visits-rise ((N - 1) * s) (visits-at-most lo hi) visits-settle
+
+      -- and the value there is the least solution
+      pub right-least : Least (rightOf h a N s k) (valueOf (rightOf h a N s k) (roundsOf (rightOf h a N s k) (1 + (N - 1) * s)))
+      right-least = still-least (rightOf h a N s k) right-rises _ (right-rounds .still)
