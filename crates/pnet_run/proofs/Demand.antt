@@ -4,18 +4,18 @@ use Prim.Native.Nat.{ℕ, _-_, _≤_}
 use mathlib.Core.Path.{_≡_}
 use mathlib.Core.Bool.{false}
 use mathlib.Core.List.{List}
-use native.Mathlib.Nat.{le-refl, mul-le-mul}
+use native.Mathlib.Nat.{le-refl}
 use native.Mathlib.Omega.{arith}
 use borrow.Author.Tests.{ltb-false}
-use Rattle.common.proofs.Sums.{upto-mono}
 use Rattle.sheet_read.specs.Sheets.{Sheet}
 use Rattle.units.specs.Units.{bp}
 use Rattle.units.specs.declared.BitPeriods.{BitPeriods}
-use Rattle.pnet_rules.specs.Segment.{Segment, segmentOf, count, hold, charged, turnBy, boundBy, bound, late}
+use Rattle.pnet_rules.specs.Segment.{Segment, segmentOf, count, hold, charged, boundBy, bound, late}
 use Rattle.pnet_rules.specs.Limits.{Declared}
 use Rattle.pnet_rules.specs.Refined.{right, refined}
 use Rattle.pnet_rules.proofs.Figures.{refined-solves}
 use Rattle.pnet_rules.proofs.Holds.{charged-covers}
+use Rattle.pnet_rules.proofs.Editions.{bound-no-less-by}
 use Rattle.pnet_run.specs.Run.{Belongs, Request, Answer, answer, Queues, Token, Run}
 use Rattle.pnet_run.specs.Promise.{Spaced, Answered, Safe, Reached, Accepted, Even}
 use Rattle.pnet_run.proofs.Charges.{belongs-count, count-belongs, in-ring, covers-if, charged-covers-visits, some-cycle}
@@ -48,9 +48,9 @@ fits-spacing accepted m i d = omega (arith, accepted .declared .ranges i (d .fro
 
 module _ (S : Segment) (accepted : Accepted S) (h : ℕ → ℕ) (covers : (y : ℕ) → 1 ≤ y → y ≤ S .masters → hold S y ≤ h y)
     (most : (y : ℕ) → 1 ≤ y → y ≤ S .masters → h y ≤ charged S y) where
-  bound-at-most : (k : ℕ) → boundBy h S k ≤ bound S k
-  unfolding bound boundBy turnBy
-  bound-at-most k = mul-le-mul {n₁ = count S k} {m₁ = turnBy h S} {n₂ = count S k} {m₂ = turnBy (charged S) S} (le-refl _) (upto-mono h (charged S) (S .masters) most)
+  fits : (k i : ℕ) → Belongs S k i → boundBy h S k ≤ S .stream i .spacing - S .stream i .jitter
+  unfolding bound
+  fits k i d = omega (arith, bound-no-less-by h (charged S) S most k, fits-spacing accepted k i d)
 
   answered-within-the-bound-by : (k : ℕ) → {now : ℕ} {token : Token} {queues : Queues} {came : List Request} {went : List Answer}
       → Run S now token queues came went → Spaced S k came → Answered (bp (boundBy h S k)) S k now token came went
@@ -58,8 +58,8 @@ module _ (S : Segment) (accepted : Accepted S) (h : ℕ → ℕ) (covers : (y : 
       answered-if-it-asks
       (λ i d.
       let own = in-ring (accepted .declared) d in
-      answered-by S h k (own .0) (own .1) (covers-if (accepted .declared) covers) (λ j. S .stream j .spacing - S .stream j .jitter)
-      (λ j e. omega (arith, bound-at-most k, fits-spacing accepted k j e)) run (spaced-apart (accepted .declared) run spaced))
+      answered-by S h k (own .0) (own .1) (covers-if (accepted .declared) covers) (λ j. S .stream j .spacing - S .stream j .jitter) (fits k) run
+      (spaced-apart (accepted .declared) run spaced))
 
 -- ---- 'any fault-free run of the virtual token bus from empty queues, with one message a visit and first-come queues. If a master's
 -- requests keep their declared spacing and no message is longer than declared, each of that master's requests is answered within

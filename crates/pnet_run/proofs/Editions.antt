@@ -12,7 +12,6 @@ use Rattle.sheet_record.specs.Kinds.{isStreamOf, inRange}
 use Rattle.sheet_read.specs.Sheets.{Sheet}
 use Rattle.units.specs.Units.{bp}
 use Rattle.pnet_rules.specs.Segment.{Segment, streamOf, segmentOf, count, hold, boundBy, bound, late}
-use Rattle.pnet_rules.specs.Refined.{rounds, refined}
 use Rattle.pnet_rules.specs.Limits.{Ranged, Declared}
 use Rattle.pnet_rules.proofs.Declares.{stream-ranged}
 use Rattle.pnet_run.specs.Run.{answer}
@@ -47,7 +46,7 @@ declared edition = declared-if-few (under edition) (omega arith) (omega arith) (
 
 -- ---- Edition 1: some run takes exactly R
 
-pub R-under-1 : bound (under 1) 1 ≡ 260
+R-under-1 : bound (under 1) 1 ≡ 260
 unfolding segmentOf bound
 R-under-1 = refl
 
@@ -62,20 +61,15 @@ even = record {
     is-203 : (i : ℕ) → 1 ≤ i → i ≤ 1 → under 1 .stream i .cycle ≡ 203
     is-203 = alone (λ i. under 1 .stream i .cycle ≡ 203) refl
 
-pub some-run-takes-R-under-1 : Reached (bp (bound (under 1) 1)) (under 1) 1
+pub some-run-takes-260-under-1 : Reached (bp 260) (under 1) 1
 unfolding count segmentOf
-some-run-takes-R-under-1 = some-run-takes-exactly-the-bound (sheet 1) (declared 1) 1 (omega arith) even
+some-run-takes-260-under-1 = rw R-under-1 at (some-run-takes-exactly-the-bound (sheet 1) (declared 1) 1 (omega arith) even)
 
 -- ---- Edition 2: none does
 
 pub R-under-2 : bound (under 2) 1 ≡ 500
 unfolding segmentOf bound
 R-under-2 = refl
-
--- the silent master saves what it was charged above 10
-pub W-under-2 : (refined (under 2) 1 ≡ 260) × (rounds (under 2) 1 ≡ 1)
-unfolding segmentOf refined rounds
-W-under-2 = (refl, refl)
 
 pub accepted-under-2 : Accepted (under 2)
 unfolding segmentOf late
