@@ -30,13 +30,18 @@ with-jitter : Line "pnet-jitter-stream,2,203 bp,3000 bp,500 bp,2500 bp\n" (recor
 unfolding recordIn decimal widthOf holds firstOf places
 with-jitter = (refl, refl)
 
+-- an edition has no unit
+by-edition : Line "pnet-edition,2\n" (of 8 2 0 0 0)
+unfolding recordIn decimal widthOf holds firstOf places
+by-edition = (refl, refl)
+
 -- the least number, and the greatest that the bytes of each field hold
 bounds : Line "pnet-segment,0\n" (of 1 0 0 0 0) × Line "pnet-stream,255,65535 bp,4294967295 bp,4294967295 bp\n" (of 2 255 65535 4294967295 4294967295)
 unfolding recordIn decimal widthOf holds firstOf places
 bounds = ((refl, refl), (refl, refl))
 
 -- kinds 0 and 3, and those that are not known, have no word and no line
-words : map hasWord (0 ∷ 1 ∷ 2 ∷ 3 ∷ 4 ∷ 5 ∷ 6 ∷ 7 ∷ 8 ∷ []) ≡ false ∷ true ∷ true ∷ false ∷ true ∷ true ∷ true ∷ true ∷ false ∷ []
+words : map hasWord (0 ∷ 1 ∷ 2 ∷ 3 ∷ 4 ∷ 5 ∷ 6 ∷ 7 ∷ 8 ∷ 9 ∷ []) ≡ false ∷ true ∷ true ∷ false ∷ true ∷ true ∷ true ∷ true ∷ true ∷ false ∷ []
 unfolding hasWord
 words = refl
 

@@ -30,14 +30,15 @@ known-but-3 (suc (suc (suc (suc zero)))) = refl
 known-but-3 (suc (suc (suc (suc (suc zero))))) = refl
 known-but-3 (suc (suc (suc (suc (suc (suc zero)))))) = refl
 known-but-3 (suc (suc (suc (suc (suc (suc (suc zero))))))) = refl
-known-but-3 (suc (suc (suc (suc (suc (suc (suc (suc n)))))))) = beyond (not (eqb (suc (suc (suc (suc (suc (suc (suc (suc n)))))))) 3))
+known-but-3 (suc (suc (suc (suc (suc (suc (suc (suc zero)))))))) = refl
+known-but-3 (suc (suc (suc (suc (suc (suc (suc (suc (suc n))))))))) = beyond (not (eqb (suc (suc (suc (suc (suc (suc (suc (suc (suc n))))))))) 3))
   where
     beyond : (t : Bool) → (t && false) ≡ false
     beyond true = refl
     beyond false = refl
 
--- so 3 has none, and what is not one of 1 to 7
-pub no-word : (k : ℕ) → (1 ≤ k → k ≤ 7 → k ≡ 3) → hasWord k ≡ false
+-- so 3 has none, and what is not one of 1 to 8
+pub no-word : (k : ℕ) → (1 ≤ k → k ≤ 8 → k ≡ 3) → hasWord k ≡ false
 no-word k other = sym (known-but-3 k) ∙ split (ℕ-discrete k 3)
   where
     split : Dec (k ≡ 3) → (not (eqb k 3) && known k) ≡ false
@@ -46,7 +47,7 @@ no-word k other = sym (known-but-3 k) ∙ split (ℕ-discrete k 3)
 
 -- k is none of the others, in the form in which the last arm of a `match` over them knows it
 abbrev Rest : ℕ → Type 0
-Rest k = (((((Unit {0} × (k ≡ 1 → ⊥)) × (k ≡ 2 → ⊥)) × (k ≡ 4 → ⊥)) × (k ≡ 5 → ⊥)) × (k ≡ 6 → ⊥)) × (k ≡ 7 → ⊥)
+Rest k = ((((((Unit {0} × (k ≡ 1 → ⊥)) × (k ≡ 2 → ⊥)) × (k ≡ 4 → ⊥)) × (k ≡ 5 → ⊥)) × (k ≡ 6 → ⊥)) × (k ≡ 7 → ⊥)) × (k ≡ 8 → ⊥)
 
 -- one that is above n and is not the next is above that too
 above-next : {k n : ℕ} → n < k → (k ≡ suc n → ⊥) → suc n < k
@@ -58,13 +59,13 @@ left-out k rest = no-word k (λ lo hi. by (leb k 3) refl lo hi)
     low : 2 < k → leb k 3 ≡ true → k ≡ 3
     low l e = omega (arith, leb-true k 3 e)
 
-    past : 7 < k → k ≤ 7 → ⊥
+    past : 8 < k → k ≤ 8 → ⊥
     past l hi = omega arith
 
-    by : (b : Bool) → leb k 3 ≡ b → 1 ≤ k → k ≤ 7 → k ≡ 3
-    by true e lo hi = low (above-next (above-next lo (rest .0 .0 .0 .0 .0 .1)) (rest .0 .0 .0 .0 .1)) e
+    by : (b : Bool) → leb k 3 ≡ b → 1 ≤ k → k ≤ 8 → k ≡ 3
+    by true e lo hi = low (above-next (above-next lo (rest .0 .0 .0 .0 .0 .0 .1)) (rest .0 .0 .0 .0 .0 .1)) e
     by false e lo hi =
-        absurd (past (above-next (above-next (above-next (above-next (leb-false k 3 e) (rest .0 .0 .0 .1)) (rest .0 .0 .1)) (rest .0 .1)) (rest .1)) hi)
+        absurd (past (above-next (above-next (above-next (above-next (above-next (leb-false k 3 e) (rest .0 .0 .0 .0 .1)) (rest .0 .0 .0 .1)) (rest .0 .0 .1)) (rest .0 .1)) (rest .1)) hi)
 
 -- ---- What a line can say
 
@@ -120,6 +121,10 @@ module _ (r : Record) where
   pub jitter-stream-pieces : r .kind ≡ 7 → lineText r ≡ lineBy (word "pnet-jitter-stream,") r 4 (word " bp")
   unfolding lineBy counted texts hasWord wordOf cells fieldsOf lineOf kinds
   jitter-stream-pieces e = line-of-kind 7 r e ∙ simp append-assoc
+
+  pub edition-pieces : r .kind ≡ 8 → lineText r ≡ lineBy (word "pnet-edition,") r 0 []
+  unfolding lineBy counted texts hasWord wordOf cells fieldsOf lineOf kinds
+  edition-pieces e = line-of-kind 8 r e ∙ simp append-assoc
 
   pub no-line : hasWord (r .kind) ≡ false → lineText r ≡ []
   unfolding lineText

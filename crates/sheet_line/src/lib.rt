@@ -60,6 +60,7 @@ pub fn put_line(out: &mut [u8], at: usize, r: Record) -> usize
         5 => put_counted(out, at, b"worldfip-exchange,", r.a as u64, b" us\n"),
         6 => put_cells(out, at, b"worldfip-variable,", r, 1, b" us"),
         7 => put_cells(out, at, b"pnet-jitter-stream,", r, 4, b" bp"),
+        8 => put_cells(out, at, b"pnet-edition,", r, 0, b""),
         _ => text::put_word(out, at, b""),
     }
 }
@@ -104,6 +105,9 @@ pub fn kind_in(line: &[u8]) -> u8
     }
     if begins(line, b"pnet-jitter-stream,") {
         return 7;
+    }
+    if begins(line, b"pnet-edition,") {
+        return 8;
     }
     0
 }
@@ -174,6 +178,7 @@ fn sayable(r: Record) -> bool
         5 => (b == 0) & (c == 0) & (d == 0) & (e == 0),
         6 => (a <= 65535) & (c == 0) & (d == 0) & (e == 0),
         7 => (a <= 255) & (b <= 65535),
+        8 => (a <= 255) & (b == 0) & (c == 0) & (d == 0) & (e == 0),
         _ => false,
     }
 }

@@ -1,14 +1,14 @@
 -- The reader's state behind n streams that passed, and what the next record makes of it. Assumes nothing.
 use mathlib.Core.Path.{_≡_, refl, sym, ap, _∙_}
-use mathlib.Core.Bool.{Bool, true, false, cond, not, _&&_, _||_}
+use mathlib.Core.Bool.{Bool, true, false, cond, not, _&&_, _||_, and-true}
 use mathlib.Core.List.{List, [], _∷_}
 use mathlib.Core.Logic.{_⊎_, inl, inr, ⊎-elim}
 use Prim.Native.Nat.{ℕ, zero, suc, _+_, _≤_, _<_}
 use native.Mathlib.Numerals.{add-one}
 use native.Mathlib.Omega.{arith}
 use native.Mathlib.Decide.{ℕ-discrete}
-use borrow.Author.Tests.{eqb-true, ne-eqb, eq-eqb}
-use lib.ListN.{length, getD, replicate}
+use borrow.Author.Tests.{eqb-true, ne-eqb, eq-eqb, ltb-true, ltb-false}
+use lib.ListN.{length, getD, replicate, length-append, List·getD-eq-default}
 use lib.Dec.{eqb, leb, ltb}
 use Rattle.common.proofs.Runs.{tab-places}
 use Rattle.common.specs.Checks.{check, Verdict, verdict}
@@ -16,22 +16,23 @@ use Rattle.common.specs.Checks.Verdict.{Passed, Refused}
 use Rattle.sheet_record.specs.declared.Given.{Given}
 use Rattle.sheet_record.specs.declared.Record.{Record}
 use Rattle.sheet_record.specs.declared.Met.{Met}
-use Rattle.sheet_record.specs.Kinds.{known, sizeOf, decode, inRange, whole, metAt, busOf, isFirst, isStreamOf, streamMet}
+use Rattle.sheet_record.specs.Kinds.{known, sizeOf, decode, inRange, whole, metAt, busOf, isFirst, isSetting, isStreamOf, streamMet}
+use Rattle.sheet_record.proofs.Tables.{both-true}
 use Rattle.sheet_record.proofs.Records.{stream-same}
-use Rattle.sheet_record.proofs.Parts.{first-kinds, first-bus, ring-streams}
+use Rattle.sheet_record.proofs.Parts.{first-kinds, first-bus, setting-is, setting-kind, ring-streams}
 use Rattle.sheet_record.proofs.Ranges.{segment-ranges, pnet-ranges, ring-ranges, ring-stream-ranges}
 use Rattle.sheet_read.specs.Sheets.{Sheet, sheetOf, busIn, given, fits, mostInAll, hasMasters, countOf, overLimit, metBefore}
 use Rattle.sheet_read.specs.Whole.{placeOf, recordsOf, before, firstStream, judge, ended, reading, told, streamsOfMaster, longestOfMaster, byMaster, countsTold, longestsTold, Outcome}
 use Rattle.sheet_read.specs.Whole.Outcome.{Read, Not}
-use Rattle.sheet_read.specs.Steps.{ownNo, lateNo, countsWith, longestsWith, idsWith, Begun}
+use Rattle.sheet_read.specs.Steps.{ownNo, lateNo, countsWith, longestsWith, idsWith, Begun, Opened}
 use Rattle.sheet_read.specs.declared.Reading.the-variants as answer
 use Rattle.sheet_read.proofs.Walk.{head-at, place-next, place-from}
-use Rattle.sheet_read.proofs.Cases.{Upto, passes-then, upto-none, upto-more, upto-place, stops-once, ended-empty, ended-no-stream, ended-sheet}
+use Rattle.sheet_read.proofs.Cases.{PassesAt, Upto, passes-then, passes-if, upto-none, upto-more, upto-place, stops-once, ended-empty, ended-no-stream, ended-sheet}
 use Rattle.sheet_read.proofs.Cases.Stops.{by-record, at-end}
 use Rattle.sheet_read.proofs.Judged.{numbered, met-some, own-met, own-met-of, lateChecks, ownAt, judge-own}
 use Rattle.sheet_read.proofs.Kept.{Figures, Keeps, keeps-none, keeps-more, late-variable, late-stream, variable, no-variable, not-late-variable}
-use Rattle.sheet_read.proofs.Order.{no-limits, limits-of, nth, stream-of, fits-first, fits-behind, first-passes, head-some, behind-first, adds-stream}
-use Rattle.sheet_read.proofs.Known.{settings-none, all-streams}
+use Rattle.sheet_read.proofs.Order.{no-limits, limits-of, nth, stream-of, fits-first, fits-behind, edition-fits, setting-late, first-passes, head-some, empty-list, how-many, behind-first, adds-stream, adds-setting}
+use Rattle.sheet_read.proofs.Settings.{counted, edition-first}
 
 -- ---- Masters
 
@@ -53,22 +54,30 @@ master-counted h r f i its j other = split (first-kinds (h .kind) f)
 
 -- ---- The state
 
--- the records up to the place `at` passed, the first of them is `head`, n streams stand behind it, and the arrays keep them
-pub record Behind (s : List ℕ) (head : Record) (counts longests ids : List ℕ) (n at : ℕ) : Type 0 where
-  pub upto : Upto s (suc n)
-  pub is-at : at ≡ placeOf s (suc n)
+-- the first record, `head`, and i more passed, up to the place `at`; n of them are streams, which the arrays keep, and the first of those stands at
+-- `first`. No setting that fits stands at `at`
+pub record Behind (s : List ℕ) (head : Record) (first : ℕ) (counts longests ids : List ℕ) (i n at : ℕ) : Type 0 where
+  pub upto : Upto s (suc i)
+  pub is-at : at ≡ placeOf s (suc i)
   pub is-head : head ≡ decode s 0
-  pub keeps : Keeps (busOf (head .kind)) (before s (suc n) .streams) counts longests ids
+  pub begins : first ≡ placeOf s (firstStream (before s (suc i)))
+  pub number : length (before s (suc i) .streams) ≡ n
+  pub keeps : Keeps (busOf (head .kind)) (before s (suc i) .streams) counts longests ids
+  pub ends : isSetting (getD s at 0) ≡ true → fits (before s (suc i)) (getD s at 0) ≡ false
 
--- a first record that passed
-pub begun : (s : List ℕ) (head : Record) (first : ℕ) → Begun s head first → Behind s head (replicate 33 0) (replicate 33 0) (replicate 64 0) 0 first
-unfolding placeOf
-begun s head first b =
+-- a first record and settings that passed
+pub opened : (s : List ℕ) (head : Record) (first : ℕ) (o : Opened s head first) → Behind s head first (replicate 33 0) (replicate 33 0) (replicate 64 0) (o .c) 0 first
+opened s head first o =
+    let u : Upto s (suc (o .c)) = record { inside = λ j l. o .inside j (omega arith); passed = λ j l. passes-then s j (o .passed j (omega arith)) } in
+    let none : length (before s (suc (o .c)) .streams) ≡ 0 = omega (arith, how-many s (o .c) u, o .settings) in
     record {
-      upto = upto-more s 0 (upto-none s) (b .some) (passes-then s 0 (b .passed));
-      is-at = b .is-first;
-      is-head = b .is-head;
-      keeps = rw (behind-first s (passes-then s 0 (b .passed)) .1) (keeps-none (busOf (head .kind)));
+      upto = u;
+      is-at = o .is-first;
+      is-head = o .is-head;
+      begins = rw (o .settings) (o .is-first);
+      number = none;
+      keeps = rw (empty-list s (before s (suc (o .c)) .streams) none) (keeps-none (busOf (head .kind)));
+      ends = o .ends;
     }
 
 own-passed : (a b c d : Bool) → ownNo a b c d ≡ 0 → (a ≡ true) × (b ≡ true) × (c ≡ true) × (d ≡ true)
@@ -135,6 +144,123 @@ module _ {s : List ℕ} {met : Met} {ranged right : Bool} {own : ℕ} (m : Meets
         is-first = ap (λ (x : Met). x .next) q;
       }
 
+-- ---- The settings
+
+and-last : (a b : Bool) → (a && (b && false)) ≡ false
+and-last true true = refl
+and-last true false = refl
+and-last false b = refl
+
+module _ {s : List ℕ} {head : Record} {first : ℕ} (b : Begun s head first) where
+  first-upto : Upto s 1
+  unfolding placeOf
+  first-upto = upto-more s 0 (upto-none s) (b .some) (passes-then s 0 (b .passed))
+
+  head-kind : before s 1 .head .kind ≡ head .kind
+  head-kind = ap (λ (r : Record). r .kind) (head-at s 0 ∙ sym (b .is-head))
+
+  -- no edition stands behind the first record
+  pub opened-at-once : (eqb (head .kind) 1 && eqb (getD s first 0) 8) ≡ false → Opened s head first
+  unfolding placeOf
+  opened-at-once none =
+      record {
+        c = 0;
+        inside = λ i l. first-upto .inside i (omega arith);
+        passed = λ i l. passes-if s i (first-upto .passed i (omega arith));
+        settings = ap length (behind-first s (first-upto .passed 0 (omega arith)) .0);
+        is-head = b .is-head;
+        is-first = b .is-first;
+        ends = λ e. late (setting-kind (getD s first 0) e);
+      }
+    where
+      late : getD s first 0 ≡ 8 → fits (before s 1) (getD s first 0) ≡ false
+      late e =
+          let k : (eqb (head .kind) 1 && true) ≡ false = rw e at none in
+          let k' : eqb (before s 1 .head .kind) 1 ≡ false = rw head-kind (sym (and-true (eqb (head .kind) 1)) ∙ k) in
+          rw e (edition-fits (before s 1) ∙ rw k' refl)
+
+-- the reader comes to the edition: what it meets, whether that is in range, and the refusal of it by itself
+pub record MeetsEdition (s : List ℕ) (head : Record) (first : ℕ) (met : Met) (ranged : Bool) (own : ℕ) : Type 0 where
+  pub begun : Begun s head first
+  pub stands : (eqb (head .kind) 1 && eqb (getD s first 0) 8) ≡ true
+  pub is-met : met ≡ metAt s first
+  pub is-ranged : ranged ≡ inRange (limits-of head) (met .found)
+  pub is-own : own ≡ ownNo (known 8) true (not (eqb (met .next) first)) ranged
+
+module _ {s : List ℕ} {head : Record} {first : ℕ} {met : Met} {ranged : Bool} {own : ℕ} (m : MeetsEdition s head first met ranged own) where
+  on-segment : head .kind ≡ 1
+  on-segment = eqb-true (head .kind) 1 (both-true (eqb (head .kind) 1) (eqb (getD s first 0) 8) (m .stands) .0)
+
+  its-kind : getD s first 0 ≡ 8
+  its-kind = eqb-true (getD s first 0) 8 (both-true (eqb (head .kind) 1) (eqb (getD s first 0) 8) (m .stands) .1)
+
+  its-place : first ≡ placeOf s 1
+  its-place = m .begun .is-first
+
+  passed-first : PassesAt s 0
+  passed-first = first-upto (m .begun) .passed 0 (omega arith)
+
+  right-there : fits (before s 1) (getD s (placeOf s 1) 0) ≡ true
+  right-there = ap (λ (x : ℕ). fits (before s 1) (getD s x 0)) (sym its-place) ∙ (ap (fits (before s 1)) its-kind ∙ edition-first s passed-first (ap (λ (r : Record). r .kind) (sym (m .begun .is-head)) ∙ on-segment))
+
+  inside-there : placeOf s 1 < length s
+  inside-there = split (ltb (placeOf s 1) (length s)) refl
+    where
+      split : (b : Bool) → ltb (placeOf s 1) (length s) ≡ b → placeOf s 1 < length s
+      split true e = ltb-true (placeOf s 1) (length s) e
+      split false e =
+          absurd (omega (arith, its-kind, its-place, List·getD-eq-default s 0 {n = first} (rw its-place (ltb-false (placeOf s 1) (length s) e))))
+
+  edition-is : own ≡ ownAt s 1
+  unfolding ownAt
+  edition-is =
+      rw (m .is-own, m .is-ranged, m .is-met, ← its-kind, its-place, own-met s (placeOf s 1), right-there, head-at s 0, m .begun .is-head)
+
+  pub refused-edition : (own ≡ 0 → ⊥) → answer.Refused own first ≡ told s (reading s)
+  refused-edition h =
+      let g : judge s 1 ≡ Refused own (placeOf s 1) = judge-own s 1 ∙ (rw (← edition-is) (numbered-not own (placeOf s 1) (verdict (lateChecks s 1)) h)) in
+      rw its-place (told-refused s 1 own (placeOf s 1) (first-upto (m .begun)) inside-there g)
+
+  module _ (z : own ≡ 0) where
+    edition-passed : judge s 1 ≡ Passed
+    unfolding lateChecks numbered
+    edition-passed =
+        judge-own s 1 ∙ (ap (λ (x : ℕ). numbered x (placeOf s 1) (verdict (lateChecks s 1))) (sym edition-is ∙ z)
+        ∙ (rw (behind-first s passed-first .1) (late-first (decode s (placeOf s 1)) (placeOf s 1))))
+
+    edition-upto : Upto s 2
+    edition-upto = upto-more s 1 (first-upto (m .begun)) inside-there (passes-then s 1 edition-passed)
+
+    its-setting : isSetting (nth s 1 .kind) ≡ true
+    unfolding decode
+    its-setting = setting-is (nth s 1 .kind) ∙ eq-eqb (nth s 1 .kind) 8 (ap (λ (x : ℕ). getD s x 0) (sym its-place) ∙ its-kind)
+
+    one-set : before s 2 .settings ≡ nth s 1 ∷ []
+    one-set = adds-setting s 1 its-setting .0 ∙ (rw (behind-first s passed-first .0) refl)
+
+    behind-it : met .next ≡ placeOf s 2
+    unfolding placeOf whole decode ownAt
+    behind-it =
+        let p = own-passed _ _ _ _ (sym edition-is ∙ z) in
+        let w : whole s (placeOf s 1) ≡ true = rw (p .0, p .2) in
+        ap (λ (x : Met). x .next) (m .is-met ∙ (ap (metAt s) its-place ∙ met-some s (placeOf s 1) w))
+
+    -- a second one fits nowhere
+    pub opened-behind : Opened s head (met .next)
+    opened-behind =
+        record {
+          c = 1;
+          inside = λ i l. edition-upto .inside i (omega arith);
+          passed = λ i l. passes-if s i (edition-upto .passed i (omega arith));
+          settings = ap length one-set;
+          is-head = m .begun .is-head;
+          is-first = behind-it;
+          ends = λ e. once (setting-kind (getD s (met .next) 0) e);
+        }
+      where
+        once : getD s (met .next) 0 ≡ 8 → fits (before s 2) (getD s (met .next) 0) ≡ false
+        once e = rw e (edition-fits (before s 2) ∙ (rw (one-set, counted (nth s 1) (setting-kind (nth s 1 .kind) its-setting)) (and-last (eqb (before s 2 .head .kind) 1) (eqb (length (before s 2 .streams)) 0))))
+
 -- ---- What is handed over
 
 -- on a refusal the lent memory keeps what it had
@@ -149,7 +275,7 @@ refused-keeps s no' place o counts longests e = (kept streamsOfMaster o counts e
 
 -- ---- A stream
 
-module _ {s : List ℕ} {head : Record} {counts longests ids : List ℕ} {n at : ℕ} (b : Behind s head counts longests ids n at) where
+module _ {s : List ℕ} {head : Record} {first : ℕ} {counts longests ids : List ℕ} {i n at : ℕ} (b : Behind s head first counts longests ids i n at) where
   head-first : isFirst (head .kind) ≡ true
   head-first = rw (b .is-head) (first-passes s (b .upto .passed 0 (omega arith)))
 
@@ -159,61 +285,66 @@ module _ {s : List ℕ} {head : Record} {counts longests ids : List ℕ} {n at :
 
   -- fewer streams than bytes
   pub fewer-streams : n < at
-  fewer-streams = omega (arith, place-from s (suc n), b .is-at)
+  fewer-streams = omega (arith, place-from s (suc i), b .is-at, how-many s i (b .upto), b .number)
 
   -- the streams so far are of the bus of the first record
-  bus-is : busIn (before s (suc n)) ≡ busOf (head .kind)
-  bus-is = ap (λ (r : Record). busOf (r .kind)) (head-at s n ∙ sym (b .is-head))
+  bus-is : busIn (before s (suc i)) ≡ busOf (head .kind)
+  bus-is = ap (λ (r : Record). busOf (r .kind)) (head-at s i ∙ sym (b .is-head))
 
 -- what the reader holds while it goes: the bus, the limits that the first record sets, and the state
-pub record Reads (s : List ℕ) (head : Record) (bus : ℕ) (g : Given) (counts longests ids : List ℕ) (n at : ℕ) : Type 0 where
+pub record Reads (s : List ℕ) (head : Record) (first bus : ℕ) (g : Given) (counts longests ids : List ℕ) (i n at : ℕ) : Type 0 where
   pub is-bus : bus ≡ busOf (head .kind)
   pub is-given : g ≡ limits-of head
-  pub behind : Behind s head counts longests ids n at
+  pub behind : Behind s head first counts longests ids i n at
+
+-- the same, with any number of records
+pub record ReadsOn (s : List ℕ) (head : Record) (first bus : ℕ) (g : Given) (counts longests ids : List ℕ) (n at : ℕ) : Type 0 where
+  pub i : ℕ
+  pub reads : Reads s head first bus g counts longests ids i n at
 
 -- the bus is one of the three
-pub bus-kinds : {s : List ℕ} {head : Record} {bus : ℕ} {g : Given} {counts longests ids : List ℕ} {n at : ℕ} → Reads s head bus g counts longests ids n at
+pub bus-kinds : {s : List ℕ} {head : Record} {first bus : ℕ} {g : Given} {counts longests ids : List ℕ} {i n at : ℕ} → Reads s head first bus g counts longests ids i n at
     → bus ≡ 1 ⊎ bus ≡ 3 ⊎ bus ≡ 5
 bus-kinds {head = head} r =
     let f = head-first (r .behind) in
     rw (r .is-bus ∙ first-bus (head .kind) f) (first-kinds (head .kind) f)
 
 -- the reader comes to a record: what it meets, whether that is right and in range, and the refusal of it by itself
-pub record Meets (s : List ℕ) (head : Record) (counts longests ids : List ℕ) (n at bus : ℕ) (g : Given) (met : Met) (right ranged : Bool) (own : ℕ) : Type 0 where
-  pub reads : Reads s head bus g counts longests ids n at
+pub record Meets (s : List ℕ) (head : Record) (first : ℕ) (counts longests ids : List ℕ) (i n at bus : ℕ) (g : Given) (met : Met) (right ranged : Bool) (own : ℕ) : Type 0 where
+  pub reads : Reads s head first bus g counts longests ids i n at
   pub inside : at < length s
   pub is-right : right ≡ isStreamOf bus (getD s at 0)
   pub is-met : met ≡ streamMet s at bus
   pub is-ranged : ranged ≡ (isStreamOf bus (met .found .kind) && inRange g (met .found))
   pub is-own : own ≡ ownNo (known (getD s at 0)) right (not (eqb (met .next) at)) ranged
 
-module _ {s : List ℕ} {head : Record} {counts longests ids : List ℕ} {n at bus : ℕ} {g : Given} {met : Met} {right ranged : Bool} {own : ℕ}
-    (m : Meets s head counts longests ids n at bus g met right ranged own) where
-  here : placeOf s (suc n) < length s
+module _ {s : List ℕ} {head : Record} {first : ℕ} {counts longests ids : List ℕ} {i n at bus : ℕ} {g : Given} {met : Met} {right ranged : Bool} {own : ℕ}
+    (m : Meets s head first counts longests ids i n at bus g met right ranged own) where
+  here : placeOf s (suc i) < length s
   here = rw (m .reads .behind .is-at) at (m .inside)
 
   -- behind the first record, a stream of its bus
-  right-is : fits (before s (suc n)) (getD s (placeOf s (suc n)) 0) ≡ isStreamOf (busOf (head .kind)) (getD s (placeOf s (suc n)) 0)
+  right-is : fits (before s (suc i)) (getD s (placeOf s (suc i)) 0) ≡ isStreamOf (busOf (head .kind)) (getD s (placeOf s (suc i)) 0)
   right-is =
-      fits-behind (before s (suc n)) (getD s (placeOf s (suc n)) 0) (head-some s n (m .reads .behind .upto))
-      ∙ ap (λ (b : ℕ). isStreamOf b (getD s (placeOf s (suc n)) 0)) (bus-is (m .reads .behind))
+      fits-behind (before s (suc i)) (getD s (placeOf s (suc i)) 0) (head-some s i (m .reads .behind .upto)) (rw (m .reads .behind .is-at) at (m .reads .behind .ends))
+      ∙ ap (λ (b : ℕ). isStreamOf b (getD s (placeOf s (suc i)) 0)) (bus-is (m .reads .behind))
 
-  own-is : own ≡ ownAt s (suc n)
+  own-is : own ≡ ownAt s (suc i)
   unfolding ownAt
   own-is =
-      rw (m .is-own, m .is-right, m .is-ranged, m .is-met, m .reads .is-bus, m .reads .is-given, m .reads .behind .is-at, own-met-of s (placeOf s (suc n)), right-is, head-at s n, m .reads .behind .is-head)
+      rw (m .is-own, m .is-right, m .is-ranged, m .is-met, m .reads .is-bus, m .reads .is-given, m .reads .behind .is-at, own-met-of s (placeOf s (suc i)), right-is, head-at s i, m .reads .behind .is-head)
 
   pub refused-own : (own ≡ 0 → ⊥) → answer.Refused own at ≡ told s (reading s)
   refused-own h =
-      let g : judge s (suc n) ≡ Refused own (placeOf s (suc n)) =
-      judge-own s (suc n) ∙ (rw (← own-is) (numbered-not own (placeOf s (suc n)) (verdict (lateChecks s (suc n))) h)) in
-      rw (m .reads .behind .is-at) (told-refused s (suc n) own (placeOf s (suc n)) (m .reads .behind .upto) here g)
+      let g : judge s (suc i) ≡ Refused own (placeOf s (suc i)) =
+      judge-own s (suc i) ∙ (rw (← own-is) (numbered-not own (placeOf s (suc i)) (verdict (lateChecks s (suc i))) h)) in
+      rw (m .reads .behind .is-at) (told-refused s (suc i) own (placeOf s (suc i)) (m .reads .behind .upto) here g)
 
   module _ (z : own ≡ 0) where
-    own-all : (known (getD s (placeOf s (suc n)) 0) ≡ true)
-        × (fits (before s (suc n)) (getD s (placeOf s (suc n)) 0) ≡ true)
-        × (leb (placeOf s (suc n) + sizeOf (getD s (placeOf s (suc n)) 0)) (length s) ≡ true)
-        × (inRange (given (before s (suc n)) (nth s (suc n) .a)) (nth s (suc n)) ≡ true)
+    own-all : (known (getD s (placeOf s (suc i)) 0) ≡ true)
+        × (fits (before s (suc i)) (getD s (placeOf s (suc i)) 0) ≡ true)
+        × (leb (placeOf s (suc i) + sizeOf (getD s (placeOf s (suc i)) 0)) (length s) ≡ true)
+        × (inRange (given (before s (suc i)) (nth s (suc i) .a)) (nth s (suc i)) ≡ true)
     unfolding ownAt
     own-all = own-passed _ _ _ _ (sym own-is ∙ z)
 
@@ -228,112 +359,108 @@ module _ {s : List ℕ} {head : Record} {counts longests ids : List ℕ} {n at b
     met-is = m .is-met ∙ (rw (m .reads .is-bus) (stream-same s at (busOf (head .kind)) stream-here) ∙ met-some s at whole-here)
 
     -- the stream, and the place just after it
-    stream-is : met .found ≡ nth s (suc n)
+    stream-is : met .found ≡ nth s (suc i)
     stream-is = ap (λ (x : Met). x .found) met-is ∙ ap (decode s) (m .reads .behind .is-at)
 
-    next-is : met .next ≡ placeOf s (suc (suc n))
+    next-is : met .next ≡ placeOf s (suc (suc i))
     unfolding placeOf
     next-is = ap (λ (x : Met). x .next) met-is ∙ (rw (m .reads .behind .is-at) refl)
 
     pub next-later : at < met .next
-    next-later = omega (arith, next-is, m .reads .behind .is-at, place-next s (suc n))
+    next-later = omega (arith, next-is, m .reads .behind .is-at, place-next s (suc i))
 
     its : isStreamOf (busOf (head .kind)) (met .found .kind) ≡ true
     unfolding decode
     its = rw met-is stream-here
 
     ranged-here : inRange (limits-of head) (met .found) ≡ true
-    ranged-here = rw (stream-is, m .reads .behind .is-head) (rw (head-at s n) at (own-all .3))
+    ranged-here = rw (stream-is, m .reads .behind .is-head) (rw (head-at s i) at (own-all .3))
 
     master-at-most : (busOf (head .kind) ≡ 5 → ⊥) → met .found .a ≤ 32
     master-at-most other = master-counted head (met .found) (head-first (m .reads .behind)) (head-ranged (m .reads .behind)) its ranged-here other
 
     pub master-here : (met .found .kind ≡ 6 → ⊥) → met .found .a ≤ 32
     master-here h =
-        master-at-most (λ e. h (variable (busOf (head .kind)) (before s (suc n) .streams) counts longests ids (met .found) (m .reads .behind .keeps) its e))
+        master-at-most (λ e. h (variable (busOf (head .kind)) (before s (suc i) .streams) counts longests ids (met .found) (m .reads .behind .keeps) its e))
 
-    -- as many streams as records behind the first
-    how-many : length (before s (suc n) .streams) ≡ n
-    how-many = all-streams s n (m .reads .behind .upto)
+    number-is : length (before s (suc i) .streams) ≡ n
+    number-is = m .reads .behind .number
 
     -- 5 and 7, by what is kept
-    late-is : verdict (lateChecks s (suc n)) ≡ numbered (lateNo counts ids n (met .found)) (placeOf s (suc n)) Passed
+    late-is : verdict (lateChecks s (suc i)) ≡ numbered (lateNo counts ids n (met .found)) (placeOf s (suc i)) Passed
     unfolding lateChecks
-    late-is = rw (← stream-is) (rw how-many at (split (ℕ-discrete (busOf (head .kind)) 5)))
+    late-is = rw (← stream-is) (rw number-is at (split (ℕ-discrete (busOf (head .kind)) 5)))
       where
         split : Dec (busOf (head .kind) ≡ 5)
-            → verdict (check 5 (overLimit (before s (suc n) .streams) (met .found)) (placeOf s (suc n)) ∷ check 7 (metBefore (before s (suc n) .streams) (met .found)) (placeOf s (suc n)) ∷ [])
-            ≡ numbered (lateNo counts ids (length (before s (suc n) .streams)) (met .found)) (placeOf s (suc n)) Passed
-        split (yes e) = late-variable (busOf (head .kind)) (before s (suc n) .streams) counts longests ids (met .found) (m .reads .behind .keeps) its e (placeOf s (suc n))
-        split (no e) = late-stream (busOf (head .kind)) (before s (suc n) .streams) counts longests ids (met .found) (m .reads .behind .keeps) its e (master-at-most e) (placeOf s (suc n))
+            → verdict (check 5 (overLimit (before s (suc i) .streams) (met .found)) (placeOf s (suc i)) ∷ check 7 (metBefore (before s (suc i) .streams) (met .found)) (placeOf s (suc i)) ∷ [])
+            ≡ numbered (lateNo counts ids (length (before s (suc i) .streams)) (met .found)) (placeOf s (suc i)) Passed
+        split (yes e) = late-variable (busOf (head .kind)) (before s (suc i) .streams) counts longests ids (met .found) (m .reads .behind .keeps) its e (placeOf s (suc i))
+        split (no e) = late-stream (busOf (head .kind)) (before s (suc i) .streams) counts longests ids (met .found) (m .reads .behind .keeps) its e (master-at-most e) (placeOf s (suc i))
 
-    judged-late : judge s (suc n) ≡ numbered (lateNo counts ids n (met .found)) (placeOf s (suc n)) Passed
+    judged-late : judge s (suc i) ≡ numbered (lateNo counts ids n (met .found)) (placeOf s (suc i)) Passed
     unfolding numbered
-    judged-late = judge-own s (suc n) ∙ ap (λ (x : ℕ). numbered x (placeOf s (suc n)) (verdict (lateChecks s (suc n)))) (sym own-is ∙ z) ∙ late-is
+    judged-late = judge-own s (suc i) ∙ ap (λ (x : ℕ). numbered x (placeOf s (suc i)) (verdict (lateChecks s (suc i)))) (sym own-is ∙ z) ∙ late-is
 
     module _ (late : ℕ) (is-late : late ≡ lateNo counts ids n (met .found)) where
       pub refused-late : (late ≡ 0 → ⊥) → answer.Refused late at ≡ told s (reading s)
       refused-late h =
-          let g : judge s (suc n) ≡ Refused late (placeOf s (suc n)) = judged-late ∙ (rw (← is-late) (numbered-not late (placeOf s (suc n)) Passed h)) in
-          rw (m .reads .behind .is-at) (told-refused s (suc n) late (placeOf s (suc n)) (m .reads .behind .upto) here g)
+          let g : judge s (suc i) ≡ Refused late (placeOf s (suc i)) = judged-late ∙ (rw (← is-late) (numbered-not late (placeOf s (suc i)) Passed h)) in
+          rw (m .reads .behind .is-at) (told-refused s (suc i) late (placeOf s (suc i)) (m .reads .behind .upto) here g)
 
       -- it passes
       pub not-late : late ≡ 0 → lateNo counts ids n (met .found) ≡ 0
       not-late f = sym is-late ∙ f
 
       behind-more : (counts' longests' ids' : List ℕ) → late ≡ 0 → counts' ≡ countsWith counts (met .found)
-          → longests' ≡ longestsWith longests (met .found) → ids' ≡ idsWith ids n (met .found) → Behind s head counts' longests' ids' (n + 1) (met .next)
+          → longests' ≡ longestsWith longests (met .found) → ids' ≡ idsWith ids n (met .found) → Behind s head first counts' longests' ids' (suc i) (n + 1) (met .next)
       unfolding numbered
       behind-more counts' longests' ids' f ec el ei =
           let r = met .found in
           let e = not-late f in
-          let g : judge s (suc n) ≡ Passed = judged-late ∙ ap (λ (x : ℕ). numbered x (placeOf s (suc n)) Passed) e in
+          let g : judge s (suc i) ≡ Passed = judged-late ∙ ap (λ (x : ℕ). numbered x (placeOf s (suc i)) Passed) e in
           let bus' = busOf (head .kind) in
-          let rs = before s (suc n) .streams in
+          let rs = before s (suc i) .streams in
           let few : bus' ≡ 5 → length rs < 64 =
-          λ five. rw how-many (not-late-variable counts ids n r (variable bus' rs counts longests ids r (m .reads .behind .keeps) its five) e) in
+          λ five. rw number-is (not-late-variable counts ids n r (variable bus' rs counts longests ids r (m .reads .behind .keeps) its five) e) in
           let k = keeps-more bus' rs counts longests ids r (m .reads .behind .keeps) its master-at-most few in
-          let more = adds-stream s (suc n) (rw stream-is at (stream-of bus' (r .kind) its .0)) .1 in
+          let more = adds-stream s (suc i) (rw stream-is at (stream-of bus' (r .kind) its .0)) in
+          let one-more : length (before s (suc (suc i)) .streams) ≡ n + 1 = rw (more .1) (omega (arith, length-append rs (nth s (suc i) ∷ []), number-is)) in
           record {
-            upto = rw (add-one n) (upto-more s (suc n) (m .reads .behind .upto) here (passes-then s (suc n) g));
-            is-at = rw (add-one n) next-is;
+            upto = upto-more s (suc i) (m .reads .behind .upto) here (passes-then s (suc i) g);
+            is-at = next-is;
             is-head = m .reads .behind .is-head;
-            keeps = rw (ec, el, ei, add-one n, more, ← stream-is) (rw how-many at k);
+            begins = rw (more .0) (m .reads .behind .begins);
+            number = one-more;
+            keeps = rw (ec, el, ei, more .1, ← stream-is) (rw number-is at k);
+            ends = setting-late (before s (suc (suc i))) (getD s (met .next) 0) (omega (arith, one-more));
           }
 
       pub reads-more : (counts' longests' ids' : List ℕ) → late ≡ 0 → counts' ≡ countsWith counts (met .found)
-          → longests' ≡ longestsWith longests (met .found) → ids' ≡ idsWith ids n (met .found) → Reads s head bus g counts' longests' ids' (n + 1) (met .next)
+          → longests' ≡ longestsWith longests (met .found) → ids' ≡ idsWith ids n (met .found) → Reads s head first bus g counts' longests' ids' (suc i) (n + 1) (met .next)
       reads-more counts' longests' ids' f ec el ei =
           record { is-bus = m .reads .is-bus; is-given = m .reads .is-given; behind = behind-more counts' longests' ids' f ec el ei }
 
 -- ---- The end
 
-module _ {s : List ℕ} {head : Record} {counts longests ids : List ℕ} {n at : ℕ} (b : Behind s head counts longests ids n at) (out : length s ≤ at) where
-  reading-ends : reading s ≡ ended s (suc n)
-  reading-ends = stops-once s (at-end (suc n) (b .upto) (omega (arith, upto-place s (suc n) (b .upto), b .is-at)) refl)
-
-  all-here : length (before s (suc n) .streams) ≡ n
-  all-here = all-streams s n (b .upto)
+module _ {s : List ℕ} {head : Record} {first : ℕ} {counts longests ids : List ℕ} {i n at : ℕ} (b : Behind s head first counts longests ids i n at) (out : length s ≤ at) where
+  reading-ends : reading s ≡ ended s (suc i)
+  reading-ends = stops-once s (at-end (suc i) (b .upto) (omega (arith, upto-place s (suc i) (b .upto), b .is-at)) refl)
 
   pub ends-empty : n ≡ 0 → answer.Refused 6 (length s) ≡ told s (reading s)
-  ends-empty e = ap (told s) (sym (reading-ends ∙ ended-no-stream s (suc n) (head-some s n (b .upto)) (all-here ∙ e)))
+  ends-empty e = ap (told s) (sym (reading-ends ∙ ended-no-stream s (suc i) (head-some s i (b .upto)) (b .number ∙ e)))
 
   module _ (some : n ≡ 0 → ⊥) where
-    reads : reading s ≡ Read (before s (suc n))
-    reads = reading-ends ∙ ended-sheet s (suc n) (head-some s n (b .upto)) (λ e. some (sym all-here ∙ e))
+    reads : reading s ≡ Read (before s (suc i))
+    reads = reading-ends ∙ ended-sheet s (suc i) (head-some s i (b .upto)) (λ e. some (sym (b .number) ∙ e))
 
-    pub ends-accepted : (first : ℕ) → first ≡ placeOf s 1 → answer.Accepted head n first ≡ told s (reading s)
-    ends-accepted first f =
-        let e : told s (reading s) ≡ answer.Accepted (before s (suc n) .head) (length (before s (suc n) .streams)) (placeOf s (firstStream (before s (suc n)))) =
-        ap (told s) reads in
-        let e' : told s (reading s) ≡ answer.Accepted (before s (suc n) .head) n (placeOf s 1) = rw (all-here, settings-none s n (b .upto)) at e in
-        rw (f, b .is-head, ← head-at s n) (sym e')
+    pub ends-accepted : answer.Accepted head n first ≡ told s (reading s)
+    ends-accepted = rw (b .is-head, b .begins, ← head-at s i, ← b .number) (sym (ap (told s) reads))
 
     -- and the figures are those of its masters
-    told-figures : (figure : Sheet → ℕ → ℕ) (xs old : List ℕ) → (busOf (head .kind) ≡ 5 → ⊥) → Figures (busOf (head .kind)) (figure (before s (suc n))) xs
+    told-figures : (figure : Sheet → ℕ → ℕ) (xs old : List ℕ) → (busOf (head .kind) ≡ 5 → ⊥) → Figures (busOf (head .kind)) (figure (before s (suc i))) xs
         → xs ≡ byMaster figure (reading s) old
     told-figures figure xs old k w =
-        rw (reads, bus-is b, ne-eqb (busOf (head .kind)) 5 k) (tab-places (figure (before s (suc n))) xs 33 (w .places) (λ x l. w .each k x (omega arith)))
+        rw (reads, bus-is b, ne-eqb (busOf (head .kind)) 5 k) (tab-places (figure (before s (suc i))) xs 33 (w .places) (λ x l. w .each k x (omega arith)))
 
     pub ends-counted : (busOf (head .kind) ≡ 5 → ⊥) → (old : List ℕ) → counts ≡ countsTold (reading s) old
     unfolding countsTold

@@ -18,18 +18,22 @@ use Rattle.common.proofs.Checks.{Clear, passed-then}
 use Rattle.common.proofs.Checks.Clear.{none, and}
 use Rattle.sheet_record.specs.declared.Met.{Met}
 use Rattle.sheet_record.specs.declared.Record.{Record}
-use Rattle.sheet_record.specs.Kinds.{known, sizeOf, decode, inRange, whole, metAt, metOf, nothing, fieldsOf, lineOf, kinds, busOf, isFirst, isSetting, isStream, isStreamOf}
-use Rattle.sheet_record.proofs.Parts.{no-setting}
+use Rattle.sheet_record.specs.Kinds.{known, sizeOf, decode, inRange, whole, metAt, metOf, nothing, widths, fieldsOf, lineOf, kinds, busOf, isFirst, isSetting, isStream, isStreamOf}
+use Rattle.sheet_record.proofs.Parts.{setting-is, first-bus}
 use Rattle.sheet_read.specs.Sheets.{Sheet, sheetOf, having, busIn, given, editionOf, countOf, mostInAll, hasMasters, overLimit, metBefore}
 use Rattle.sheet_read.specs.Steps.{editionMet, editionAt}
 use Rattle.sheet_read.specs.Records.{recordsIn}
 use Rattle.sheet_read.specs.Whole.{placeOf, recordsOf, before, firstStream, endChecks, ended, reading}
 use Rattle.sheet_read.specs.Whole.Outcome.{Read, Not}
-use Rattle.sheet_read.proofs.Walk.{before-none, head-at}
+use Rattle.sheet_read.proofs.Walk.{before-none, head-at, place-next}
 use Rattle.sheet_read.proofs.Cases.{PassesAt, Upto, Stops, upto-front, reading-stops}
 use Rattle.sheet_read.proofs.Cases.Stops.{by-record, at-end}
 use Rattle.sheet_read.proofs.Counts.{count-more, count-none}
-use Rattle.sheet_read.proofs.Order.{limits-of, Placed, fits-then, fits-behind, stream-of, nth, first-passes, head-some, adds-stream, adds-setting, behind-first, how-many, stream-at}
+use Rattle.sheet_record.proofs.Ranges.{edition-ranges}
+use Rattle.sheet_record.proofs.Records.{met-same, met-other}
+use Rattle.sheet_read.proofs.Settings.{Settled, settled}
+use Rattle.sheet_read.proofs.Settings.Settled.{unset, set}
+use Rattle.sheet_read.proofs.Order.{limits-of, stream-only, Placed, fits-then, stream-of, nth, first-passes, head-some, adds-stream, adds-setting, behind-first, how-many, stream-at}
 use Rattle.sheet_read.proofs.Order.Placed.{as-first, as-setting, as-stream}
 
 pub record Known (s : List ℕ) (S : Sheet) : Type 0 where
@@ -48,8 +52,9 @@ pub record Known (s : List ℕ) (S : Sheet) : Type 0 where
   -- the streams are of its bus, and in range behind it
   pub kinds : (i : ℕ) → i < length (S .streams) → isStreamOf (busIn S) (getD (S .streams) i nothing .kind) ≡ true
   pub ranged : (i : ℕ) → i < length (S .streams) → inRange (given S (getD (S .streams) i nothing .a)) (getD (S .streams) i nothing) ≡ true
-  -- the edition that the bytes say
+  -- the edition that the bytes say, 1 or 2
   pub edition : busIn S ≡ 1 → editionAt s ≡ editionOf S
+  pub editions : busIn S ≡ 1 → (1 ≤ editionOf S) × (editionOf S ≤ 2)
   -- at most 80 streams for one master
   pub per-master : (k : ℕ) → (busIn S ≡ 5 → ⊥) → countOf k (S .streams) ≤ 80
   -- no two variables have one identifier
@@ -198,22 +203,42 @@ module _ (s : List ℕ) (m : ℕ) (u : Upto s (suc m)) where
   unfolding decode placeOf
   met-at j l = met-whole s (placeOf s j) (u .passed j (omega arith) .is-known) (u .passed j (omega arith) .is-whole)
 
-  no-settings : (rs : List Record) → having isSetting rs ≡ []
-  unfolding having
-  no-settings [] = refl
-  no-settings (r ∷ rs) = rw (no-setting (r .kind)) (no-settings rs)
+  -- the edition stands just behind a P-NET segment, which has 2 bytes
+  module _ (some : 1 ≤ m) (pnet-first : decode s 0 .kind ≡ 1) where
+    place-one : placeOf s 1 ≡ 2
+    unfolding placeOf decode sizeOf widths fieldsOf lineOf kinds
+    place-one = rw pnet-first
 
-  pub settings-none : before s (suc m) .settings ≡ []
-  unfolding before sheetOf
-  settings-none = no-settings (recordsOf s (suc m))
+    -- it is 1 or 2
+    edition-ranged : (1 ≤ editionOf (before s (suc m))) × (editionOf (before s (suc m)) ≤ 2)
+    edition-ranged = split (settled s m u)
+      where
+        split : Settled s m → (1 ≤ editionOf (before s (suc m))) × (editionOf (before s (suc m)) ≤ 2)
+        split (unset e first) = rw e (omega arith, omega arith)
+        split (set l f k one) =
+            let w = edition-ranges _ (nth s 1) (u .passed 1 (omega arith) .is-ranged) k .edition in
+            rw one (w .least, w .most)
 
-  edition-there : editionAt s ≡ editionOf (before s (suc m))
-  unfolding editionAt metOf metAt whole known fieldsOf lineOf kinds
-  edition-there = rw settings-none (split (eqb (getD s 2 0) 8) refl)
-    where
-      split : (b : Bool) → eqb (getD s 2 0) 8 ≡ b → editionMet (cond b (metAt s 2) (record { found = nothing; next = 2 })) ≡ 1
-      split true e = rw (eqb-true (getD s 2 0) 8 e)
-      split false e = refl
+    -- its record is that kind's only if the byte there is
+    not-edition : isStream (nth s 1 .kind) ≡ true → getD s 2 0 ≡ 8 → ⊥
+    unfolding decode
+    not-edition its e =
+        let k : nth s 1 .kind ≡ 8 = ap (λ (x : ℕ). getD s x 0) place-one ∙ e in
+        let f : isSetting 8 ≡ false = rw k at (stream-only (nth s 1 .kind) its) in
+        let t : isSetting 8 ≡ true = setting-is 8 in
+        let z : _≡_ {A = ℕ} 0 1 = cc in
+        omega arith
+
+    edition-there : editionAt s ≡ editionOf (before s (suc m))
+    unfolding editionAt decode
+    edition-there = split (settled s m u)
+      where
+        split : Settled s m → editionMet (metOf s 2 8) ≡ editionOf (before s (suc m))
+        split (unset e first) = rw (e, ← met-other s 2 8 (not-edition (first some))) refl
+        split (set l f k one) =
+            let e : getD s 2 0 ≡ 8 = sym (ap (λ (x : ℕ). getD s x 0) place-one) ∙ k in
+            let q : metOf s 2 8 ≡ record { found = nth s 1; next = placeOf s 2 } = met-same s 2 8 e ∙ (ap (metAt s) (sym place-one) ∙ met-at 1 some) in
+            rw (one, q, ne-eqb (placeOf s 2) 2 (λ z. omega (arith, place-next s 1, place-one))) refl
 
   known-there : 1 ≤ length (before s (suc m) .streams) → Known s (before s (suc m))
   unfolding before recordsOf placeOf decode
@@ -222,6 +247,7 @@ module _ (s : List ℕ) (m : ℕ) (u : Upto s (suc m)) where
       let q = head-at s m in
       let d = sound-upto s m u in
       let p = u .passed 0 (omega arith) in
+      let on-pnet : busIn S ≡ 1 → decode s 0 .kind ≡ 1 = λ e. sym (first-bus (decode s 0 .kind) (first-passes s p)) ∙ (rw q at e) in
       let inside : (i : ℕ) → i < length (S .streams) → firstStream S + i ≤ m = λ i l. omega (arith, how-many s m u) in
       record {
         some = h;
@@ -234,33 +260,40 @@ module _ (s : List ℕ) (m : ℕ) (u : Upto s (suc m)) where
         head-ranged = rw q (p .is-ranged);
         kinds = λ i l. rw q (d .kinds i l);
         ranged = λ i l. rw q (d .ranged i l);
-        edition = λ e. edition-there;
+        edition = λ e. edition-there (omega (arith, how-many s m u)) (on-pnet e);
+        editions = λ e. edition-ranged (omega (arith, how-many s m u)) (on-pnet e);
         per-master = λ k e. d .per-master k (rw q at e);
         distinct = λ e i j l k. d .distinct (rw q at e) i j l k;
       }
 
-  -- ---- How long it is, as long as no kind is a setting
+  -- ---- How long it is
 
-  -- every record behind the first is a stream
-  pub all-streams : length (before s (suc m) .streams) ≡ m
-  all-streams = omega (arith, how-many s m u, ap length settings-none)
+  pub streams-few : length (before s (suc m) .streams) ≤ mostInAll (busOf (decode s 0 .kind))
+  streams-few = sound-upto s m u .few
 
-  pub streams-few : m ≤ mostInAll (busOf (decode s 0 .kind))
-  streams-few = omega (arith, all-streams, sound-upto s m u .few)
-
-  pub later-stream : (j : ℕ) → j < m → isStreamOf (busOf (decode s 0 .kind)) (nth s (suc j) .kind) ≡ true
-  later-stream j l =
-      let v = upto-front s (suc m) (suc j) (omega arith) u in
-      let e = sym (fits-behind (before s (suc j)) (nth s (suc j) .kind) (head-some s j v)) ∙ u .passed (suc j) (omega arith) .is-right in
-      rw (head-at s j) at e
-
-  -- where the streams are no longer than w, neither are the places higher
-  pub place-bound : (w : ℕ) → ((k : ℕ) → isStreamOf (busOf (decode s 0 .kind)) k ≡ true → sizeOf k ≤ w) → (j : ℕ) → j ≤ m
-      → placeOf s (suc j) ≤ sizeOf (decode s 0 .kind) + j * w
+  -- where no setting is longer than v, and no stream longer than w, the places are no higher
+  pub place-bound : (v w : ℕ) → ((k : ℕ) → isSetting k ≡ true → sizeOf k ≤ v) → ((k : ℕ) → isStreamOf (busOf (decode s 0 .kind)) k ≡ true → sizeOf k ≤ w)
+      → (j : ℕ) → j ≤ m → placeOf s (suc j) ≤ sizeOf (decode s 0 .kind) + length (before s (suc j) .settings) * v + length (before s (suc j) .streams) * w
   unfolding placeOf decode
-  place-bound w short zero l = omega (arith, zero-mul w)
-  place-bound w short (suc j) l =
-      omega (arith, place-bound w short j (omega arith), short (nth s (suc j) .kind) (later-stream j l), suc-mul j w)
+  place-bound v w settings short zero l =
+      let b = behind-first s (u .passed 0 (omega arith)) in
+      rw (b .0, b .1) (omega (arith, zero-mul v, zero-mul w))
+  place-bound v w settings short (suc j) l =
+      step (place-bound v w settings short j (omega arith)) (fits-then (before s (suc j)) (nth s (suc j) .kind) (u .passed (suc j) (omega arith) .is-right))
+    where
+      S : Sheet
+      S = before s (suc j)
+
+      step : placeOf s (suc j) ≤ sizeOf (decode s 0 .kind) + length (S .settings) * v + length (S .streams) * w → Placed S (nth s (suc j) .kind)
+          → placeOf s (suc j) + sizeOf (nth s (suc j) .kind) ≤ sizeOf (decode s 0 .kind) + length (before s (suc (suc j)) .settings) * v + length (before s (suc (suc j)) .streams) * w
+      step ih (as-first e z) = absurd (head-some s j (upto-front s (suc m) (suc j) (omega arith) u) z)
+      step ih (as-setting e z) =
+          let a = adds-setting s (suc j) e in
+          rw (a .0, a .1, length-append (S .settings) (nth s (suc j) ∷ [])) (omega (arith, ih, settings (nth s (suc j) .kind) e, suc-mul (length (S .settings)) v))
+      step ih (as-stream e) =
+          let a = adds-stream s (suc j) (stream-of (busIn S) (nth s (suc j) .kind) e .0) in
+          let its : isStreamOf (busOf (decode s 0 .kind)) (nth s (suc j) .kind) ≡ true = rw (head-at s j) at e in
+          rw (a .0, a .1, length-append (S .streams) (nth s (suc j) ∷ [])) (omega (arith, ih, short (nth s (suc j) .kind) its, suc-mul (length (S .streams)) w))
 
   pub first-record : isFirst (decode s 0 .kind) ≡ true
   first-record = first-passes s (u .passed 0 (omega arith))

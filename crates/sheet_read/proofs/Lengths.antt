@@ -1,4 +1,4 @@
--- No accepted sheet is longer than 12,802 bytes, and reading looks at the first 12,818 bytes of any sheet only. Assumes nothing.
+-- No accepted sheet is longer than 12,804 bytes, and reading looks at the first 12,820 bytes of any sheet only. Assumes nothing.
 use mathlib.Core.Path.{_≡_, refl, sym, ap, _∙_}
 use mathlib.Core.Bool.{Bool, true, false, cond}
 use mathlib.Core.List.{List}
@@ -10,16 +10,17 @@ use lib.ListN.{length, getD, take}
 use lib.Dec.{leb, eqb}
 use lib.Seq.{take-all, length-take-le, getD-take}
 use Rattle.common.specs.Sums.{greatest}
-use Rattle.sheet_record.specs.Kinds.{kinds, lineOf, fieldsOf, widths, sizeOf, busOf, isFirst, isStreamOf, decode}
+use Rattle.sheet_record.specs.Kinds.{kinds, lineOf, fieldsOf, widths, sizeOf, busOf, isFirst, isSetting, isStreamOf, decode}
 use Rattle.sheet_record.proofs.Tables.{size-at-most}
-use Rattle.sheet_record.proofs.Parts.{first-kinds, first-bus, ring-streams, variables}
+use Rattle.sheet_record.proofs.Parts.{first-kinds, first-bus, setting-kind, ring-streams, variables}
 use Rattle.sheet_read.specs.Sheets.{Sheet, mostInAll}
-use Rattle.sheet_read.specs.Whole.{placeOf, reading, told, Outcome}
+use Rattle.sheet_read.specs.Whole.{placeOf, before, reading, told, Outcome}
 use Rattle.sheet_read.specs.Whole.Outcome.{Read, Not}
 use Rattle.sheet_read.specs.Lengths.{longest-record, longest-sheet, enough}
 use Rattle.sheet_read.proofs.Cases.{Upto, Stops, reading-stops}
 use Rattle.sheet_read.proofs.Cases.Stops.{by-record, at-end}
 use Rattle.sheet_read.proofs.Fronts.{SameFront, refused-by-record}
+use Rattle.sheet_read.proofs.Settings.{one-setting}
 use Rattle.sheet_read.proofs.Known.{place-bound, first-record, streams-few}
 
 -- ---- The constants
@@ -28,11 +29,11 @@ pub longest-record-is : longest-record ≡ 16
 unfolding longest-record greatest kinds sizeOf widths fieldsOf lineOf
 longest-record-is = refl
 
-pub longest-sheet-is : longest-sheet ≡ 12802
+pub longest-sheet-is : longest-sheet ≡ 12804
 unfolding longest-sheet longest-record greatest kinds sizeOf widths fieldsOf lineOf mostInAll
 longest-sheet-is = refl
 
-pub enough-is : enough ≡ 12818
+pub enough-is : enough ≡ 12820
 unfolding enough longest-sheet longest-record greatest kinds sizeOf widths fieldsOf lineOf mostInAll
 enough-is = refl
 
@@ -54,12 +55,17 @@ stream-size h k f its = split (first-kinds h f)
     split (inr (inl e)) = rw (e, eqb-true k 4 (sym (ring-streams k) ∙ of 3 e)) (omega arith)
     split (inr (inr e)) = rw (e, eqb-true k 6 (sym (variables k) ∙ of 5 e)) (omega arith)
 
+-- a setting has 2 bytes
+setting-size : (k : ℕ) → isSetting k ≡ true → sizeOf k ≤ 2
+unfolding sizeOf widths fieldsOf lineOf kinds
+setting-size k e = rw (setting-kind k e) (omega arith)
+
 -- behind records that pass, the next one stands within the longest sheet
-bound : (h m : ℕ) → isFirst h ≡ true → m ≤ mostInAll (busOf h) → sizeOf h + m * longest-of h ≤ longest-sheet
+bound : (h c m : ℕ) → isFirst h ≡ true → c ≤ 1 → m ≤ mostInAll (busOf h) → sizeOf h + c * 2 + m * longest-of h ≤ longest-sheet
 unfolding longest-of longest-sheet longest-record greatest kinds lineOf sizeOf widths fieldsOf mostInAll
-bound h m f l = split (first-kinds h f) (rw (first-bus h f) at l)
+bound h c m f one l = split (first-kinds h f) (rw (first-bus h f) at l)
   where
-    split : h ≡ 1 ⊎ h ≡ 3 ⊎ h ≡ 5 → m ≤ mostInAll h → sizeOf h + m * longest-of h ≤ longest-sheet
+    split : h ≡ 1 ⊎ h ≡ 3 ⊎ h ≡ 5 → m ≤ mostInAll h → sizeOf h + c * 2 + m * longest-of h ≤ longest-sheet
     split (inl e) l' = rw e (let k : m ≤ 800 = rw e at l' in omega arith)
     split (inr (inl e)) l' = rw e (let k : m ≤ 800 = rw e at l' in omega arith)
     split (inr (inr e)) l' = rw e (let k : m ≤ 64 = rw e at l' in omega arith)
@@ -70,7 +76,12 @@ place-at-most s zero u = zero-le
 place-at-most s (suc m) u =
     let h = decode s 0 .kind in
     let f = first-record s m u in
-    omega (arith, place-bound s m u (longest-of h) (λ k e. stream-size h k f e) m (omega arith), bound h m f (streams-few s m u))
+    let S = before s (suc m) in
+    omega (
+      arith,
+      place-bound s m u 2 (longest-of h) setting-size (λ k e. stream-size h k f e) m (omega arith),
+      bound h (length (S .settings)) (length (S .streams)) f (one-setting s m u) (streams-few s m u),
+    )
 
 -- no accepted sheet is longer
 pub length-at-most : (s : List ℕ) (S : Sheet) → reading s ≡ Read S → length s ≤ longest-sheet
@@ -86,7 +97,7 @@ length-at-most s S e = by (reading-stops s)
 cut-front : (s : List ℕ) (n : ℕ) → n ≤ length s → SameFront s (take n s) n
 cut-front s n short = record { s-long = short; t-long = omega (arith, length-take-le n s short); same = λ i l. getD-take n s i 0 l }
 
--- ---- The first 12,818 bytes are enough
+-- ---- The first 12,820 bytes are enough
 
 -- a record that reading comes to ends within them
 ends-within : (s : List ℕ) (i : ℕ) → Upto s i → placeOf s (suc i) ≤ enough

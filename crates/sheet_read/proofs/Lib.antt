@@ -1,12 +1,13 @@
 pub mod Behind
 pub mod Cases
-pub mod Editions
 pub mod Counts
 pub mod Examples
 pub mod Fronts
 pub mod Judged
 pub mod Kept
 pub mod Order
+pub mod Settings
+pub mod Editions
 pub mod Known
 pub mod Lengths
 pub mod Refusals

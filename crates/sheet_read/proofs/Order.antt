@@ -1,7 +1,7 @@
 -- Page 01, 'Sheet records': what fits behind a sheet, by its part; and records that pass stand in order, the first record, its settings, its
 -- streams, so that a sheet is its records. Assumes nothing.
 use mathlib.Core.Path.{_≡_, refl, sym, ap, _∙_}
-use mathlib.Core.Bool.{Bool, true, false, _&&_}
+use mathlib.Core.Bool.{Bool, true, false, _&&_, and-false}
 use mathlib.Core.List.{List, [], _∷_, _++_, append-nil, append-assoc}
 use mathlib.Core.Logic.{_⊎_, inl, inr}
 use Prim.Native.Nat.{ℕ, zero, suc, _+_, _≤_, _<_}
@@ -15,8 +15,8 @@ use Rattle.sheet_record.specs.declared.Record.{Record}
 use Rattle.sheet_record.specs.Kinds.{kinds, lineOf, busOf, Part, partOf, isFirstPart, isSettingPart, isStreamPart, isFirst, isSetting, isStream, isStreamOf, decode, nothing}
 use Rattle.sheet_record.specs.Kinds.Part.{no-part, first, setting, stream}
 use Rattle.sheet_record.proofs.Tables.{both-true}
-use Rattle.sheet_record.proofs.Parts.{no-setting, stream-bus}
-use Rattle.sheet_read.specs.Sheets.{Sheet, having, headOf, sheetOf, busIn, placed, again, fits}
+use Rattle.sheet_record.proofs.Parts.{setting-behind, stream-bus}
+use Rattle.sheet_read.specs.Sheets.{Sheet, having, headOf, sheetOf, busIn, ofKind, placed, again, fits}
 use Rattle.sheet_read.specs.Records.{recordsIn}
 use Rattle.sheet_read.specs.Whole.{placeOf, recordsOf, before, firstStream}
 use Rattle.sheet_read.proofs.Walk.{having-it, not-having, length-records, record-at, head-at, settings-more, streams-more}
@@ -100,16 +100,43 @@ eqb-sym x y = split (eqb x y) refl
     split true e = sym (eq-eqb y x (sym (eqb-true x y e)))
     split false e = sym (ne-eqb y x (λ q. eqb-false x y e (sym q)))
 
--- behind a first record, the streams of its bus, as long as no kind is a setting
-pub fits-behind : (S : Sheet) (k : ℕ) → (S .head .kind ≡ 0 → ⊥) → fits S k ≡ isStreamOf (busIn S) k
+-- behind a first record, the streams of its bus
+pub stream-fits : (S : Sheet) (k : ℕ) → isStreamOf (busIn S) k ≡ true → fits S k ≡ true
+unfolding fits isStreamOf isStream
+stream-fits S k e = let b = both-true (isStreamPart (partOf k)) (eqb (busOf k) (busIn S)) e in split (partOf k) (b .0)
+  where
+    split : (p : Part) → isStreamPart p ≡ true → placed S k p ≡ true
+    split no-part q = never q
+    split first q = never q
+    split (setting h t) q = never q
+    split stream q = eqb-sym (busIn S) (busOf k) ∙ eq-eqb (busOf k) (busIn S) (stream-of (busIn S) k e .1)
+
+-- and nothing else, but for a setting
+pub fits-behind : (S : Sheet) (k : ℕ) → (S .head .kind ≡ 0 → ⊥) → (isSetting k ≡ true → fits S k ≡ false) → fits S k ≡ isStreamOf (busIn S) k
 unfolding fits isStreamOf isStream isSetting
-fits-behind S k some = split (partOf k) refl
+fits-behind S k some none = split (partOf k) refl
   where
     split : (p : Part) → partOf k ≡ p → placed S k p ≡ (isStreamPart p && eqb (busOf k) (busIn S))
     split no-part q = refl
     split first q = ne-eqb (S .head .kind) 0 some
-    split (setting h t) q = let z : isSetting k ≡ true = ap isSettingPart q in never (sym (no-setting k) ∙ z)
+    split (setting h t) q = rw q at (none (ap isSettingPart q))
     split stream q = eqb-sym (busIn S) (busOf k)
+
+-- the edition: behind kind 1, before the streams, once
+pub edition-fits : (S : Sheet) → fits S 8 ≡ (eqb (S .head .kind) 1 && (eqb (length (S .streams)) 0 && eqb (ofKind 8 (S .settings)) 0))
+unfolding fits partOf lineOf kinds
+edition-fits S = refl
+
+-- no setting fits behind a stream
+pub setting-late : (S : Sheet) (k : ℕ) → 1 ≤ length (S .streams) → isSetting k ≡ true → fits S k ≡ false
+unfolding fits isSetting
+setting-late S k l e = split (partOf k) e
+  where
+    split : (p : Part) → isSettingPart p ≡ true → placed S k p ≡ false
+    split no-part q = never q
+    split first q = never q
+    split (setting h t) q = rw (ne-eqb (length (S .streams)) 0 (λ z. omega arith)) (simp and-false)
+    split stream q = never q
 
 bus-none : busOf 0 ≡ 0
 unfolding busOf lineOf kinds
@@ -128,7 +155,7 @@ fits-first k = split (partOf k) refl
     split : (p : Part) → partOf k ≡ p → placed (sheetOf []) k p ≡ isFirstPart p
     split no-part q = refl
     split first q = refl
-    split (setting h t) q = let z : isSetting k ≡ true = ap isSettingPart q in never (sym (no-setting k) ∙ z)
+    split (setting h t) q = rw (ne-eqb 0 h (λ z. omega (arith, setting-behind k h t q)))
     split stream q = ne-eqb (busOf 0) (busOf k) (some-bus (stream-bus k (ap isStreamPart q)))
 
 -- and that is not `nothing`
@@ -175,7 +202,7 @@ module _ (s : List ℕ) where
 
   -- ---- A sheet is its records
 
-  empty-list : (l : List Record) → length l ≡ 0 → l ≡ []
+  pub empty-list : (l : List Record) → length l ≡ 0 → l ≡ []
   empty-list [] e = refl
   empty-list (x ∷ l) e = absurd (omega arith)
 

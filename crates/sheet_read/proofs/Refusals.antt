@@ -6,6 +6,7 @@ use mathlib.Core.List.{List}
 use mathlib.Core.Logic.{_⊎_, inl, inr, ⊎-elim, _↔_}
 use Prim.Native.Nat.{ℕ, zero, suc, _+_, _≤_, _<_}
 use native.Mathlib.Omega.{arith}
+use native.Mathlib.Decide.{ℕ-discrete}
 use borrow.Author.Tests.{ltb-true, ltb-false, leb-false, lt-leb, le-leb, le-ltb, eqb-true, eq-eqb, not-true, not-false}
 use lib.ListN.{length, getD}
 use lib.Dec.{ltb, leb, eqb}
@@ -13,23 +14,26 @@ use Rattle.common.specs.Checks.Verdict.{Refused}
 use Rattle.common.proofs.Checks.{Applies, refused-if, refused-then}
 use Rattle.common.proofs.Checks.Applies.{here, later}
 use Rattle.sheet_record.specs.declared.Record.{Record}
-use Rattle.sheet_record.specs.Kinds.{kinds, lineOf, busOf, isFirst, isStreamOf, nothing, known, sizeOf, inRange}
+use Rattle.sheet_record.specs.Kinds.{kinds, lineOf, busOf, isFirst, isSetting, isStreamOf, nothing, known, sizeOf, decode, inRange}
 use Rattle.sheet_record.proofs.Tables.{both-true, known-within, known-bounds}
 use Rattle.sheet_record.proofs.InPage.{in-page-in-range, in-range-exactly}
 use Rattle.sheet_record.proofs.Parts.{first-is, first-kinds, first-bus, pnet-streams, ring-streams, variables}
-use Rattle.sheet_read.specs.Sheets.{Sheet, sheetOf, busIn, given, fits, countOf, mostInAll, hasMasters, overLimit, metBefore}
+use Rattle.sheet_read.specs.Sheets.{Sheet, sheetOf, busIn, given, ofKind, fits, countOf, mostInAll, hasMasters, overLimit, metBefore}
 use Rattle.sheet_read.specs.Whole.{placeOf, recordsOf, before, firstStream, recordChecks, judge, ended, reading, Outcome}
 use Rattle.sheet_read.specs.Whole.Outcome.{Read, Not}
-use Rattle.sheet_read.specs.Refusals.{recordAt, streamsBefore, KnownKind, RightKind, Complete, Ranged, InLimits, MetBefore, RefusedWith, Taken, Reached, OnlyFirst, Given}
-use Rattle.sheet_read.specs.Refusals.RightKind.{at-first, behind, jittered}
+use Rattle.sheet_read.specs.Refusals.{recordAt, streamsBefore, KnownKind, RightKind, Complete, Ranged, InLimits, MetBefore, RefusedWith, Taken, Reached, NoStream, Given}
+use Rattle.sheet_read.specs.Refusals.RightKind.{at-first, edition, behind, jittered}
 use Rattle.sheet_read.specs.Refusals.RefusedWith.{unknown, misplaced, cut, out-of-range, one-too-many, met-before}
 use Rattle.sheet_read.specs.Refusals.Given.{empty, at-record, no-stream}
 use Rattle.sheet_read.proofs.Walk.{head-at}
 use Rattle.sheet_read.proofs.Cases.{PassesAt, Upto, Stops, upto-none, upto-more, upto-front, reading-stops, stops-once, ended-empty, ended-no-stream, ended-sheet}
 use Rattle.sheet_read.proofs.Cases.Stops.{by-record, at-end}
 use Rattle.sheet_read.proofs.Counts.{count-none, count-some}
-use Rattle.sheet_read.proofs.Order.{nth, fits-first, fits-behind, stream-of, first-passes, head-some, behind-first, stream-at}
-use Rattle.sheet_read.proofs.Known.{both-fail, settings-none, all-streams}
+use Rattle.sheet_read.proofs.Order.{nth, Placed, fits-then, fits-first, stream-fits, first-passes, head-some, how-many, stream-at}
+use Rattle.sheet_read.proofs.Order.Placed.{as-first, as-setting, as-stream}
+use Rattle.sheet_read.proofs.Settings.{counted, Settled, settled, edition-here, edition-right, edition-first, settings-none, all-streams}
+use Rattle.sheet_read.proofs.Settings.Settled.{unset, set}
+use Rattle.sheet_read.proofs.Known.{both-fail}
 
 -- ---- The lines, one by one, as tests
 
@@ -60,20 +64,12 @@ to-match h k f = ap (λ (b : ℕ). isStreamOf b k) (first-bus h f) ∙ split (fi
     split (inr (inl e)) = rw e (ring-streams k ∙ sym (or-false (eqb k 4)))
     split (inr (inr e)) = rw e (variables k ∙ sym (or-false (eqb k 6)))
 
--- a later record matches the first
-fits-later : (s : List ℕ) (i : ℕ) → Upto s (suc i) → fits (before s (suc i)) (recordAt s (suc i) .kind) ≡ matches (recordAt s 0 .kind) (recordAt s (suc i) .kind)
-unfolding placeOf
-fits-later s i u =
-    let k = recordAt s (suc i) .kind in
-    fits-behind (before s (suc i)) k (head-some s i u)
-    ∙ (ap (λ (r : Record). isStreamOf (busOf (r .kind)) k) (head-at s i) ∙ to-match (recordAt s 0 .kind) k (first-passes s (u .passed 0 (omega arith))))
-
 module _ (s : List ℕ) (i : ℕ) where
   known-then : known (recordAt s i .kind) ≡ true → KnownKind s i
   known-then e = let b = known-bounds (recordAt s i .kind) e in record { least = b .0; most = b .1 }
 
   known-if : KnownKind s i → known (recordAt s i .kind) ≡ true
-  known-if k = sym (known-within (recordAt s i .kind)) ∙ rw (le-leb 1 (recordAt s i .kind) (k .least), le-leb (recordAt s i .kind) 7 (k .most))
+  known-if k = sym (known-within (recordAt s i .kind)) ∙ rw (le-leb 1 (recordAt s i .kind) (k .least), le-leb (recordAt s i .kind) 8 (k .most))
 
   ranged-then : known (recordAt s i .kind) ≡ true → inRange (given (before s i) (recordAt s i .a)) (recordAt s i) ≡ true → Ranged s i
   ranged-then k e = record { fields = in-range-exactly (given (before s i) (recordAt s i .a)) (recordAt s i) k .0 e }
@@ -99,7 +95,7 @@ module _ (s : List ℕ) (i : ℕ) where
       split true h = lt-leb 80 (countOf (recordAt s i .a) (streamsBefore s i)) (l .of-master h)
       split false h = refl
 
--- the buses of four kinds
+-- the buses of five kinds
 six-bus : busOf 6 ≡ 5
 unfolding busOf lineOf kinds
 six-bus = refl
@@ -116,11 +112,15 @@ seven-bus : busOf 7 ≡ 1
 unfolding busOf lineOf kinds
 seven-bus = refl
 
+eight-bus : busOf 8 ≡ 1
+unfolding busOf lineOf kinds
+eight-bus = refl
+
 module _ (s : List ℕ) where
   right-then : (i : ℕ) → Upto s i → fits (before s i) (recordAt s i .kind) ≡ true → RightKind s i
   unfolding before recordsOf
   right-then zero u e = at-first (first-kinds (recordAt s 0 .kind) (sym (fits-first (recordAt s 0 .kind)) ∙ e))
-  right-then (suc i) u e = by (eqb k (h + 1)) refl (sym (fits-later s i u) ∙ e)
+  right-then (suc i) u e = by (fits-then (before s (suc i)) k e)
     where
       h : ℕ
       h = recordAt s 0 .kind
@@ -128,9 +128,30 @@ module _ (s : List ℕ) where
       k : ℕ
       k = recordAt s (suc i) .kind
 
-      by : (b : Bool) → eqb k (h + 1) ≡ b → b || (eqb h 1 && eqb k 7) ≡ true → RightKind s (suc i)
-      by true q t = behind (eqb-true k (h + 1) q)
-      by false q t = let w = both-true (eqb h 1) (eqb k 7) t in jittered (eqb-true h 1 (w .0)) (eqb-true k 7 (w .1))
+      -- the edition is record 1
+      by-edition : isSetting k ≡ true → Settled s i → RightKind s (suc i)
+      by-edition its (unset none first) =
+          let r = edition-right s i e its in
+          let z : i ≡ 0 = omega (arith, how-many s i u, r .1, ap length none) in
+          let w : RightKind s 1 = edition (ap (λ (x : Record). x .kind) (sym (head-at s i)) ∙ r .0) (rw z at (edition-here s i e its)) in
+          rw z w
+      by-edition its (set l f q one) = absurd (omega (arith, ap (ofKind 8) one, edition-right s i e its .2, counted (nth s 1) q))
+
+      matched : (b : Bool) → eqb k (h + 1) ≡ b → b || (eqb h 1 && eqb k 7) ≡ true → RightKind s (suc i)
+      matched true q t = behind (eqb-true k (h + 1) q)
+      matched false q t = let w = both-true (eqb h 1) (eqb k 7) t in jittered (eqb-true h 1 (w .0)) (eqb-true k 7 (w .1))
+
+      by : Placed (before s (suc i)) k → RightKind s (suc i)
+      by (as-first f z) = absurd (head-some s i u z)
+      by (as-setting its z) = by-edition its (settled s i u)
+      by (as-stream its) = matched (eqb k (h + 1)) refl (sym (to-match h k (first-passes s (u .passed 0 (omega arith)))) ∙ (rw (head-at s i) at its))
+
+  -- a later record that matches the first is a stream of its bus
+  matching : (i : ℕ) → Upto s (suc i) → matches (recordAt s 0 .kind) (recordAt s (suc i) .kind) ≡ true → isStreamOf (busIn (before s (suc i))) (recordAt s (suc i) .kind) ≡ true
+  unfolding placeOf
+  matching i u e =
+      ap (λ (r : Record). isStreamOf (busOf (r .kind)) (recordAt s (suc i) .kind)) (head-at s i)
+      ∙ (to-match (recordAt s 0 .kind) (recordAt s (suc i) .kind) (first-passes s (u .passed 0 (omega arith))) ∙ e)
 
   right-if : (i : ℕ) → Upto s i → RightKind s i → fits (before s i) (recordAt s i .kind) ≡ true
   unfolding before recordsOf
@@ -140,25 +161,41 @@ module _ (s : List ℕ) where
       one (inl q) = rw q
       one (inr (inl q)) = rw q
       one (inr (inr q)) = rw q
-  right-if (suc i) u (behind e) = fits-later s i u ∙ rw (eq-eqb (recordAt s (suc i) .kind) (recordAt s 0 .kind + 1) e)
-  right-if (suc i) u (jittered f e) = fits-later s i u ∙ rw (f, e)
+  right-if (suc zero) u (edition f e) = ap (fits (before s 1)) e ∙ edition-first s (u .passed 0 (omega arith)) f
+  right-if (suc i) u (behind e) = stream-fits (before s (suc i)) (recordAt s (suc i) .kind) (matching i u (rw (eq-eqb (recordAt s (suc i) .kind) (recordAt s 0 .kind + 1) e)))
+  right-if (suc i) u (jittered f e) = stream-fits (before s (suc i)) (recordAt s (suc i) .kind) (matching i u (rw (f, e)))
 
-  -- stream j of the streams before record n + 1 is record j + 1
-  earlier-stream : (n j : ℕ) → Upto s (suc n) → j < n → getD (streamsBefore s (suc n)) j nothing ≡ recordAt s (suc j)
-  earlier-stream n j u l =
-      let z : firstStream (before s (suc n)) + j ≡ suc j = omega (arith, ap length (settings-none s n u)) in
-      stream-at s n u j (rw (all-streams s n u) l) ∙ ap (nth s) z
-
-  -- on WorldFIP a record that is right for its position is a variable
-  variable-there : (n : ℕ) → Upto s (suc n) → RightKind s (suc n) → busOf (recordAt s (suc n) .kind) ≡ 5 → recordAt s (suc n) .kind ≡ 6
+  -- on WorldFIP a record that is right for its position is a variable behind a first record of kind 5
+  variable-there : (n : ℕ) → Upto s (suc n) → RightKind s (suc n) → busOf (recordAt s (suc n) .kind) ≡ 5 → (recordAt s 0 .kind ≡ 5) × (recordAt s (suc n) .kind ≡ 6)
   unfolding placeOf
+  variable-there n u (edition f e) b = absurd (omega (arith, ap busOf e, eight-bus))
   variable-there n u (behind e) b = split (first-kinds (recordAt s 0 .kind) (first-passes s (u .passed 0 (omega arith))))
     where
-      split : recordAt s 0 .kind ≡ 1 ⊎ recordAt s 0 .kind ≡ 3 ⊎ recordAt s 0 .kind ≡ 5 → recordAt s (suc n) .kind ≡ 6
+      split : recordAt s 0 .kind ≡ 1 ⊎ recordAt s 0 .kind ≡ 3 ⊎ recordAt s 0 .kind ≡ 5 → (recordAt s 0 .kind ≡ 5) × (recordAt s (suc n) .kind ≡ 6)
       split (inl q) = let k : recordAt s (suc n) .kind ≡ 2 = rw q at e in absurd (omega (arith, ap busOf k, two-bus))
       split (inr (inl q)) = let k : recordAt s (suc n) .kind ≡ 4 = rw q at e in absurd (omega (arith, ap busOf k, four-bus))
-      split (inr (inr q)) = rw q at e
+      split (inr (inr q)) = (q, rw q at e)
   variable-there n u (jittered f e) b = absurd (omega (arith, ap busOf e, seven-bus))
+
+  -- there, stream j of the streams before record n + 1 is record j + 1
+  module _ (n : ℕ) (u : Upto s (suc n)) (five : recordAt s 0 .kind ≡ 5) where
+    no-segment : decode s 0 .kind ≡ 1 → ⊥
+    unfolding placeOf
+    no-segment e = omega (arith, five)
+
+    how-many-variables : length (streamsBefore s (suc n)) ≡ n
+    how-many-variables = all-streams s n u no-segment
+
+    earlier-stream : (j : ℕ) → j < n → getD (streamsBefore s (suc n)) j nothing ≡ recordAt s (suc j)
+    earlier-stream j l =
+        let z : firstStream (before s (suc n)) + j ≡ suc j = omega (arith, ap length (settings-none s n u no-segment)) in
+        stream-at s n u j (rw how-many-variables l) ∙ ap (nth s) z
+
+    stands-not : (x : ℕ) → countOf x (streamsBefore s (suc n)) ≡ 0 → (j : ℕ) → 1 ≤ j → j < suc n → recordAt s j .a ≡ x → ⊥
+    stands-not x z zero l h e = omega arith
+    stands-not x z (suc j) l h e =
+        let k : j < n = omega arith in
+        count-none x (streamsBefore s (suc n)) j z (rw how-many-variables k) (ap (λ (r : Record). r .a) (earlier-stream j k) ∙ e)
 
   met-then : (i : ℕ) → Upto s i → RightKind s i → metBefore (streamsBefore s i) (recordAt s i) ≡ true → MetBefore s i
   unfolding metBefore before sheetOf recordsOf countOf
@@ -166,41 +203,36 @@ module _ (s : List ℕ) where
   met-then (suc n) u r e =
       let x = recordAt s (suc n) .a in
       let b = both-true (eqb (busOf (recordAt s (suc n) .kind)) 5) (ltb 0 (countOf x (streamsBefore s (suc n)))) e in
+      let v = variable-there n u r (eqb-true (busOf (recordAt s (suc n) .kind)) 5 (b .0)) in
       let w = count-some x (streamsBefore s (suc n)) (ltb-true 0 (countOf x (streamsBefore s (suc n))) (b .1)) in
-      let l : w .0 < n = rw (all-streams s n u) at (w .1) in
+      let l : w .0 < n = rw (how-many-variables n u (v .0)) at (w .1) in
       record {
-        variable = variable-there n u r (eqb-true (busOf (recordAt s (suc n) .kind)) 5 (b .0));
+        variable = v .1;
         j = suc (w .0);
         stream = omega arith;
         earlier = omega arith;
-        same = ap (λ (r : Record). r .a) (sym (earlier-stream n (w .0) u l)) ∙ w .2;
+        same = ap (λ (r : Record). r .a) (sym (earlier-stream n u (v .0) (w .0) l)) ∙ w .2;
       }
 
-  stands-not : (n x : ℕ) → Upto s (suc n) → countOf x (streamsBefore s (suc n)) ≡ 0 → (j : ℕ) → 1 ≤ j → j < suc n → recordAt s j .a ≡ x → ⊥
-  stands-not n x u z zero l h e = omega arith
-  stands-not n x u z (suc j) l h e =
-      let k : j < n = omega arith in
-      count-none x (streamsBefore s (suc n)) j z (rw (all-streams s n u) k) (ap (λ (r : Record). r .a) (earlier-stream n j u k) ∙ e)
-
-  met-if : (i : ℕ) → Upto s i → MetBefore s i → metBefore (streamsBefore s i) (recordAt s i) ≡ true
+  met-if : (i : ℕ) → Upto s i → RightKind s i → MetBefore s i → metBefore (streamsBefore s i) (recordAt s i) ≡ true
   unfolding metBefore
-  met-if zero u m = absurd (omega (arith, m .earlier))
-  met-if (suc n) u m = rw (eq-eqb (busOf (recordAt s (suc n) .kind)) 5 (ap busOf (m .variable) ∙ six-bus)) (split (ltb 0 (countOf (recordAt s (suc n) .a) (streamsBefore s (suc n)))) refl)
+  met-if zero u r m = absurd (omega (arith, m .earlier))
+  met-if (suc n) u r m = rw (eq-eqb (busOf (recordAt s (suc n) .kind)) 5 on-bus) (split (ltb 0 (countOf (recordAt s (suc n) .a) (streamsBefore s (suc n)))) refl)
     where
+      on-bus : busOf (recordAt s (suc n) .kind) ≡ 5
+      on-bus = ap busOf (m .variable) ∙ six-bus
+
       split : (b : Bool) → ltb 0 (countOf (recordAt s (suc n) .a) (streamsBefore s (suc n))) ≡ b → b ≡ true
       split true q = refl
       split false q =
-          absurd (stands-not n (recordAt s (suc n) .a) u (omega (arith, ltb-false 0 (countOf (recordAt s (suc n) .a) (streamsBefore s (suc n))) q)) (m .j) (m .stream) (m .earlier) (m .same))
+          absurd (stands-not n u (variable-there n u r on-bus .0) (recordAt s (suc n) .a)
+          (omega (arith, ltb-false 0 (countOf (recordAt s (suc n) .a) (streamsBefore s (suc n))) q)) (m .j) (m .stream) (m .earlier) (m .same))
 
   -- ---- A record
 
   complete-inside : (i : ℕ) → Complete s i → placeOf s i < length s
   unfolding sizeOf
   complete-inside i c = omega (arith, c .ends)
-
-  only : Taken s 0 → (j : ℕ) → j < 1 → Taken s j
-  only a zero l = a
-  only a (suc j) l = absurd (omega arith)
 
   -- taken by the table exactly if it passes, behind records that pass
   taken-then : (i : ℕ) → Upto s i → PassesAt s i → Taken s i
@@ -211,7 +243,7 @@ module _ (s : List ℕ) where
         is-complete = record { ends = p .is-whole };
         is-ranged = ranged-then s i (p .is-known) (p .is-ranged);
         in-limits = limits-then s i (p .in-limits);
-        is-new = λ m. differ (met-if i u m) (p .is-new);
+        is-new = λ m. differ (met-if i u (right-then i u (p .is-right)) m) (p .is-new);
       }
 
   taken-if : (i : ℕ) → Upto s i → Taken s i → PassesAt s i
@@ -262,7 +294,7 @@ module _ (s : List ℕ) where
   applies-for {i} u (one-too-many k r c f l) =
       later (ap not (known-if s i k)) (later (ap not (right-if i u r)) (later (le-ltb _ _ (c .ends)) (later (ap not (ranged-if s i f)) (here (holds (limits-then s i) l)))))
   applies-for {i} u (met-before k r c f l m) =
-      later (ap not (known-if s i k)) (later (ap not (right-if i u r)) (later (le-ltb _ _ (c .ends)) (later (ap not (ranged-if s i f)) (later (limits-if s i l) (here (met-if i u m))))))
+      later (ap not (known-if s i k)) (later (ap not (right-if i u r)) (later (le-ltb _ _ (c .ends)) (later (ap not (ranged-if s i f)) (later (limits-if s i l) (here (met-if i u r m))))))
 
   refused-for : {i n : ℕ} → Upto s i → RefusedWith s i n → judge s i ≡ Refused n (placeOf s i)
   unfolding judge
@@ -285,9 +317,6 @@ module _ (s : List ℕ) where
   pub refused-at : {i n p : ℕ} → Reached s i p → RefusedWith s i n → Upto s i × (judge s i ≡ Refused n p)
   refused-at {i} h r = let u = upto-if i (h .before) in (u, rw (h .starts) (refused-for u r))
 
-  first-alone : (u : Upto s 1) → ended s 1 ≡ Not 6 (length s)
-  first-alone u = ended-no-stream s 1 (head-some s 0 u) (ap length (behind-first s (u .passed 0 (omega arith)) .1))
-
   at-its-end : (i n p : ℕ) → Upto s i → placeOf s i ≡ length s → ended s i ≡ Not n p → Given s n p
   unfolding placeOf
   at-its-end zero n p u l e =
@@ -295,16 +324,18 @@ module _ (s : List ℕ) where
       let en : 1 ≡ n = cc in
       let ep : 0 ≡ p = cc in
       rw (← en, ← ep) (empty (sym l))
-  at-its-end (suc zero) n p u l e =
-      let f : Not 6 (length s) ≡ Not n p = sym (first-alone u) ∙ e in
-      let en : 6 ≡ n = cc in
-      let ep : length s ≡ p = cc in
-      rw (← en, ← ep) (no-stream (record { taken = upto-then 1 u 0 (omega arith); ends = l }))
-  at-its-end (suc (suc i)) n p u l e =
-      let some : length (before s (suc (suc i)) .streams) ≡ 0 → ⊥ = λ z. omega (arith, all-streams s (suc i) u) in
-      let f : Read (before s (suc (suc i))) ≡ Not n p = sym (ended-sheet s (suc (suc i)) (head-some s (suc i) u) some) ∙ e in
-      let z : _≡_ {A = ℕ} 0 1 = cc in
-      absurd (omega arith)
+  at-its-end (suc i) n p u l e = split (ℕ-discrete (length (streamsBefore s (suc i))) 0)
+    where
+      split : Dec (length (streamsBefore s (suc i)) ≡ 0) → Given s n p
+      split (yes z) =
+          let f : Not 6 (length s) ≡ Not n p = sym (ended-no-stream s (suc i) (head-some s i u) z) ∙ e in
+          let en : 6 ≡ n = cc in
+          let ep : length s ≡ p = cc in
+          rw (← en, ← ep) (no-stream (record { i = suc i; first = omega arith; taken = upto-then (suc i) u; ends = l; none = z }))
+      split (no some) =
+          let f : Read (before s (suc i)) ≡ Not n p = sym (ended-sheet s (suc i) (head-some s i u) some) ∙ e in
+          let z : _≡_ {A = ℕ} 0 1 = cc in
+          absurd (omega arith)
 
   -- every number that reading gives, with its place, is one that the table gives
   pub given-then : (n p : ℕ) → reading s ≡ Not n p → Given s n p
@@ -327,9 +358,11 @@ module _ (s : List ℕ) where
   given-if (at-record {i} {n} {p} h r) =
       let a = refused-at h r in
       stops-once s (by-record i n p (a .0) (rw (← h .starts) (h .inside)) (a .1) refl)
-  given-if (no-stream o) =
-      let u = upto-if 1 (only (o .taken)) in
-      stops-once s (at-end 1 u (o .ends) refl) ∙ first-alone u
+  given-if (no-stream o) = last (o .i) (o .first) (upto-if (o .i) (o .taken)) (o .ends) (o .none)
+    where
+      last : (i : ℕ) → 1 ≤ i → Upto s i → placeOf s i ≡ length s → length (streamsBefore s i) ≡ 0 → reading s ≡ Not 6 (length s)
+      last zero lo u l z = absurd (omega arith)
+      last (suc i) lo u l z = stops-once s (at-end (suc i) u l refl) ∙ ended-no-stream s (suc i) (head-some s i u) z
 
   -- ---- Both ways
 
@@ -360,7 +393,7 @@ module _ (s : List ℕ) where
       line (empty e) = inl (e, refl)
       line (at-record {i} h (cut k r c)) = inr (i, h, k, r, c)
 
-  -- 2: a record that reading comes to is of no kind 1..7
+  -- 2: a record that reading comes to is of no kind 1..8
   pub refused-2 : (p : ℕ) → (reading s ≡ Not 2 p) ↔ ((i : ℕ) × Reached s i p × (KnownKind s i → ⊥))
   refused-2 p = (λ e. line (given-then 2 p e), λ w. given-if (at-record (w .1) (unknown (w .2))))
     where
@@ -388,11 +421,11 @@ module _ (s : List ℕ) where
       line : {q : ℕ} → Given s 5 q → (i : ℕ) × Reached s i q × KnownKind s i × RightKind s i × Complete s i × Ranged s i × (InLimits s i → ⊥)
       line (at-record {i} h (one-too-many k r c f l)) = (i, h, k, r, c, f, l)
 
-  -- 6: the first record is taken, and the sheet ends behind it
-  pub refused-6 : (p : ℕ) → (reading s ≡ Not 6 p) ↔ (OnlyFirst s × (p ≡ length s))
+  -- 6: all records are taken, the first among them, none of them is a stream, and the sheet ends behind them
+  pub refused-6 : (p : ℕ) → (reading s ≡ Not 6 p) ↔ (NoStream s × (p ≡ length s))
   refused-6 p = (λ e. line (given-then 6 p e), λ w. given-if (rw (w .1) (no-stream (w .0))))
     where
-      line : {q : ℕ} → Given s 6 q → OnlyFirst s × (q ≡ length s)
+      line : {q : ℕ} → Given s 6 q → NoStream s × (q ≡ length s)
       line (no-stream o) = (o, refl)
 
   -- 7: a variable that reading comes to has nothing wrong by itself, is within the limits, and an earlier one has its identifier

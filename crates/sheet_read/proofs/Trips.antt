@@ -14,7 +14,7 @@ use Rattle.sheet_record.specs.declared.Record.{Record}
 use Rattle.sheet_record.specs.declared.Given.{Given}
 use Rattle.sheet_record.specs.Kinds.{kinds, lineOf, fieldsOf, limit, ranged, busOf, isFirst, isStreamOf, written, sizeOf, decode, encode, inRange, nothing}
 use Rattle.sheet_write.specs.Writing.{greatest}
-use Rattle.sheet_record.proofs.Parts.{first-kinds, first-bus, variables, written-is}
+use Rattle.sheet_record.proofs.Parts.{first-kinds, first-bus, setting-kind, variables, written-is}
 use Rattle.sheet_record.proofs.Ranges.{segment-ranges, ring-ranges, in-range-mono}
 use Rattle.sheet_write.proofs.Trips.{length-encode, decode-encode, encode-decode, whole-if}
 use Rattle.sheet_read.specs.Sheets.{Sheet, headOf, sheetOf, having}
@@ -25,7 +25,8 @@ use Rattle.sheet_read.proofs.Walk.{length-records, record-at, records-f
 use Rattle.sheet_read.proofs.Cases.{PassesAt, Upto, upto-front, stops-once, ended-sheet}
 use Rattle.sheet_read.proofs.Cases.Stops.{at-end}
 use Rattle.sheet_read.proofs.Judged.{size-some}
-use Rattle.sheet_read.proofs.Order.{no-limits, limits-of, fits-first, fits-behind, first-some, head-some, in-order}
+use Rattle.sheet_read.proofs.Order.{no-limits, limits-of, Placed, fits-then, fits-first, first-some, head-some, in-order}
+use Rattle.sheet_read.proofs.Order.Placed.{as-first, as-setting, as-stream}
 use Rattle.sheet_read.proofs.Known.{ReadsTo, reading-whole}
 
 -- ---- Ranges at their greatest
@@ -34,6 +35,10 @@ use Rattle.sheet_read.proofs.Known.{ReadsTo, reading-whole}
 variable-ranged : (g : Given) (r : Record) → r .kind ≡ 6 → inRange g r ≡ true → inRange greatest r ≡ true
 unfolding inRange ranged limit fieldsOf lineOf kinds
 variable-ranged g r e h = rw e (rw e at h)
+
+edition-ranged : (g : Given) (r : Record) → r .kind ≡ 8 → inRange g r ≡ true → inRange greatest r ≡ true
+unfolding inRange ranged limit fieldsOf lineOf kinds
+edition-ranged g r e h = rw e (rw e at h)
 
 pub ranged-for-writer : (h r : Record) → isFirst (h .kind) ≡ true → inRange no-limits h ≡ true → isStreamOf (busOf (h .kind)) (r .kind) ≡ true → inRange (limits-of h) r ≡ true
     → inRange greatest r ≡ true
@@ -99,18 +104,22 @@ module _ (rs : List Record) (right : Right rs) where
   unfolding sheetOf headOf
   ranged-first = first-right .is-ranged
 
-  follows-later : (i : ℕ) → suc i < length rs → (isStreamOf (busOf (at 0 .kind)) (at (suc i) .kind) ≡ true) × (inRange (limits-of (at 0)) (at (suc i)) ≡ true)
-  unfolding at
-  follows-later i l =
-      let f = right .each (suc i) l in
-      let h = head-front rs i in
-      let e = sym (fits-behind (sheetOf (take (suc i) rs)) (at (suc i) .kind) (λ z. first-some (at 0 .kind) stands-first (ap (λ (r : Record). r .kind) (sym h) ∙ z))) ∙ f .is-right in
-      (rw h at e, rw h at (f .is-ranged))
-
   -- every record may be written
   ranged-at : (i : ℕ) → i < length rs → inRange greatest (at i) ≡ true
+  unfolding at
   ranged-at zero l = in-range-mono no-limits greatest (at 0) (record { masters = omega arith; message = omega arith }) ranged-first
-  ranged-at (suc i) l = ranged-for-writer (at 0) (at (suc i)) stands-first ranged-first (follows-later i l .0) (follows-later i l .1)
+  ranged-at (suc i) l = later (fits-then (sheetOf (take (suc i) rs)) (at (suc i) .kind) (right .each (suc i) l .is-right))
+    where
+      h : sheetOf (take (suc i) rs) .head ≡ at 0
+      h = head-front rs i
+
+      ranged-there : inRange (limits-of (at 0)) (at (suc i)) ≡ true
+      ranged-there = rw h at (right .each (suc i) l .is-ranged)
+
+      later : Placed (sheetOf (take (suc i) rs)) (at (suc i) .kind) → inRange greatest (at (suc i)) ≡ true
+      later (as-first e z) = absurd (first-some (at 0 .kind) stands-first (ap (λ (r : Record). r .kind) (sym h) ∙ z))
+      later (as-setting e z) = edition-ranged (limits-of (at 0)) (at (suc i)) (setting-kind (at (suc i) .kind) e) ranged-there
+      later (as-stream e) = ranged-for-writer (at 0) (at (suc i)) stands-first ranged-first (rw h at e) ranged-there
 
   pub writable : (i : ℕ) → i < length rs → (written (getD rs i nothing .kind) ≡ true) × (inRange greatest (getD rs i nothing) ≡ true)
   unfolding at

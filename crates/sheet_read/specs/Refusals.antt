@@ -1,4 +1,4 @@
--- Page 01, 'Numbered refusals' 1..7, in the page's own words, with page 02, Ask 7: when a number is given, and at which place. Numbers 1..7 alone come
+-- Page 01, 'Numbered refusals' 1..7, in the page's own words, with page 02, Asks 7 and 10: when a number is given, and at which place. Numbers 1..7 alone come
 -- from reading; record i is counted from 0, the first record is record 0. Assumes nothing.
 use Prim.Native.Nat.{ℕ, suc, _+_, _≤_, _<_}
 use mathlib.Core.Path.{_≡_}
@@ -22,14 +22,16 @@ recordAt s i = decode s (placeOf s i)
 abbrev pub streamsBefore : List ℕ → ℕ → List Record
 streamsBefore s i = before s i .streams
 
--- its kind is 1..7
+-- its kind is 1..8
 pub record KnownKind (s : List ℕ) (i : ℕ) : Type 0 where
   pub least : 1 ≤ recordAt s i .kind
-  pub most : recordAt s i .kind ≤ 7
+  pub most : recordAt s i .kind ≤ 8
 
--- its kind is right for its position: the first is 1, 3 or 5, all later ones are 2, 4 or 6 to match, and 7 may stand where 2 may
+-- its kind is right for its position: the first is 1, 3 or 5, the next may be 8 behind 1, all later ones are 2, 4 or 6 to match, and 7 may stand
+-- where 2 may
 pub data RightKind (s : List ℕ) : ℕ → Type 0 where
   at-first : recordAt s 0 .kind ≡ 1 ⊎ (recordAt s 0 .kind ≡ 3 ⊎ recordAt s 0 .kind ≡ 5) → RightKind s 0
+  edition : recordAt s 0 .kind ≡ 1 → recordAt s 1 .kind ≡ 8 → RightKind s 1
   behind : {i : ℕ} → recordAt s (suc i) .kind ≡ recordAt s 0 .kind + 1 → RightKind s (suc i)
   jittered : {i : ℕ} → recordAt s 0 .kind ≡ 1 → recordAt s (suc i) .kind ≡ 7 → RightKind s (suc i)
 
@@ -80,10 +82,13 @@ pub record Reached (s : List ℕ) (i p : ℕ) : Type 0 where
   pub inside : p < length s
   pub before : (j : ℕ) → j < i → Taken s j
 
--- reading comes to the end behind the first record
-pub record OnlyFirst (s : List ℕ) : Type 0 where
-  pub taken : Taken s 0
-  pub ends : placeOf s 1 ≡ length s
+-- reading comes to the end behind i records, the first among them, and none of them is a stream
+pub record NoStream (s : List ℕ) : Type 0 where
+  pub i : ℕ
+  pub first : 1 ≤ i
+  pub taken : (j : ℕ) → j < i → Taken s j
+  pub ends : placeOf s i ≡ length s
+  pub none : length (streamsBefore s i) ≡ 0
 
 -- a number and its place are given for a sheet
 pub data Given (s : List ℕ) : ℕ → ℕ → Type 0 where
@@ -92,4 +97,4 @@ pub data Given (s : List ℕ) : ℕ → ℕ → Type 0 where
   -- a record is refused: its first byte
   at-record : {i n p : ℕ} → Reached s i p → RefusedWith s i n → Given s n p
   -- first record and no stream: the sheet's length
-  no-stream : OnlyFirst s → Given s 6 (length s)
+  no-stream : NoStream s → Given s 6 (length s)

@@ -1,18 +1,18 @@
 -- Page 01, 'Numbered refusals': what the parts of the reader answer at a record, a refusal's number or 0 for none, and what it keeps
 -- of the streams behind it: how many each master has and the longest C of them, or the identifiers in sheet order. Then what the parts of a planner go by.
 -- Words of inner contracts alone. Assumes nothing.
-use Prim.Native.Nat.{ℕ, zero, suc, _+_, _<_, max}
+use Prim.Native.Nat.{ℕ, zero, suc, _+_, _≤_, _<_, max}
 use mathlib.Core.Path.{_≡_}
 use mathlib.Core.List.{List, []}
-use mathlib.Core.Bool.{Bool, false, cond, _||_}
+use mathlib.Core.Bool.{Bool, true, false, cond, _||_}
 use lib.ListN.{length, getD, set}
 use lib.Dec.{leb, eqb}
 use Rattle.sheet_record.specs.declared.Record.{Record}
 use Rattle.sheet_record.specs.declared.Met.{Met}
-use Rattle.sheet_record.specs.Kinds.{decode, metOf}
+use Rattle.sheet_record.specs.Kinds.{isSetting, decode, metOf}
 use Rattle.common.specs.Checks.Verdict.{Passed}
-use Rattle.sheet_read.specs.Sheets.{Sheet, busIn, sheetOf}
-use Rattle.sheet_read.specs.Whole.{Outcome, placeOf, firstStream, judge, reading}
+use Rattle.sheet_read.specs.Sheets.{Sheet, busIn, sheetOf, fits}
+use Rattle.sheet_read.specs.Whole.{Outcome, placeOf, before, firstStream, judge, reading}
 use Rattle.sheet_read.specs.Whole.Outcome.{Read, Not}
 
 -- by the record itself: known, right for its position, whole, every field in its range
@@ -47,6 +47,16 @@ pub record Begun (s : List ℕ) (head : Record) (first : ℕ) : Type 0 where
   pub passed : judge s 0 ≡ Passed
   pub is-head : head ≡ decode s 0
   pub is-first : first ≡ placeOf s 1
+
+-- it and the settings behind it passed, c of them; the place behind those is `first`, and no setting that fits stands there
+pub record Opened (s : List ℕ) (head : Record) (first : ℕ) : Type 0 where
+  pub c : ℕ
+  pub inside : (i : ℕ) → i ≤ c → placeOf s i < length s
+  pub passed : (i : ℕ) → i ≤ c → judge s i ≡ Passed
+  pub settings : length (before s (suc c) .settings) ≡ c
+  pub is-head : head ≡ decode s 0
+  pub is-first : first ≡ placeOf s (suc c)
+  pub ends : isSetting (getD s first 0) ≡ true → fits (before s (suc c)) (getD s first 0) ≡ false
 
 -- ---- What a planner goes by
 

@@ -1,4 +1,4 @@
-// Reading a whole sheet, page 01 'Sheet records' and 'Numbered refusals' 1..7, and page 02 'Ask 7'.
+// Reading a whole sheet, page 01 'Sheet records' and 'Numbered refusals' 1..7, and page 02 'Ask 7' and 'Ask 10'.
 use sheet_record::Given;
 use sheet_record::Met;
 use sheet_record::Record;
@@ -6,9 +6,11 @@ ghost use mathlib.Core.Path.{_≡_};
 ghost use mathlib.Core.Bool.{_&&_};
 ghost use mathlib.Core.Logic.{_⊎_};
 ghost use Prim.Native.Nat.{_≤_, max};
+ghost use lib.Dec.{eqb};
+ghost use lib.ListN.{getD};
 ghost use Rattle.sheet_record.specs.Kinds.{pnet, profibus, worldfip, known, isStreamOf, inRange, streamMet};
 ghost use Rattle.sheet_read.specs.Steps;
-ghost use Rattle.sheet_read.specs.Steps.{ownNo, lateNo, countsWith, longestsWith, idsWith, editionAt, Begun};
+ghost use Rattle.sheet_read.specs.Steps.{ownNo, lateNo, countsWith, longestsWith, idsWith, editionAt, Begun, Opened};
 ghost use Rattle.sheet_read.specs.Whole.{told, countsTold, longestsTold, reading};
 
 // No sheet of P-NET or PROFIBUS has more streams.
@@ -156,7 +158,7 @@ fn stream_in_range(bus: u8, given: Given, r: Record) -> bool
     }
 }
 
-// Reads the streams behind a first record that passed, up to the sheet's end or the first refusal.
+// Reads the streams behind a first record and settings that passed, up to the sheet's end or the first refusal.
 fn read_streams(
     s: &[u8],
     head: Record,
@@ -164,7 +166,7 @@ fn read_streams(
     counted: &mut [u8; 33],
     longest: &mut [u32; 33],
 ) -> Reading
-    requires { ⌜ Begun (now s) head first ⌝ }
+    requires { ⌜ Opened (now s) head first ⌝ }
     ensures { λ r. ⌜ r ≡ told (now (s .entry)) (reading (now (s .entry))) ⌝ }
     ensures { λ _. ⌜ now (counted .exit) ≡ countsTold (reading (now (s .entry))) (now (counted .entry)) ⌝ }
     ensures { λ _. ⌜ now (longest .exit) ≡ longestsTold (reading (now (s .entry))) (now (longest .entry)) ⌝ }
@@ -219,6 +221,48 @@ fn read_streams(
     accepted
 }
 
+// Behind a first record of this kind, the record of the edition stands at a place: page 02, Ask 10, allows it behind a P-NET segment.
+fn edition_stands(first: u8, s: &[u8], at: usize) -> bool
+    ensures { λ r. ⌜ r ≡ (eqb first 1 && eqb (getD (now (s .entry)) at 0) 8) ⌝ }
+{
+    if s.len() <= at {
+        return false;
+    }
+    (first == 1) & (s[at] == 8)
+}
+
+// Reads what stands behind a first record that passed: the edition, where it is given, and the streams.
+fn read_behind(
+    s: &[u8],
+    head: Record,
+    first: usize,
+    counts: &mut [u8; 33],
+    longests: &mut [u32; 33],
+) -> Reading
+    requires { ⌜ Begun (now s) head first ⌝ }
+    ensures { λ r. ⌜ r ≡ told (now (s .entry)) (reading (now (s .entry))) ⌝ }
+    ensures { λ _. ⌜ now (counts .exit) ≡ countsTold (reading (now (s .entry))) (now (counts .entry)) ⌝ }
+    ensures { λ _. ⌜ now (longests .exit) ≡ longestsTold (reading (now (s .entry))) (now (longests .entry)) ⌝ }
+{
+    if edition_stands(head.kind, s, first) {
+        let met = sheet_record::record_at(s, first);
+        let given = Given {
+            masters: head.a,
+            message: head.c,
+        };
+        let ranged = sheet_record::in_range(given, met.found);
+        let own = own_no(8, true, met.next != first, ranged);
+        if own != 0 {
+            return Reading::Refused {
+                no: own,
+                place: first,
+            };
+        }
+        return read_streams(s, head, met.next, counts, longests);
+    }
+    read_streams(s, head, first, counts, longests)
+}
+
 // What a whole sheet is: accepted, or refused with a number and a place. One pass reads it and gathers what the planners ask of a master: it
 // hands over, where the sheet is accepted, at place k the number of master k's streams and the longest C of them.
 pub fn read_gathering(s: &[u8], counts: &mut [u8; 33], longests: &mut [u32; 33]) -> Reading
@@ -242,7 +286,7 @@ pub fn read_gathering(s: &[u8], counts: &mut [u8; 33], longests: &mut [u32; 33])
     if own != 0 {
         return Reading::Refused { no: own, place: 0 };
     }
-    read_streams(s, head, met.next, counts, longests)
+    read_behind(s, head, met.next, counts, longests)
 }
 
 // The same for callers that need no cycles.

@@ -2,19 +2,20 @@
 use mathlib.Core.Path.{_≡_, refl}
 use mathlib.Core.Bool.{true, false}
 use mathlib.Core.List.{[], _∷_, map}
+use Prim.Native.Nat.{ℕ}
 use Rattle.sheet_record.specs.declared.Given.{Given}
 use Rattle.sheet_record.specs.declared.Met.{Met}
 use Rattle.sheet_record.specs.declared.Record.{Record}
 use Rattle.sheet_record.specs.Numbers.{be, digits}
 use Rattle.sheet_record.specs.Kinds.{kinds, lineOf, fieldsOf, widths, sizeOf, known, fieldAt, decode, body, encode, whole, nothing, metAt, metOf, limit, within, ranged, inRange}
 
--- the seven kinds: a byte of kind, and a body of 1, 11, 9, 9, 4, 6, 15
-sizes : map sizeOf (1 ∷ 2 ∷ 3 ∷ 4 ∷ 5 ∷ 6 ∷ 7 ∷ []) ≡ 2 ∷ 12 ∷ 10 ∷ 10 ∷ 5 ∷ 7 ∷ 16 ∷ []
+-- the eight kinds: a byte of kind, and a body of 1, 11, 9, 9, 4, 6, 15, 1
+sizes : map sizeOf (1 ∷ 2 ∷ 3 ∷ 4 ∷ 5 ∷ 6 ∷ 7 ∷ 8 ∷ []) ≡ 2 ∷ 12 ∷ 10 ∷ 10 ∷ 5 ∷ 7 ∷ 16 ∷ 2 ∷ []
 unfolding sizeOf widths fieldsOf lineOf kinds
 sizes = refl
 
 -- no other kind is known
-unknown-kinds : map known (0 ∷ 8 ∷ 99 ∷ 255 ∷ []) ≡ false ∷ false ∷ false ∷ false ∷ []
+unknown-kinds : map known (0 ∷ 9 ∷ 99 ∷ 255 ∷ []) ≡ false ∷ false ∷ false ∷ false ∷ []
 unfolding known fieldsOf lineOf kinds
 unknown-kinds = refl
 
@@ -83,3 +84,11 @@ jitter-beyond = refl
 jitter-far-beyond : inRange behind (record { kind = 7; a = 2; b = 203; c = 1000; d = 1; e = 4294967295 }) ≡ false
 unfolding inRange ranged limit within fieldsOf lineOf kinds
 jitter-far-beyond = refl
+
+-- the editions of the P-NET rule are 1 and 2
+abbrev by-edition : ℕ → Record
+by-edition n = record { kind = 8; a = n; b = 0; c = 0; d = 0; e = 0 }
+
+editions : map (λ n. inRange behind (by-edition n)) (0 ∷ 1 ∷ 2 ∷ 3 ∷ 255 ∷ []) ≡ false ∷ true ∷ true ∷ false ∷ false ∷ []
+unfolding inRange ranged limit within fieldsOf lineOf kinds
+editions = refl

@@ -1,4 +1,4 @@
--- Page 01, 'Sheet records', and page 02, Ask 7: a record of a known kind is in range exactly if each of its fields is in the page's range, and 0 where the
+-- Page 01, 'Sheet records', and page 02, Asks 7 and 10: a record of a known kind is in range exactly if each of its fields is in the page's range, and 0 where the
 -- kind has no field, as it always is in a record that is read. Assumes nothing.
 use mathlib.Core.Path.{_≡_, refl}
 use mathlib.Core.Bool.{Bool, true, false, _&&_}
@@ -11,10 +11,10 @@ use lib.ListN.{length, getD}
 use Rattle.sheet_record.specs.declared.Given.{Given}
 use Rattle.sheet_record.specs.declared.Record.{Record}
 use Rattle.sheet_record.specs.Kinds.{Field, kinds, lineOf, fieldsOf, known, fieldAt, decode, numbers, limit, ranged, inRange}
-use Rattle.sheet_record.specs.Ranges.{Range, SegmentRanges, PnetStreamRanges, RingRanges, RingStreamRanges, ExchangeRanges, VariableRanges, JitterStreamRanges, InPage}
-use Rattle.sheet_record.specs.Ranges.InPage.{segment, pnet-stream, ring, ring-stream, exchange, variable, jitter-stream}
+use Rattle.sheet_record.specs.Ranges.{Range, SegmentRanges, PnetStreamRanges, RingRanges, RingStreamRanges, ExchangeRanges, VariableRanges, JitterStreamRanges, EditionRanges, InPage}
+use Rattle.sheet_record.specs.Ranges.InPage.{segment, pnet-stream, ring, ring-stream, exchange, variable, jitter-stream, edition}
 use Rattle.sheet_record.proofs.Parts.{by-kind}
-use Rattle.sheet_record.proofs.Ranges.{range-within, segment-ranges, pnet-stream-ranges, ring-ranges, ring-stream-ranges, exchange-ranges, variable-ranges, jitter-stream-ranges}
+use Rattle.sheet_record.proofs.Ranges.{range-within, segment-ranges, pnet-stream-ranges, ring-ranges, ring-stream-ranges, exchange-ranges, variable-ranges, jitter-stream-ranges, edition-ranges}
 
 -- ---- Kind by kind
 
@@ -67,6 +67,12 @@ module _ (g : Given) (r : Record) where
       rw k (together (range-within 1 (r .a) (g .masters) (w .master)) (range-within 1 (r .b) 1548 (w .cycle)) (range-within 1 (r .c) 1000000000 (w .spacing))
       (range-within 1 (r .d) (r .c - r .e) d) (range-within 0 (r .e) (r .c - 1) (w .jitter)))
 
+  pub edition-in-range : r .kind ≡ 8 → EditionRanges r → inRange g r ≡ true
+  unfolding inRange ranged limit fieldsOf lineOf kinds
+  edition-in-range k w =
+      rw k (together (range-within 1 (r .a) 2 (w .edition)) (eq-eqb (r .b) 0 (w .no-b)) (eq-eqb (r .c) 0 (w .no-c))
+      (eq-eqb (r .d) 0 (w .no-d)) (eq-eqb (r .e) 0 (w .no-e)))
+
 -- ---- All kinds
 
 -- in the page's ranges, and so in range
@@ -78,6 +84,7 @@ in-page-in-range g r (ring-stream k w) = ring-stream-in-range g r k w
 in-page-in-range g r (exchange k w) = exchange-in-range g r k w
 in-page-in-range g r (variable k w) = variable-in-range g r k w
 in-page-in-range g r (jitter-stream k w) = jitter-stream-in-range g r k w
+in-page-in-range g r (edition k w) = edition-in-range g r k w
 
 -- a record of a known kind is in range exactly if each of its fields is in the page's range
 pub in-range-exactly : (g : Given) (r : Record) → known (r .kind) ≡ true → (inRange g r ≡ true) ↔ InPage g r
@@ -98,6 +105,7 @@ in-range-exactly g r is-known = (λ e. of-page e (r .kind) is-known refl, in-pag
         (λ o k. exchange k (exchange-ranges g r e k))
         (λ o k. variable k (variable-ranges g r e k))
         (λ o k. jitter-stream k (jitter-stream-ranges g r e k))
+        (λ o k. edition k (edition-ranges g r e k))
         (λ n. no)
 
 -- ---- Fields that a kind does not have

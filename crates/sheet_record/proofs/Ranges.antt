@@ -1,4 +1,4 @@
--- Page 01, 'Sheet records', and page 02, Ask 7: a record in range has its fields in the page's ranges, kind by kind. Assumes nothing.
+-- Page 01, 'Sheet records', and page 02, Asks 7 and 10: a record in range has its fields in the page's ranges, kind by kind. Assumes nothing.
 use mathlib.Core.Path.{_≡_, refl, ap}
 use mathlib.Core.Bool.{Bool, true, false, _&&_}
 use mathlib.Core.List.{List, [], _∷_}
@@ -12,7 +12,7 @@ use Rattle.sheet_record.specs.declared.Given.{Given}
 use Rattle.sheet_record.specs.declared.Record.{Record}
 use Rattle.sheet_record.specs.Kinds.{Field, Limit, kinds, lineOf, fieldsOf, isStreamOf, limit, within, ranged, inRange, numbers}
 use Rattle.sheet_record.specs.Kinds.Limit.{is, masters, message, own, under, less}
-use Rattle.sheet_record.specs.Ranges.{Range, SegmentRanges, PnetStreamRanges, RingRanges, RingStreamRanges, ExchangeRanges, VariableRanges, JitterStreamRanges}
+use Rattle.sheet_record.specs.Ranges.{Range, SegmentRanges, PnetStreamRanges, RingRanges, RingStreamRanges, ExchangeRanges, VariableRanges, JitterStreamRanges, EditionRanges}
 use Rattle.sheet_record.proofs.Tables.{both-true}
 use Rattle.sheet_record.proofs.Parts.{pnet-stream-kinds}
 
@@ -170,6 +170,18 @@ module _ (g : Given) (r : Record) (e : inRange g r ≡ true) where
         spacing = within-range 1 (r .c) 1000000000 (t .for-c);
         deadline = record { least = d .least; most = omega (arith, d .most) };
         jitter = within-range 0 (r .e) (r .c - 1) (t .for-e);
+      }
+
+  pub edition-ranges : r .kind ≡ 8 → EditionRanges r
+  unfolding inRange ranged limit fieldsOf lineOf kinds
+  edition-ranges k =
+      let t = tests _ _ _ _ _ (rw k at e) in
+      record {
+        edition = within-range 1 (r .a) 2 (t .for-a);
+        no-b = eqb-true (r .b) 0 (t .for-b);
+        no-c = eqb-true (r .c) 0 (t .for-c);
+        no-d = eqb-true (r .d) 0 (t .for-d);
+        no-e = eqb-true (r .e) 0 (t .for-e);
       }
 
   -- a P-NET stream of either kind has the ranges of one with jitter: without it J is 0

@@ -1,4 +1,4 @@
--- Page 01, 'Sheet records', and page 02, Ask 7: the kinds, a line each, and what a record of a kind is. Assumes nothing.
+-- Page 01, 'Sheet records', and page 02, Asks 7 and 10: the kinds, a line each, and what a record of a kind is. Assumes nothing.
 use Prim.Native.Nat.{ℕ, zero, suc, _+_, _-_}
 use mathlib.Core.List.{List, [], _∷_, _++_}
 use mathlib.Core.Bool.{Bool, true, false, cond, _&&_}
@@ -102,6 +102,8 @@ kinds =
     -- 7, P-NET stream with release jitter: kind 2, D up to T - J, and J up to T - 1
     ∷ line pnet stream true "pnet-jitter-stream"
     (field 1 1 masters no-unit ∷ field 2 1 (is 1548) bp ∷ field 4 1 (is 1000000000) bp ∷ field 4 1 (less 2 4) bp ∷ field 4 0 (under 2) bp ∷ [])
+    -- 8, edition of the P-NET rule, just behind the segment
+    ∷ line pnet (setting pnet once) true "pnet-edition" (field 1 1 (is 2) no-unit ∷ [])
     ∷ []
 
 -- ---- What follows from a kind's line

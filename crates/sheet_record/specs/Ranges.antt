@@ -1,4 +1,4 @@
--- Page 01, 'Sheet records', and page 02, Ask 7: the range of every field, kind by kind, in the order of the page's table. Assumes nothing.
+-- Page 01, 'Sheet records', and page 02, Asks 7 and 10: the range of every field, kind by kind, in the order of the page's table. Assumes nothing.
 use Prim.Native.Nat.{ℕ, _-_, _≤_}
 use mathlib.Core.Path.{_≡_}
 use Rattle.sheet_record.specs.declared.Given.{Given}
@@ -67,6 +67,14 @@ pub record JitterStreamRanges (g : Given) (r : Record) : Type 0 where
   pub deadline : Range 1 (r .d) (r .c - r .e)
   pub jitter : Range 0 (r .e) (r .c - 1)
 
+-- 8, edition of the P-NET rule: 1 or 2
+pub record EditionRanges (r : Record) : Type 0 where
+  pub edition : Range 1 (r .a) 2
+  pub no-b : r .b ≡ 0
+  pub no-c : r .c ≡ 0
+  pub no-d : r .d ≡ 0
+  pub no-e : r .e ≡ 0
+
 -- ---- A record of any kind
 
 -- a record of a kind of the page, every field in its range; N or n, and M, are what is given
@@ -78,3 +86,4 @@ pub data InPage (g : Given) (r : Record) : Type 0 where
   exchange : r .kind ≡ 5 → ExchangeRanges r → InPage g r
   variable : r .kind ≡ 6 → VariableRanges r → InPage g r
   jitter-stream : r .kind ≡ 7 → JitterStreamRanges g r → InPage g r
+  edition : r .kind ≡ 8 → EditionRanges r → InPage g r

@@ -1,4 +1,4 @@
-// The record format of a sheet, page 01 'Sheet records' and page 02 'Ask 7': reading one record.
+// The record format of a sheet, page 01 'Sheet records' and page 02 'Ask 7' and 'Ask 10': reading one record.
 ghost use mathlib.Core.Bool.{_&&_};
 ghost use mathlib.Core.Path.{_≡_};
 ghost use Prim.Native.Nat.{_+_, _-_, _≤_, _<_, _^_};
@@ -49,7 +49,7 @@ fn number(s: &[u8], at: usize, w: usize) -> u32
 pub fn known(kind: u8) -> bool
     ensures { λ r. ⌜ r ≡ Kinds.known kind ⌝ }
 {
-    (1 <= kind) & (kind <= 7)
+    (1 <= kind) & (kind <= 8)
 }
 
 // The bus of a kind, by the kind of its first record; 0 where the kind is not known.
@@ -64,6 +64,7 @@ pub fn bus_of(kind: u8) -> u8
         5 => 5,
         6 => 5,
         7 => 1,
+        8 => 1,
         _ => 0,
     }
 }
@@ -138,6 +139,7 @@ pub fn record_of(s: &[u8], at: usize, kind: u8) -> Met
         5 => whole_at(s, at, 4, 0, 0, 0, 0),
         6 => whole_at(s, at, 2, 4, 0, 0, 0),
         7 => whole_at(s, at, 1, 2, 4, 4, 4),
+        8 => whole_at(s, at, 1, 0, 0, 0, 0),
         _ => nothing_at(at),
     }
 }
@@ -167,8 +169,8 @@ fn jitter_width(kind: u8) -> usize
 }
 
 // The P-NET stream at a place and the place just after it; nothing, and the place itself, where none stands whole. All that a planner meets of
-// a sheet behind its first record comes from one function, that of its bus; the kinds stand there as constants, so that no more than their
-// lines of `record_of` are left in the planner's loop.
+// a sheet's streams comes from one function, that of its bus. One row of widths serves both kinds: with a line of `record_of` for each, the
+// function was too long to be taken into the planner's loop.
 pub fn pnet_stream_at(s: &[u8], at: usize) -> Met
     ensures { λ r. ⌜ r ≡ streamMet (now (s .entry)) at pnet ⌝ }
 {
@@ -264,6 +266,7 @@ pub fn in_range_of(kind: u8, given: Given, r: Record) -> bool
             & (1 <= c)
             & (c <= 1000000000)
             & fits_behind(c, d, e),
+        8 => (1 <= a) & (a <= 2) & (b == 0) & (c == 0) & (d == 0) & (e == 0),
         _ => (a == 0) & (b == 0) & (c == 0) & (d == 0) & (e == 0),
     }
 }

@@ -13,7 +13,7 @@ writes : putBytes (9 ∷ 9 ∷ 9 ∷ 9 ∷ []) 1 (record { kind = 1; a = 4; b = 
 unfolding putBytes verdict writeChecks needed written sizeOf widths encode body digits inRange ranged limit within fieldsOf lineOf kinds
 writes = refl
 
-kind-first : putAnswer 0 7 (record { kind = 8; a = 0; b = 1; c = 0; d = 0; e = 0 }) ≡ Refused 2 7
+kind-first : putAnswer 0 7 (record { kind = 9; a = 0; b = 1; c = 0; d = 0; e = 0 }) ≡ Refused 2 7
 unfolding putAnswer verdict writeChecks needed written sizeOf widths inRange ranged limit within fieldsOf lineOf kinds
 kind-first = refl
 

@@ -1,4 +1,4 @@
-// Writing one record of a sheet, page 01 'Sheet records' and page 02 'Ask 7'.
+// Writing one record of a sheet, page 01 'Sheet records' and page 02 'Ask 7' and 'Ask 10'.
 use sheet_record::Given;
 use sheet_record::Record;
 use sheet_record::in_range;
@@ -118,8 +118,9 @@ pub fn put_free(buf: &mut [u8], at: usize, r: Record) -> Put
         4 => put_whole(buf, at, r, 1, 4, 4, 0, 0),
         5 => put_whole(buf, at, r, 4, 0, 0, 0, 0),
         6 => put_whole(buf, at, r, 2, 4, 0, 0, 0),
-        // 7, the kind that is left
-        _ => put_whole(buf, at, r, 1, 2, 4, 4, 4),
+        7 => put_whole(buf, at, r, 1, 2, 4, 4, 4),
+        // 8, the kind that is left
+        _ => put_whole(buf, at, r, 1, 0, 0, 0, 0),
     }
 }
 

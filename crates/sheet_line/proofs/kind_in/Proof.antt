@@ -30,6 +30,12 @@ not-5 : (c : tie.Else5)
     ≡ false
 not-5 c = sym (c .before .begins5 .ensures) ∙ c .if5 .left
 
+not-6 : (c : tie.Else6)
+    → begins (word "pnet-jitter-stream,")
+    (now (c .before .before .before .before .before .before .before .before .before .before .before .before .before .before .before .before .before .before .before .args .line))
+    ≡ false
+not-6 c = sym (c .before .begins6 .ensures) ∙ c .if6 .left
+
 -- ---- The needs
 
 slice-aggregate-begins : tie.Need-slice-aggregate-begins
@@ -104,18 +110,35 @@ returns-6 c =
     let at-1 = at-2 .before .before .before in
     rw (kind-tests _, not-1 at-1, not-2 at-2, not-3 at-3, not-4 at-4, not-5 at-5, sym (c .before .begins6 .ensures) ∙ c .if6 .taken) refl
 
+slice-aggregate-begins-7 : tie.Need-slice-aggregate-begins-7
+slice-aggregate-begins-7 c = search needs
+
+begins-requires-7 : tie.Need-begins-requires-7
+begins-requires-7 c κs = search needs
+
 returns-7 : tie.Need-returns-7
 returns-7 c =
-    let at-5 = c .before .before .before in
+    let at-6 = c .before .before .before in
+    let at-5 = at-6 .before .before .before in
     let at-4 = at-5 .before .before .before in
     let at-3 = at-4 .before .before .before in
     let at-2 = at-3 .before .before .before in
     let at-1 = at-2 .before .before .before in
-    rw (kind-tests _, not-1 at-1, not-2 at-2, not-3 at-3, not-4 at-4, not-5 at-5, sym (c .before .begins6 .ensures) ∙ c .if6 .left) refl
+    rw (kind-tests _, not-1 at-1, not-2 at-2, not-3 at-3, not-4 at-4, not-5 at-5, not-6 at-6, sym (c .before .begins7 .ensures) ∙ c .if7 .taken) refl
+
+returns-8 : tie.Need-returns-8
+returns-8 c =
+    let at-6 = c .before .before .before in
+    let at-5 = at-6 .before .before .before in
+    let at-4 = at-5 .before .before .before in
+    let at-3 = at-4 .before .before .before in
+    let at-2 = at-3 .before .before .before in
+    let at-1 = at-2 .before .before .before in
+    rw (kind-tests _, not-1 at-1, not-2 at-2, not-3 at-3, not-4 at-4, not-5 at-5, not-6 at-6, sym (c .before .begins7 .ensures) ∙ c .if7 .left) refl
 
 pub kind-in-spec : {M : Type 1} → statement M
 kind-in-spec =
     tie.close
     (tie.spec slice-aggregate-begins begins-requires returns slice-aggregate-begins-2 begins-requires-2 returns-2 slice-aggregate-begins-3 begins-requires-3
     returns-3 slice-aggregate-begins-4 begins-requires-4 returns-4 slice-aggregate-begins-5 begins-requires-5 returns-5 slice-aggregate-begins-6 begins-requires-6
-    returns-6 returns-7)
+    returns-6 slice-aggregate-begins-7 begins-requires-7 returns-7 returns-8)

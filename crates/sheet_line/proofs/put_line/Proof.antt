@@ -1,6 +1,6 @@
 -- `sheet_line::put_line` stores the line of a record, by its kind. Assumes nothing.
 use borrow.Author.Needs.{needs}
-use Rattle.sheet_line.proofs.Lines.{left-out, segment-pieces, stream-pieces, ring-stream-pieces, exchange-pieces, variable-pieces, jitter-stream-pieces, no-line}
+use Rattle.sheet_line.proofs.Lines.{left-out, segment-pieces, stream-pieces, ring-stream-pieces, exchange-pieces, variable-pieces, jitter-stream-pieces, edition-pieces, no-line}
 use Rattle.sheet_line.proofs.put_line.Statement.{statement}
 use Rattle.sheet_line.proofs.put_line.Tie as tie
 
@@ -61,6 +61,15 @@ slice-aggregate-put-cells-10 c = search needs
 put-cells-requires-5 : tie.Need-put-cells-requires-5
 put-cells-requires-5 c κs = search needs
 
+slice-aggregate-put-cells-11 : tie.Need-slice-aggregate-put-cells-11
+slice-aggregate-put-cells-11 c = search needs
+
+slice-aggregate-put-cells-12 : tie.Need-slice-aggregate-put-cells-12
+slice-aggregate-put-cells-12 c = search needs
+
+put-cells-requires-6 : tie.Need-put-cells-requires-6
+put-cells-requires-6 c κs = search needs
+
 slice-aggregate-put-word : tie.Need-slice-aggregate-put-word
 slice-aggregate-put-word c = search needs
 
@@ -120,6 +129,14 @@ same-length-7 c = search needs
 
 returns-7 : tie.Need-returns-7
 returns-7 c =
+    let m = c .before .before .before .before .before .before in
+    rw (edition-pieces (m .before .before .args .r) (m .match .keys7)) (c .before .before .put-cells6 .ensures)
+
+same-length-8 : tie.Need-same-length-8
+same-length-8 c = search needs
+
+returns-8 : tie.Need-returns-8
+returns-8 c =
     let m = c .before .before .before .before .before in
     rw (no-line (m .before .before .args .r) (left-out _ (m .match .rest))) (c .before .before .put-word .ensures)
 
@@ -129,5 +146,5 @@ put-line-spec =
     (tie.spec slice-aggregate-put-cells slice-aggregate-put-cells-2 put-cells-requires slice-aggregate-put-cells-3 slice-aggregate-put-cells-4 put-cells-requires-2
     slice-aggregate-put-cells-5 slice-aggregate-put-cells-6 put-cells-requires-3 slice-aggregate-put-counted cast-put-counted slice-aggregate-put-counted-2
     put-counted-requires slice-aggregate-put-cells-7 slice-aggregate-put-cells-8 put-cells-requires-4 slice-aggregate-put-cells-9 slice-aggregate-put-cells-10
-    put-cells-requires-5 slice-aggregate-put-word put-word-requires same-length returns same-length-2 returns-2 same-length-3 returns-3 same-length-4 returns-4
-    same-length-5 returns-5 same-length-6 returns-6 same-length-7 returns-7)
+    put-cells-requires-5 slice-aggregate-put-cells-11 slice-aggregate-put-cells-12 put-cells-requires-6 slice-aggregate-put-word put-word-requires same-length returns same-length-2 returns-2 same-length-3 returns-3 same-length-4 returns-4
+    same-length-5 returns-5 same-length-6 returns-6 same-length-7 returns-7 same-length-8 returns-8)

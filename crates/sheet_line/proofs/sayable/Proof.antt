@@ -54,7 +54,11 @@ returns-6 c =
     rw (judged-by 7 r (c .match .keys6), below-next (r .a) 255, below-next (r .b) 65535, x, y, z) (simp (and-assoc, and-true))
 
 returns-7 : tie.Need-returns-7
-returns-7 c = sym (not-sayable (c .before .args .r) (left-out _ (c .match .rest)))
+unfolding hasWord wordOf inBytes fieldsOf lineOf kinds
+returns-7 c = let r = c .before .args .r in rw (judged-by 8 r (c .match .keys7), below-next (r .a) 255) (simp (and-assoc, and-true))
+
+returns-8 : tie.Need-returns-8
+returns-8 c = sym (not-sayable (c .before .args .r) (left-out _ (c .match .rest)))
 
 pub sayable-spec : {M : Type 1} → statement M
-sayable-spec = tie.close (tie.spec returns returns-2 returns-3 returns-4 returns-5 returns-6 returns-7)
+sayable-spec = tie.close (tie.spec returns returns-2 returns-3 returns-4 returns-5 returns-6 returns-7 returns-8)

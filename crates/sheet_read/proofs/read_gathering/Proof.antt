@@ -1,4 +1,4 @@
--- `sheet_read::read_gathering` meets its contract: the first record by itself, and the streams by `read_streams`. Assumes nothing.
+-- `sheet_read::read_gathering` meets its contract: the first record by itself, and what stands behind it by `read_behind`. Assumes nothing.
 use native.Mathlib.Omega.{arith}
 use borrow.Author.Needs.{needs}
 use Rattle.sheet_read.proofs.Behind.{told-empty, refused-keeps, MeetsFirst, refused-first, begun-first}
@@ -45,8 +45,8 @@ returns-2 c =
     let e = refused-first (meets (c .before)) (c .if2 .taken) in
     (e, refused-keeps (a .s .now) _ _ _ (a .counts .now) (a .longests .now) e)
 
-read-streams-requires : tie.Need-read-streams-requires
-read-streams-requires c κs = begun-first (meets (c .before .before .before)) (c .before .before .if2 .left)
+read-behind-requires : tie.Need-read-behind-requires
+read-behind-requires c κs = begun-first (meets (c .before .before .before)) (c .before .before .if2 .left)
 
 returns-3 : tie.Need-returns-3
 returns-3 c = search needs
@@ -62,5 +62,5 @@ read-gathering-spec =
     in-range-requires
     own-no-requires
     returns-2
-    read-streams-requires
+    read-behind-requires
     returns-3)

@@ -35,9 +35,13 @@ unfolding busOf lineOf kinds
 returns-7 c = rw (c .match .keys7)
 
 returns-8 : tie.Need-returns-8
+unfolding busOf lineOf kinds
+returns-8 c = rw (c .match .keys8)
+
+returns-9 : tie.Need-returns-9
 unfolding NoneOf
-returns-8 c = sym (no-bus (c .before .args .kind) (none-of 7 (c .before .args .kind) (c .match .rest)))
+returns-9 c = sym (no-bus (c .before .args .kind) (none-of 8 (c .before .args .kind) (c .match .rest)))
 
 pub bus-of-spec : {M : Type 1} → statement M
 bus-of-spec =
-    tie.close (tie.spec returns returns-2 returns-3 returns-4 returns-5 returns-6 returns-7 returns-8)
+    tie.close (tie.spec returns returns-2 returns-3 returns-4 returns-5 returns-6 returns-7 returns-8 returns-9)

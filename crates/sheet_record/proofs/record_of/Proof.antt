@@ -69,6 +69,10 @@ whole-at-requires-7 : tie.Need-whole-at-requires-7
 unfolding widthAt fieldsOf lineOf kinds known
 whole-at-requires-7 c κs = (search needs, rw (stands (c .before), c .match .keys7) (wide 7 refl))
 
+whole-at-requires-8 : tie.Need-whole-at-requires-8
+unfolding widthAt fieldsOf lineOf kinds known
+whole-at-requires-8 c κs = (search needs, rw (stands (c .before), c .match .keys8) (wide 8 refl))
+
 nothing-at-requires-3 : tie.Need-nothing-at-requires-3
 nothing-at-requires-3 c κs = search needs
 
@@ -94,12 +98,15 @@ returns-9 : tie.Need-returns-9
 returns-9 c = as-asked (c .before .before) (c .whole-at7 .ensures)
 
 returns-10 : tie.Need-returns-10
+returns-10 c = as-asked (c .before .before) (c .whole-at8 .ensures)
+
+returns-11 : tie.Need-returns-11
 unfolding NoneOf
-returns-10 c =
+returns-11 c =
     let a = c .before .before .before .before .before .before .args in
     let k = getD (a .s .now) (a .at) 0 in
     let e = stands (c .before .before) in
-    let none = met-unknown (a .s .now) (a .at) (rw e (unknown (a .kind) (none-of 7 (a .kind) (c .before .match .rest)))) in
+    let none = met-unknown (a .s .now) (a .at) (rw e (unknown (a .kind) (none-of 8 (a .kind) (c .before .match .rest)))) in
     c .nothing-at3 .ensures ∙ met-none (a .s .now) (a .at) (a .kind) none
 
 pub record-of-spec : {M : Type 1} → statement M
@@ -118,6 +125,7 @@ record-of-spec =
     whole-at-requires-5
     whole-at-requires-6
     whole-at-requires-7
+    whole-at-requires-8
     nothing-at-requires-3
     returns-3
     returns-4
@@ -126,4 +134,5 @@ record-of-spec =
     returns-7
     returns-8
     returns-9
-    returns-10)
+    returns-10
+    returns-11)

@@ -50,12 +50,16 @@ unfolding widthAt fieldsOf lineOf kinds known
 put-whole-requires-6 c κs = (put-kind (c .before .before), rw (c .before .match .keys6) (wide 6 refl))
 
 put-whole-requires-7 : tie.Need-put-whole-requires-7
+unfolding widthAt fieldsOf lineOf kinds known
+put-whole-requires-7 c κs = (put-kind (c .before .before), rw (c .before .match .keys7) (wide 7 refl))
+
+put-whole-requires-8 : tie.Need-put-whole-requires-8
 unfolding widthAt fieldsOf lineOf kinds known NoneOf
-put-whole-requires-7 c κs =
+put-whole-requires-8 c κs =
     let k = c .before .before .before .before .before .args .r .kind in
     let b = known-bounds k (written-known k (put-kind (c .before .before))) in
-    let e : k ≡ 7 = le-antisymm (b .1) (omega (arith, past-all 6 k (c .before .match .rest) (b .0))) in
-    (put-kind (c .before .before), rw e (wide 7 refl))
+    let e : k ≡ 8 = le-antisymm (b .1) (omega (arith, past-all 7 k (c .before .match .rest) (b .0))) in
+    (put-kind (c .before .before), rw e (wide 8 refl))
 
 same-length : tie.Need-same-length
 same-length c = c .before .before .put-whole .kept .0
@@ -99,6 +103,12 @@ same-length-7 c = c .before .before .put-whole7 .kept .0
 returns-8 : tie.Need-returns-8
 returns-8 c = c .before .before .put-whole7 .ensures
 
+same-length-8 : tie.Need-same-length-8
+same-length-8 c = c .before .before .put-whole8 .kept .0
+
+returns-9 : tie.Need-returns-9
+returns-9 c = c .before .before .put-whole8 .ensures
+
 pub put-free-spec : {M : Type 1} → statement M
 put-free-spec =
     tie.close
@@ -112,6 +122,7 @@ put-free-spec =
     put-whole-requires-5
     put-whole-requires-6
     put-whole-requires-7
+    put-whole-requires-8
     same-length
     returns-2
     same-length-2
@@ -125,4 +136,6 @@ put-free-spec =
     same-length-6
     returns-7
     same-length-7
-    returns-8)
+    returns-8
+    same-length-8
+    returns-9)
