@@ -41,21 +41,21 @@ module _ (h g : ℕ → ℕ) (S : Segment) (less : (y : ℕ) → 1 ≤ y → y �
 -- ---- Edition 1 is page 01's rule
 
 module _ (S : Segment) (first : S .edition ≡ 2 → ⊥) (k : ℕ) where
-  pub bound-first : bound S k ≡ boundBy (hold S) S k
+  pub bound-by-hold : bound S k ≡ boundBy (hold S) S k
   unfolding bound
-  bound-first = rw (charged-first S first)
+  bound-by-hold = rw (charged-first S first)
 
-  pub right-first : right S k ≡ rightBy (hold S) (askedBy (hold S) S) S k
+  pub right-by-hold : right S k ≡ rightBy (hold S) (askedBy (hold S) S) S k
   unfolding right
-  right-first = ap (λ (h : ℕ → ℕ). rightBy h (askedBy h S) S k) (charged-first S first)
+  right-by-hold = ap (λ (h : ℕ → ℕ). rightBy h (askedBy h S) S k) (charged-first S first)
 
-  pub rounds-first-edition : rounds S k ≡ roundsOf (rightBy (hold S) (askedBy (hold S) S) S k) (mostRounds S k)
+  pub rounds-by-hold : rounds S k ≡ roundsOf (rightBy (hold S) (askedBy (hold S) S) S k) (mostRounds S k)
   unfolding rounds
-  rounds-first-edition = rw right-first
+  rounds-by-hold = rw right-by-hold
 
-  pub refined-first : refined S k ≡ valueOf (rightBy (hold S) (askedBy (hold S) S) S k) (rounds S k)
+  pub refined-by-hold : refined S k ≡ valueOf (rightBy (hold S) (askedBy (hold S) S) S k) (roundsOf (rightBy (hold S) (askedBy (hold S) S) S k) (mostRounds S k))
   unfolding refined
-  refined-first = rw right-first
+  refined-by-hold = rw (rounds-by-hold, right-by-hold)
 
 -- ---- Edition 2 is never kinder
 

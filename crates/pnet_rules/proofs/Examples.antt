@@ -61,20 +61,21 @@ rounded-once = (refl, refl)
 
 -- ---- Page 02, Ask 10
 
--- a segment of N masters by the setting of an edition
+-- the record of an edition
 abbrev edition : ℕ → Record
 edition e = record { kind = 8; a = e; b = 0; c = 0; d = 0; e = 0 }
 
+-- two masters, the second of them silent
 abbrev lone : ℕ → Segment
 unfolding segmentOf
 lone e = segmentOf (record { head = record { kind = 1; a = 2; b = 0; c = 0; d = 0; e = 0 }; settings = edition e ∷ []; streams = stream 1 100000 ∷ [] })
 
--- master 2 is silent: it is charged 250 too, and saves 240 of them
+-- master 2 is charged 250 too, and 240 of them are saved there
 charged-alike : (bound (lone 2) 1 ≡ 500) × (bound (lone 2) 2 ≡ 0) × (refined (lone 2) 1 ≡ 260) × (refined (lone 2) 2 ≡ 0) × (rounds (lone 2) 1 ≡ 1) × (rounds (lone 2) 2 ≡ 0)
 unfolding segmentOf streamAt owns count longest hold largest charged turnBy boundBy turn bound upto greatest up firstOf saving rightBy valueOf stands roundsOf mostRounds askedBy right rounds refined
 charged-alike = (refl, refl, refl, refl, refl, refl)
 
--- under edition 1 it is charged 10, and saves nothing
+-- under edition 1 it is charged 10, and nothing is saved
 charged-apart : (bound (lone 1) 1 ≡ 260) × (refined (lone 1) 1 ≡ 260) × (rounds (lone 1) 1 ≡ 1)
 unfolding segmentOf streamAt owns count longest hold largest charged turnBy boundBy turn bound upto greatest up firstOf saving rightBy valueOf stands roundsOf mostRounds askedBy right rounds refined
 charged-apart = (refl, refl, refl)

@@ -1,20 +1,21 @@
 -- `pnet_turn::hold_of` meets its contract. Assumes nothing.
-use mathlib.Core.Path.{ap, _∙_}
+use native.Mathlib.Omega.{arith}
+use borrow.Author.Tests.{eq-eqb, ne-eqb}
 use borrow.Author.Needs.{needs}
-use Rattle.units.specs.Units.{capped}
-use Rattle.pnet_turn.specs.Turn.{holdOf}
+use Rattle.pnet_rules.specs.Segment.{charge}
 use Rattle.pnet_turn.proofs.hold_of.Statement.{statement}
 use Rattle.pnet_turn.proofs.hold_of.Tie as tie
 
-charge-of-requires : tie.Need-charge-of-requires
-charge-of-requires c κs = search needs
-
-narrow-requires : tie.Need-narrow-requires
-narrow-requires c κs = search needs
+add-result : tie.Need-add-result
+add-result c = search needs
 
 returns : tie.Need-returns
-unfolding holdOf
-returns c = c .narrow .ensures ∙ ap capped (c .before .charge-of .ensures .0)
+unfolding charge
+returns c = (rw (eq-eqb (c .before .args .count) 0 (c .if1 .taken)), omega arith)
+
+returns-2 : tie.Need-returns-2
+unfolding charge
+returns-2 c = (rw (ne-eqb (c .before .args .count) 0 (c .if1 .left)), search needs)
 
 pub hold-of-spec : {M : Type 1} → statement M
-hold-of-spec = tie.close (tie.spec charge-of-requires narrow-requires returns)
+hold-of-spec = tie.close (tie.spec add-result returns returns-2)
