@@ -2,7 +2,7 @@
 use mathlib.Core.Path.{_≡_, refl, sym, ap, _∙_, subst}
 use mathlib.Core.Bool.{Bool, true, false, not, _||_}
 use mathlib.Core.List.{List}
-use Prim.Native.Nat.{ℕ, _+_, _-_, _*_, _≤_, _<_, min}
+use Prim.Native.Nat.{ℕ, _+_, _-_, _*_, _≤_, _<_}
 use native.Mathlib.Omega.{arith}
 use borrow.Author.Tests.{ltb-false, le-ltb, le-leb, lt-leb, eq-eqb, ne-eqb}
 use lib.ListN.{length, replicate}
@@ -14,24 +14,24 @@ use Rattle.common.proofs.Checks.Clear.{none, and}
 use Rattle.sheet_record.specs.Kinds.{pnet}
 use Rattle.sheet_read.specs.Sheets.{Sheet, busIn, mastersOf}
 use Rattle.sheet_read.specs.Whole.{Outcome, orElse, reading}
-use Rattle.sheet_read.specs.Steps.{sheetIn}
+use Rattle.sheet_read.specs.Steps.{sheetIn, editionAt}
+use Rattle.sheet_read.proofs.Taken.{ready-edition}
 use Rattle.sheet_read.specs.Whole.Outcome.{Read, Not}
 use Rattle.common.specs.Runs.{filled}
-use Rattle.common.specs.Sums.{upto}
 use Rattle.common.proofs.Sums.{upto-same}
 use Rattle.common.proofs.Runs.{filled-same, getD-tab}
 use Rattle.common.proofs.Firsts.{first-is}
 use Rattle.pnet_rules.specs.Segment as Segment
-use Rattle.pnet_rules.specs.Segment.{Segment, segmentOf, count, longest, hold, turnBy, turn, bound}
+use Rattle.pnet_rules.specs.Segment.{Segment, segmentOf, count, longest, charged, turn, bound}
 use Rattle.pnet_rules.specs.Refined.{refined, rounds}
 use Rattle.pnet_rules.specs.Limits.{Declared}
-use Rattle.pnet_rules.proofs.Holds.{longest-at-most, turn-at-most}
+use Rattle.pnet_rules.proofs.Holds.{longest-at-most}
 use Rattle.pnet_plan.specs.declared.answer.Plan.{Plan}
 use Rattle.pnet_plan.specs.declared.answer.Plan.the-variants as answer
 use Rattle.pnet_plan.specs.Planned.{firstLate, planChecks, plannedBy, planned, planOf, atPlace, runOf}
-use Rattle.units.specs.Units.{capped}
 use Rattle.units.specs.declared.BitPeriods.{BitPeriods}
-use Rattle.pnet_turn.specs.Turn.{at, chargeIn, turnOf}
+use Rattle.pnet_turn.specs.Turn.{at, chargedIn, turnOf}
+use Rattle.pnet_turn.proofs.Charges.{charged-same, turn-same}
 use Rattle.pnet_search.specs.Arrays.{turnIn, boundIn, refinedIn, roundsIn, Kept, Slack}
 use Rattle.pnet_plan.specs.Arrays.{segmentIn, Sheeted, SetOut, Grouped}
 use Rattle.pnet_plan.proofs.Bytes.{declares, number-is}
@@ -137,24 +137,19 @@ module _ {s : List ℕ} {N m first : ℕ} {counts longests : List ℕ} (h : Shee
   pub longests-small : (y : ℕ) → y ≤ 32 → at longests y ≤ 1548
   longests-small y l = omega (arith, longests-at y l, longest-at-most (segmentIn s) declared y)
 
-  charge-is : (y : ℕ) → y ≤ 32 → chargeIn counts longests y ≡ hold (segmentIn s) y
-  unfolding chargeIn hold
-  charge-is y l = rw (counts-at y l, longests-at y l)
+  edition-is : (e : ℕ) → e ≡ editionAt s → e ≡ segmentIn s .edition
+  unfolding segmentOf
+  edition-is e q = q ∙ ready-edition (h .ready) refl
 
-  -- V is that of the segment, which 32 bits hold
-  pub turn-is : (v : BitPeriods) → v ≡ turnOf counts longests N → v .0 ≡ turn (segmentIn s)
-  unfolding turnOf turn turnBy capped
-  turn-is v e =
-      let few : min N 32 ≡ segmentIn s .masters = omega (arith, masters-few, h .masters-are) in
-      let same =
-      ap (upto (chargeIn counts longests)) few
-      ∙ upto-same (chargeIn counts longests) (hold (segmentIn s)) (segmentIn s .masters) (λ y lo hi. charge-is y (omega (arith, declared .masters-to)))
-      in
-      omega (arith, ap (λ (b : BitPeriods). b .0) e, same, turn-at-most (segmentIn s) declared)
+  -- V is that of the segment
+  pub turn-is : (e : ℕ) → e ≡ editionAt s → (v : BitPeriods) → v ≡ turnOf counts longests N e → v .0 ≡ turn (segmentIn s)
+  turn-is e q = turn-same (segmentIn s) declared counts longests N e (h .masters-are) (edition-is e q) counts-at longests-at
 
-  module _ {holds ends : List ℕ} (o : SetOut counts longests N holds ends) where
-    holds-at : (y : ℕ) → 1 ≤ y → y ≤ segmentIn s .masters → at holds y ≡ hold (segmentIn s) y
-    holds-at y lo hi = o .holds-are y lo (omega (arith, h .masters-are)) ∙ charge-is y (omega (arith, declared .masters-to))
+  module _ (e : ℕ) (q : e ≡ editionAt s) {charges ends : List ℕ} (o : SetOut counts (chargedIn counts longests N e) N charges ends) where
+    charges-at : (y : ℕ) → 1 ≤ y → y ≤ segmentIn s .masters → at charges y ≡ charged (segmentIn s) y
+    charges-at y lo hi =
+        o .charges-are y lo (omega (arith, h .masters-are))
+        ∙ charged-same (segmentIn s) declared counts longests N e (h .masters-are) (edition-is e q) counts-at longests-at y lo hi
 
     -- nothing is placed yet
     pub grouped-first : (pairs : List ℕ) → 2 * m ≤ length pairs → Grouped (segmentIn s) 0 ends (replicate 33 1000000000) pairs
@@ -165,22 +160,22 @@ module _ {s : List ℕ} {N m first : ℕ} {counts longests : List ℕ} (h : Shee
         ∙ upto-same (at counts) (count (segmentIn s)) (y - 1) (λ z a b. counts-at z (omega (arith, declared .masters-to))))
 
     module _ (v : ℕ) (ev : v ≡ turn (segmentIn s)) {ends' slacks pairs : List ℕ} (placed : Grouped (segmentIn s) m ends' slacks pairs) where
-      laid : Laid (segmentIn s) counts holds ends' slacks pairs
+      laid : Laid (segmentIn s) counts charges ends' slacks pairs
       laid =
           record {
             counts-are = counts-at;
-            holds-are = holds-at;
+            charges-are = charges-at;
             grouped = subst (λ (i : ℕ). Grouped (segmentIn s) i ends' slacks pairs) (number-is (h .ready)) placed;
           }
 
       -- among N masters, for V
-      v-is : turnIn holds (segmentIn s .masters) ≡ v
+      v-is : turnIn charges (segmentIn s .masters) ≡ v
       v-is = turn-tied declared laid ∙ sym ev
 
-      pub kept-all : Kept N v counts holds ends' pairs
+      pub kept-all : Kept N v counts charges ends' pairs
       kept-all =
-          subst (λ (k : ℕ). Kept k v counts holds ends' pairs) (sym (h .masters-are))
-          (subst (λ (x : ℕ). Kept (segmentIn s .masters) x counts holds ends' pairs) v-is (kept declared laid))
+          subst (λ (k : ℕ). Kept k v counts charges ends' pairs) (sym (h .masters-are))
+          (subst (λ (x : ℕ). Kept (segmentIn s .masters) x counts charges ends' pairs) v-is (kept declared laid))
 
       module _ (late : ℕ) (first-late : late ≡ firstLate (segmentIn s)) (l : m < late) where
         passes : (x : ℕ) → 1 ≤ x → x ≤ segmentIn s .number → bound (segmentIn s) (segmentIn s .stream x .master) ≤ segmentIn s .stream x .deadline
@@ -196,8 +191,8 @@ module _ {s : List ℕ} {N m first : ℕ} {counts longests : List ℕ} (h : Shee
           filled-tied : (f g : ℕ → ℕ) (old run : List ℕ) → run ≡ filled (atPlace f) N old → ((k : ℕ) → 1 ≤ k → k ≤ segmentIn s .masters → f k ≡ g k) → run ≡ filled (atPlace g) N old
           filled-tied f g old run q e = q ∙ filled-same (atPlace f) (atPlace g) N old (λ i l'. e (i + 1) (omega arith) (omega (arith, h .masters-are)))
 
-          pub returned-filled : (a b c : List ℕ) → a ≡ filled (atPlace (boundIn counts holds N)) N x → b ≡ filled (atPlace (refinedIn counts holds ends' pairs N)) N y
-              → c ≡ filled (atPlace (roundsIn counts holds ends' pairs N)) N z → Returned s x y z (answer.Accepted N m) a b c
+          pub returned-filled : (a b c : List ℕ) → a ≡ filled (atPlace (boundIn counts charges N)) N x → b ≡ filled (atPlace (refinedIn counts charges ends' pairs N)) N y
+              → c ≡ filled (atPlace (roundsIn counts charges ends' pairs N)) N z → Returned s x y z (answer.Accepted N m) a b c
           unfolding segmentOf
           returned-filled a b c ea eb ec =
               let S = segmentIn s in
@@ -207,9 +202,9 @@ module _ {s : List ℕ} {N m first : ℕ} {counts longests : List ℕ} (h : Shee
               planned-read s (length x) (length y) (length z) (sheetIn s) (h .ready .reads) (h .ready .on-bus) (omega (arith, en)) (omega (arith, en)) (omega (arith, en))
               (omega (arith, h .ready .number, first-late)) in
               returned-read s x y z o' N en m (number-is (h .ready)) a b c
-              (filled-tied (boundIn counts holds N) (bound S) x a ea (λ k lo hi. rw en (bound-tied d laid k (omega (arith, d .masters-to)))))
-              (filled-tied (refinedIn counts holds ends' pairs N) (refined S) y b eb (λ k lo hi. rw en (refined-tied d laid k lo hi)))
-              (filled-tied (roundsIn counts holds ends' pairs N) (rounds S) z c ec (λ k lo hi. rw en (rounds-tied d laid k lo hi)))
+              (filled-tied (boundIn counts charges N) (bound S) x a ea (λ k lo hi. rw en (bound-tied d laid k (omega (arith, d .masters-to)))))
+              (filled-tied (refinedIn counts charges ends' pairs N) (refined S) y b eb (λ k lo hi. rw en (refined-tied d laid k lo hi)))
+              (filled-tied (roundsIn counts charges ends' pairs N) (rounds S) z c ec (λ k lo hi. rw en (rounds-tied d laid k lo hi)))
 
   pub returned-late : (late : ℕ) → late ≡ firstLate (segmentIn s) → late ≤ m → (x y z : List ℕ) → N ≤ length x → N ≤ length y → N ≤ length z
       → Returned s x y z (answer.Refused 8 late) x y z

@@ -64,6 +64,7 @@ figures-waited = (refl, refl, refl)
 abbrev jittered : ℕ → Segment
 jittered x =
     record {
+      edition = 1;
       masters = 2;
       number = 3;
       stream = λ i. cond (eqb i 3) (record { master = 2; cycle = 203; spacing = 100000; deadline = 500; jitter = x })

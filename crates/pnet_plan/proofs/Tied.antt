@@ -8,22 +8,22 @@ use borrow.Author.Tests.{eqb-true, lt-ltb, le-ltb, le-leb, lt-leb}
 use lib.Dec.{ltb, leb}
 use Rattle.common.specs.Sums.{when, upto, up}
 use Rattle.common.proofs.Sums.{upto-same, upto-term, upto-most}
-use Rattle.pnet_rules.specs.Segment.{Segment, owns, count, hold, turnBy, boundBy, turn, bound}
+use Rattle.pnet_rules.specs.Segment.{Segment, owns, count, charged, turnBy, boundBy, turn, bound}
 use Rattle.pnet_rules.specs.Refined.{saving, rightBy, mostRounds, askedBy, right, rounds, refined}
 use Rattle.pnet_rules.specs.Limits.{Declared}
-use Rattle.pnet_rules.proofs.Holds.{hold-at-least, hold-at-most, bound-at-most}
+use Rattle.pnet_rules.proofs.Holds.{charged-at-least, charged-at-most, bound-at-most}
 use Rattle.pnet_turn.specs.Turn.{at}
 use Rattle.pnet_search.specs.Arrays.{spacingAt, jitterAt, askedIn, askedAt, turnIn, boundIn, savedIn, rightIn, roundsIn, refinedIn, Spaced, Served, Kept, Slack}
 use Rattle.pnet_plan.specs.Arrays.{Grouped}
 use Rattle.pnet_plan.proofs.Gathering.{start, start-inside}
 
 -- the arrays hold a segment: what each master has, and all its streams placed
-pub record Laid (S : Segment) (counts holds ends slacks pairs : List ℕ) : Type 0 where
+pub record Laid (S : Segment) (counts charges ends slacks pairs : List ℕ) : Type 0 where
   pub counts-are : (y : ℕ) → y ≤ 32 → at counts y ≡ count S y
-  pub holds-are : (y : ℕ) → 1 ≤ y → y ≤ S .masters → at holds y ≡ hold S y
+  pub charges-are : (y : ℕ) → 1 ≤ y → y ≤ S .masters → at charges y ≡ charged S y
   pub grouped : Grouped S (S .number) ends slacks pairs
 
-module _ {S : Segment} (d : Declared S) {counts holds ends slacks pairs : List ℕ} (g : Laid S counts holds ends slacks pairs) where
+module _ {S : Segment} (d : Declared S) {counts charges ends slacks pairs : List ℕ} (g : Laid S counts charges ends slacks pairs) where
   inside : (y : ℕ) → y ≤ S .masters → y ≤ 32
   inside y hi = omega (arith, d .masters-to)
 
@@ -82,49 +82,49 @@ module _ {S : Segment} (d : Declared S) {counts holds ends slacks pairs : List �
       not-all j h q =
           none-meets (λ t x. leb t x) y lo hi (λ x a b o. lt-leb (S .stream x .spacing) (S .stream x .jitter) (d .ranges x a b .jitter-to)) j h (le-leb _ _ q)
 
-  pub kept : Kept (S .masters) (turnIn holds (S .masters)) counts holds ends pairs
+  pub kept : Kept (S .masters) (turnIn charges (S .masters)) counts charges ends pairs
   kept = record { few = d .masters-to; turn-is = refl; each = served }
     where
-      served : (y : ℕ) → 1 ≤ y → y ≤ S .masters → Served counts holds ends pairs y
+      served : (y : ℕ) → 1 ≤ y → y ≤ S .masters → Served counts charges ends pairs y
       served y lo hi =
           record {
             inside = inside y hi;
             count-to = omega (arith, g .counts-are y (inside y hi), d .counts y);
-            hold-from = omega (arith, g .holds-are y lo hi, hold-at-least S y);
-            hold-to = omega (arith, g .holds-are y lo hi, hold-at-most S d y);
+            charge-from = omega (arith, g .charges-are y lo hi, charged-at-least S y lo hi);
+            charge-to = omega (arith, g .charges-are y lo hi, charged-at-most S d y);
             behind = omega (arith, end-is y lo hi, g .counts-are y (inside y hi));
             spaced = spaced y lo hi;
           }
 
   -- ---- V and R
 
-  pub turn-tied : turnIn holds (S .masters) ≡ turn S
+  pub turn-tied : turnIn charges (S .masters) ≡ turn S
   unfolding turnIn turn turnBy
-  turn-tied = upto-same (at holds) (hold S) (S .masters) (λ y lo hi. g .holds-are y lo hi)
+  turn-tied = upto-same (at charges) (charged S) (S .masters) (λ y lo hi. g .charges-are y lo hi)
 
-  pub bound-tied : (k : ℕ) → k ≤ 32 → boundIn counts holds (S .masters) k ≡ bound S k
+  pub bound-tied : (k : ℕ) → k ≤ 32 → boundIn counts charges (S .masters) k ≡ bound S k
   unfolding boundIn bound boundBy turn
   bound-tied k l = rw (g .counts-are k l, turn-tied)
 
   -- R(y), as it stands in the window of a(y)
-  window-tied : (y : ℕ) → y ≤ 32 → at counts y * turnIn holds (S .masters) ≡ boundBy (hold S) S y
+  window-tied : (y : ℕ) → y ≤ 32 → at counts y * turnIn charges (S .masters) ≡ boundBy (charged S) S y
   unfolding boundIn bound
   window-tied y l = bound-tied y l
 
   -- where every stream passes, no R is above a T - J
   pub slack-tied : ((x : ℕ) → 1 ≤ x → x ≤ S .number → bound S (S .stream x .master) ≤ S .stream x .deadline)
-      → Slack (S .masters) (turnIn holds (S .masters)) counts ends slacks pairs
+      → Slack (S .masters) (turnIn charges (S .masters)) counts ends slacks pairs
   unfolding bound owns
   slack-tied passes = record { covers = covers; above-none = λ y j lo hi h. omega (arith, not-above y j lo hi h) }
     where
-      own-passes : (y x : ℕ) → 1 ≤ x → x ≤ S .number → owns S y x ≡ true → boundBy (hold S) S y ≤ S .stream x .spacing - S .stream x .jitter
+      own-passes : (y x : ℕ) → 1 ≤ x → x ≤ S .number → owns S y x ≡ true → boundBy (charged S) S y ≤ S .stream x .spacing - S .stream x .jitter
       own-passes y x lo hi o =
-          omega (arith, passes x lo hi, d .ranges x lo hi .deadline-to, ap (boundBy (hold S) S) (eqb-true (S .stream x .master) y o))
+          omega (arith, passes x lo hi, d .ranges x lo hi .deadline-to, ap (boundBy (charged S) S) (eqb-true (S .stream x .master) y o))
 
-      covers : (y : ℕ) → 1 ≤ y → y ≤ S .masters → at counts y * turnIn holds (S .masters) ≤ at slacks y
+      covers : (y : ℕ) → 1 ≤ y → y ≤ S .masters → at counts y * turnIn charges (S .masters) ≤ at slacks y
       covers y lo hi =
           let small = bound-at-most S d y in
-          rw (window-tied y (inside y hi)) (g .grouped .greatest-such y (boundBy (hold S) S y) (inside y hi) (omega (arith, small)) (own-passes y))
+          rw (window-tied y (inside y hi)) (g .grouped .greatest-such y (boundBy (charged S) S y) (inside y hi) (omega (arith, small)) (own-passes y))
 
       not-above : (y j : ℕ) → 1 ≤ y → y ≤ S .masters → j < at counts y
           → spacingAt pairs (at ends y - at counts y + j) - jitterAt pairs (at ends y - at counts y + j) < at slacks y → ⊥
@@ -134,29 +134,29 @@ module _ {S : Segment} (d : Declared S) {counts holds ends slacks pairs : List �
 
   -- ---- W and its rounds
 
-  asked-tied : (y w : ℕ) → 1 ≤ y → y ≤ S .masters → askedAt counts ends pairs (turnIn holds (S .masters)) y w ≡ askedBy (hold S) S y w
+  asked-tied : (y w : ℕ) → 1 ≤ y → y ≤ S .masters → askedAt counts ends pairs (turnIn charges (S .masters)) y w ≡ askedBy (charged S) S y w
   unfolding askedAt askedIn askedBy
   asked-tied y w lo hi =
-      ap (λ (R : ℕ). askedIn pairs (at ends y - at counts y) (w + R) (at counts y)) (window-tied y (inside y hi)) ∙ sum-is (λ t x. up (w + boundBy (hold S) S y + x) t) y lo hi
+      ap (λ (R : ℕ). askedIn pairs (at ends y - at counts y) (w + R) (at counts y)) (window-tied y (inside y hi)) ∙ sum-is (λ t x. up (w + boundBy (charged S) S y + x) t) y lo hi
 
   module _ (k : ℕ) (lo : 1 ≤ k) (hi : k ≤ S .masters) where
     saved-tied : (y w : ℕ) → 1 ≤ y → y ≤ S .masters
-        → savedIn counts holds ends pairs (turnIn holds (S .masters)) k w y ≡ saving (hold S) (count S k) k (askedBy (hold S) S y w) y
+        → savedIn counts charges ends pairs (turnIn charges (S .masters)) k w y ≡ saving (charged S) (count S k) k (askedBy (charged S) S y w) y
     unfolding savedIn saving
-    saved-tied y w lo' hi' = rw (g .holds-are y lo' hi', g .counts-are k (inside k hi), asked-tied y w lo' hi')
+    saved-tied y w lo' hi' = rw (g .charges-are y lo' hi', g .counts-are k (inside k hi), asked-tied y w lo' hi')
 
-    right-tied : (w : ℕ) → rightIn counts holds ends pairs (S .masters) k w ≡ right S k w
+    right-tied : (w : ℕ) → rightIn counts charges ends pairs (S .masters) k w ≡ right S k w
     unfolding rightIn right rightBy boundIn turn
     right-tied w =
-        let v = turnIn holds (S .masters) in
-        let each : upto (savedIn counts holds ends pairs v k w) (S .masters) ≡ upto (λ y. saving (hold S) (count S k) k (askedBy (hold S) S y w) y) (S .masters) =
-        upto-same (savedIn counts holds ends pairs v k w) (λ y. saving (hold S) (count S k) k (askedBy (hold S) S y w) y) (S .masters) (λ y lo' hi'. saved-tied y w lo' hi') in
+        let v = turnIn charges (S .masters) in
+        let each : upto (savedIn counts charges ends pairs v k w) (S .masters) ≡ upto (λ y. saving (charged S) (count S k) k (askedBy (charged S) S y w) y) (S .masters) =
+        upto-same (savedIn counts charges ends pairs v k w) (λ y. saving (charged S) (count S k) k (askedBy (charged S) S y w) y) (S .masters) (λ y lo' hi'. saved-tied y w lo' hi') in
         rw (each, g .counts-are k (inside k hi), turn-tied)
 
-    pub rounds-tied : roundsIn counts holds ends pairs (S .masters) k ≡ rounds S k
+    pub rounds-tied : roundsIn counts charges ends pairs (S .masters) k ≡ rounds S k
     unfolding roundsIn rounds mostRounds
     rounds-tied = rw (fun-ext right-tied, g .counts-are k (inside k hi))
 
-    pub refined-tied : refinedIn counts holds ends pairs (S .masters) k ≡ refined S k
+    pub refined-tied : refinedIn counts charges ends pairs (S .masters) k ≡ refined S k
     unfolding refinedIn refined
     refined-tied = rw (rounds-tied, fun-ext right-tied)

@@ -1,6 +1,6 @@
--- How the code sets out a segment and places its streams, before the search (pnet_search): at place y master y's count s, its charge H, its slack,
--- the least T - J of its streams, and the end of its pairs; up to that end, as many as the count, stand the pairs of T and J of its streams in sheet
--- order. Words of inner contracts alone. Assumes nothing.
+-- How the code sets out a segment and places its streams, before the search (pnet_search): at place y master y's count s, its charge under the
+-- sheet's edition, its slack, the least T - J of its streams, and the end of its pairs; up to that end, as many as the count, stand the pairs of T
+-- and J of its streams in sheet order. Words of inner contracts alone. Assumes nothing.
 use Prim.Native.Nat.{ℕ, _+_, _-_, _*_, _≤_}
 use mathlib.Core.Path.{_≡_}
 use mathlib.Core.Bool.{true}
@@ -11,7 +11,7 @@ use Rattle.common.specs.Sums.{when, upto}
 use Rattle.sheet_record.specs.Kinds.{pnet}
 use Rattle.sheet_read.specs.Steps.{sheetIn, Ready}
 use Rattle.pnet_rules.specs.Segment.{Segment, segmentOf, owns, count, longest}
-use Rattle.pnet_turn.specs.Turn.{at, chargeIn}
+use Rattle.pnet_turn.specs.Turn.{at}
 use Rattle.pnet_search.specs.Arrays.{spacingAt, jitterAt}
 
 -- ---- Where they come from
@@ -22,7 +22,7 @@ segmentIn s = segmentOf (sheetIn s)
 
 -- the first n streams of a segment
 abbrev pub part : Segment → ℕ → Segment
-part S n = record { masters = S .masters; number = n; stream = S .stream }
+part S n = record { edition = S .edition; masters = S .masters; number = n; stream = S .stream }
 
 -- an accepted P-NET sheet with N masters and n streams, the first at a place, and what reading it gathered of each master
 pub record Sheeted (s : List ℕ) (N n first : ℕ) (counts longests : List ℕ) : Type 0 where
@@ -33,11 +33,11 @@ pub record Sheeted (s : List ℕ) (N n first : ℕ) (counts longests : List ℕ)
 
 -- ---- How they are filled
 
--- the N masters set out: each one's H, and as its end the place where its pairs begin
-pub record SetOut (counts longests : List ℕ) (N : ℕ) (holds ends : List ℕ) : Type 0 where
-  pub holds-long : length holds ≡ 33
+-- the N masters set out: what each one is charged, h(y), and as its end the place where its pairs begin
+pub record SetOut (counts : List ℕ) (h : ℕ → ℕ) (N : ℕ) (charges ends : List ℕ) : Type 0 where
+  pub charges-long : length charges ≡ 33
   pub ends-long : length ends ≡ 33
-  pub holds-are : (y : ℕ) → 1 ≤ y → y ≤ N → at holds y ≡ chargeIn counts longests y
+  pub charges-are : (y : ℕ) → 1 ≤ y → y ≤ N → at charges y ≡ h y
   pub ends-are : (y : ℕ) → 1 ≤ y → y ≤ N → at ends y ≡ upto (at counts) (y - 1)
 
 -- the first i streams of a segment placed: behind the pairs of the masters before y stand those of y, and any sum over them is the sum over

@@ -13,7 +13,7 @@ ghost use Rattle.sheet_read.specs.Steps.{Ready};
 ghost use Rattle.pnet_rules.specs.Segment;
 ghost use Rattle.pnet_rules.specs.Refined;
 ghost use Rattle.pnet_plan.specs.Planned.{firstLate, planned, planOf, runOf};
-ghost use Rattle.pnet_turn.specs.Turn.{at};
+ghost use Rattle.pnet_turn.specs.Turn.{at, chargedIn};
 ghost use Rattle.pnet_plan.specs.Arrays.{segmentIn, Sheeted, SetOut, Grouped};
 
 // The longest spacing of a sheet.
@@ -28,25 +28,28 @@ const FEW_PAIRED: usize = 2 * FEW;
 // Room for the pairs of the largest sheet.
 const MOST_PAIRED: usize = 2 * MOST;
 
-// Sets out the n masters: each one's H, and the place where the pairs of its streams begin, behind those of the masters before it.
+// Sets out the n masters: what each one is charged under an edition, and the place where the pairs of its streams begin, behind those of the
+// masters before it.
 fn set_out(
     counts: &[u8; 33],
     longests: &[u32; 33],
     n: usize,
-    holds: &mut [u32; 33],
+    edition: u32,
+    charges: &mut [u32; 33],
     ends: &mut [u32; 33],
 )
     requires { ⌜ (n ≤ 32) × ((y : ℕ) → y ≤ 32 → at (now counts) y ≤ 80) × ((y : ℕ) → y ≤ 32 → at (now longests) y ≤ 1548) ⌝ }
-    requires { ⌜ (length (now holds) ≡ 33) × (length (now ends) ≡ 33) ⌝ }
-    ensures { λ _. ⌜ SetOut (now (counts .entry)) (now (longests .entry)) n (now (holds .exit)) (now (ends .exit)) ⌝ }
+    requires { ⌜ (length (now charges) ≡ 33) × (length (now ends) ≡ 33) ⌝ }
+    ensures { λ _. ⌜ SetOut (now (counts .entry)) (chargedIn (now (counts .entry)) (now (longests .entry)) n edition) n (now (charges .exit)) (now (ends .exit)) ⌝ }
 {
+    let floor = pnet_turn::floor_of(counts, longests, n, edition);
     let mut end: u32 = 0;
     let mut y: usize = 0;
     while y < n {
         y += 1;
         let count = counts[y];
-        let hold = pnet_turn::hold_of(count, BitPeriods(longests[y]));
-        holds[y] = hold.0;
+        let charge = pnet_turn::charge_of(count, BitPeriods(longests[y]), floor);
+        charges[y] = charge.0;
         ends[y] = end;
         end += count as u32;
     }
@@ -114,11 +117,12 @@ fn plan_segment(
         × (now (refined .exit) ≡ runOf outcome Refined.refined (now (refined .entry)))
         × (now (rounds .exit) ≡ runOf outcome Refined.rounds (now (rounds .entry))) ⌝ }
 {
-    let mut holds = [0u32; 33];
+    let mut charges = [0u32; 33];
     let mut ends = [0u32; 33];
     let mut slacks = [LONGEST; 33];
-    let turn = pnet_turn::turn_of(counts, longests, n);
-    set_out(counts, longests, n, &mut holds, &mut ends);
+    let edition = sheet_read::edition(s);
+    let turn = pnet_turn::turn_of(counts, longests, n, edition);
+    set_out(counts, longests, n, edition, &mut charges, &mut ends);
     let late = place(
         s,
         first,
@@ -134,7 +138,7 @@ fn plan_segment(
     }
     pnet_search::fill(
         counts,
-        &holds,
+        &charges,
         &ends,
         &slacks,
         pairs,

@@ -5,7 +5,7 @@ ghost use Prim.Native.Nat.{ℕ, _+_, _-_, _*_, _≤_, _<_, min};
 ghost use lib.ListN.{length};
 ghost use Rattle.common.specs.Runs.{filled};
 ghost use Rattle.pnet_turn.specs.Turn.{at};
-ghost use Rattle.pnet_search.specs.Arrays.{askedIn, askedAt, boundIn, rightIn, roundsIn, refinedIn, byPlace, Spaced, Served, Kept, Slack, Opens, Fresh};
+ghost use Rattle.pnet_search.specs.Arrays.{askedIn, askedAt, boundIn, rightIn, roundsIn, refinedIn, Spaced, Served, Kept, Slack, Opens, Fresh};
 
 // W of a master, and its rounds.
 struct Found {
@@ -66,7 +66,7 @@ fn look(pairs: &[u32], from: usize, n: usize, window: u32, s: u32) -> Looked
 // that long when W begins (page 02, Ask 2); turn is V.
 fn saving_at(
     counts: &[u8; 33],
-    holds: &[u32; 33],
+    charges: &[u32; 33],
     ends: &[u32; 33],
     pairs: &[u32],
     turn: u32,
@@ -74,15 +74,15 @@ fn saving_at(
     s: u32,
     w: u32,
 ) -> Saving
-    requires { ⌜ (turn ≤ 51040) × (s ≤ 80) × (w ≤ 4083200) × Served (now counts) (now holds) (now ends) (now pairs) y ⌝ }
-    ensures { λ r. ⌜ (w ≤ r .until) × ((v : ℕ) → w ≤ v → v ≤ r .until → r .saved ≡ (s - min s (askedAt (now (counts .entry)) (now (ends .entry)) (now (pairs .entry)) turn y v)) * (at (now (holds .entry)) y - 10)) ⌝ }
+    requires { ⌜ (turn ≤ 51040) × (s ≤ 80) × (w ≤ 4083200) × Served (now counts) (now charges) (now ends) (now pairs) y ⌝ }
+    ensures { λ r. ⌜ (w ≤ r .until) × ((v : ℕ) → w ≤ v → v ≤ r .until → r .saved ≡ (s - min s (askedAt (now (counts .entry)) (now (ends .entry)) (now (pairs .entry)) turn y v)) * (at (now (charges .entry)) y - 10)) ⌝ }
 {
     let count = counts[y] as u32;
     let end = ends[y] as usize;
-    let hold = holds[y];
+    let charge = charges[y];
     let bound = count * turn;
     let seen = look(pairs, end - count as usize, count as usize, w + bound, s);
-    let saved = (s - seen.asked) * (hold - 10);
+    let saved = (s - seen.asked) * (charge - 10);
     let until = seen.until - bound;
     Saving { saved, until }
 }
@@ -91,18 +91,18 @@ fn saving_at(
 // once. At another each counts once until W and R(y) are longer than the slack of y, as no R is above a T - J. turn is V.
 fn first_saving(
     counts: &[u8; 33],
-    holds: &[u32; 33],
+    charges: &[u32; 33],
     slacks: &[u32; 33],
     turn: u32,
     y: usize,
     k: usize,
 ) -> Saving
-    requires { ⌜ (turn ≤ 51040) × (k ≤ 32) × (at (now counts) k ≤ 80) × (y ≤ 32) × (at (now counts) y ≤ 80) × (10 ≤ at (now holds) y) × (at (now holds) y ≤ 1595) × (at (now counts) y * turn ≤ at (now slacks) y) ⌝ }
-    ensures { λ r. ⌜ Opens (now (counts .entry)) (now (holds .entry)) (now (slacks .entry)) turn k y (r .saved) (r .until) ⌝ }
+    requires { ⌜ (turn ≤ 51040) × (k ≤ 32) × (at (now counts) k ≤ 80) × (y ≤ 32) × (at (now counts) y ≤ 80) × (10 ≤ at (now charges) y) × (at (now charges) y ≤ 1595) × (at (now counts) y * turn ≤ at (now slacks) y) ⌝ }
+    ensures { λ r. ⌜ Opens (now (counts .entry)) (now (charges .entry)) (now (slacks .entry)) turn k y (r .saved) (r .until) ⌝ }
 {
     let s = counts[k] as u32;
     let count = counts[y] as u32;
-    let hold = holds[y];
+    let charge = charges[y];
     if s <= count {
         return Saving {
             saved: 0,
@@ -110,7 +110,7 @@ fn first_saving(
         };
     }
     let bound = count * turn;
-    let saved = (s - count) * (hold - 10);
+    let saved = (s - count) * (charge - 10);
     let until = slacks[y] - bound;
     Saving { saved, until }
 }
@@ -118,7 +118,7 @@ fn first_saving(
 // What master k saves at each of the n masters at W = 0.
 fn begin(
     counts: &[u8; 33],
-    holds: &[u32; 33],
+    charges: &[u32; 33],
     slacks: &[u32; 33],
     n: usize,
     turn: u32,
@@ -127,13 +127,13 @@ fn begin(
     until: &mut [u32; 33],
 )
     requires { ⌜ (n ≤ 32) × (turn ≤ 51040) × (k ≤ 32) × (at (now counts) k ≤ 80) × (length (now saved) ≡ 33) × (length (now until) ≡ 33) ⌝ }
-    requires { ⌜ ((y : ℕ) → 1 ≤ y → y ≤ n → (at (now counts) y ≤ 80) × (10 ≤ at (now holds) y) × (at (now holds) y ≤ 1595) × (at (now counts) y * turn ≤ at (now slacks) y)) ⌝ }
-    ensures { λ _. ⌜ (length (now (saved .exit)) ≡ 33) × (length (now (until .exit)) ≡ 33) × ((y : ℕ) → 1 ≤ y → y ≤ n → Opens (now (counts .entry)) (now (holds .entry)) (now (slacks .entry)) turn k y (at (now (saved .exit)) y) (at (now (until .exit)) y)) ⌝ }
+    requires { ⌜ ((y : ℕ) → 1 ≤ y → y ≤ n → (at (now counts) y ≤ 80) × (10 ≤ at (now charges) y) × (at (now charges) y ≤ 1595) × (at (now counts) y * turn ≤ at (now slacks) y)) ⌝ }
+    ensures { λ _. ⌜ (length (now (saved .exit)) ≡ 33) × (length (now (until .exit)) ≡ 33) × ((y : ℕ) → 1 ≤ y → y ≤ n → Opens (now (counts .entry)) (now (charges .entry)) (now (slacks .entry)) turn k y (at (now (saved .exit)) y) (at (now (until .exit)) y)) ⌝ }
 {
     let mut y: usize = 0;
     while y < n {
         y += 1;
-        let first = first_saving(counts, holds, slacks, turn, y, k);
+        let first = first_saving(counts, charges, slacks, turn, y, k);
         saved[y] = first.saved;
         until[y] = first.until;
     }
@@ -143,7 +143,7 @@ fn begin(
 // saved there no longer holds at this W; turn is V.
 fn right_of(
     counts: &[u8; 33],
-    holds: &[u32; 33],
+    charges: &[u32; 33],
     ends: &[u32; 33],
     pairs: &[u32],
     n: usize,
@@ -153,10 +153,10 @@ fn right_of(
     saved: &mut [u32; 33],
     until: &mut [u32; 33],
 ) -> u32
-    requires { ⌜ (1 ≤ k) × (k ≤ n) × (w ≤ 4083200) × Kept n turn (now counts) (now holds) (now ends) (now pairs) ⌝ }
-    requires { ⌜ Fresh (now counts) (now holds) (now ends) (now pairs) n turn k w (now saved) (now until) ⌝ }
-    ensures { λ r. ⌜ r ≡ rightIn (now (counts .entry)) (now (holds .entry)) (now (ends .entry)) (now (pairs .entry)) n k w ⌝ }
-    ensures { λ _. ⌜ Fresh (now (counts .entry)) (now (holds .entry)) (now (ends .entry)) (now (pairs .entry)) n turn k w (now (saved .exit)) (now (until .exit)) ⌝ }
+    requires { ⌜ (1 ≤ k) × (k ≤ n) × (w ≤ 4083200) × Kept n turn (now counts) (now charges) (now ends) (now pairs) ⌝ }
+    requires { ⌜ Fresh (now counts) (now charges) (now ends) (now pairs) n turn k w (now saved) (now until) ⌝ }
+    ensures { λ r. ⌜ r ≡ rightIn (now (counts .entry)) (now (charges .entry)) (now (ends .entry)) (now (pairs .entry)) n k w ⌝ }
+    ensures { λ _. ⌜ Fresh (now (counts .entry)) (now (charges .entry)) (now (ends .entry)) (now (pairs .entry)) n turn k w (now (saved .exit)) (now (until .exit)) ⌝ }
 {
     let s = counts[k] as u32;
     let mut all: u32 = 0;
@@ -164,7 +164,7 @@ fn right_of(
     while y < n {
         y += 1;
         if until[y] < w {
-            let again = saving_at(counts, holds, ends, pairs, turn, y, s, w);
+            let again = saving_at(counts, charges, ends, pairs, turn, y, s, w);
             saved[y] = again.saved;
             until[y] = again.until;
         }
@@ -176,7 +176,7 @@ fn right_of(
 // The refined search of master k, from W = 0 to the first value that equals the next one; turn is V.
 fn search(
     counts: &[u8; 33],
-    holds: &[u32; 33],
+    charges: &[u32; 33],
     ends: &[u32; 33],
     slacks: &[u32; 33],
     pairs: &[u32],
@@ -184,18 +184,18 @@ fn search(
     turn: u32,
     k: usize,
 ) -> Found
-    requires { ⌜ (1 ≤ k) × (k ≤ n) × Kept n turn (now counts) (now holds) (now ends) (now pairs) × Slack n turn (now counts) (now ends) (now slacks) (now pairs) ⌝ }
-    ensures { λ r. ⌜ (r .refined ≡ refinedIn (now (counts .entry)) (now (holds .entry)) (now (ends .entry)) (now (pairs .entry)) n k) × (r .rounds ≡ roundsIn (now (counts .entry)) (now (holds .entry)) (now (ends .entry)) (now (pairs .entry)) n k) ⌝ }
+    requires { ⌜ (1 ≤ k) × (k ≤ n) × Kept n turn (now counts) (now charges) (now ends) (now pairs) × Slack n turn (now counts) (now ends) (now slacks) (now pairs) ⌝ }
+    ensures { λ r. ⌜ (r .refined ≡ refinedIn (now (counts .entry)) (now (charges .entry)) (now (ends .entry)) (now (pairs .entry)) n k) × (r .rounds ≡ roundsIn (now (counts .entry)) (now (charges .entry)) (now (ends .entry)) (now (pairs .entry)) n k) ⌝ }
 {
     let mut saved = [0u32; 33];
     let mut until = [0u32; 33];
-    begin(counts, holds, slacks, n, turn, k, &mut saved, &mut until);
+    begin(counts, charges, slacks, n, turn, k, &mut saved, &mut until);
     let mut w: u32 = 0;
     let mut rounds: u32 = 0;
     loop {
         let next = right_of(
             counts,
-            holds,
+            charges,
             ends,
             pairs,
             n,
@@ -217,7 +217,7 @@ fn search(
 // out and every stream is placed.
 pub fn fill(
     counts: &[u8; 33],
-    holds: &[u32; 33],
+    charges: &[u32; 33],
     ends: &[u32; 33],
     slacks: &[u32; 33],
     pairs: &[u32],
@@ -227,17 +227,17 @@ pub fn fill(
     refined: &mut [u32],
     rounds: &mut [u32],
 )
-    requires { ⌜ Kept n (turn .0) (now counts) (now holds) (now ends) (now pairs) × Slack n (turn .0) (now counts) (now ends) (now slacks) (now pairs) ⌝ }
+    requires { ⌜ Kept n (turn .0) (now counts) (now charges) (now ends) (now pairs) × Slack n (turn .0) (now counts) (now ends) (now slacks) (now pairs) ⌝ }
     requires { ⌜ (n ≤ length (now bound)) × (n ≤ length (now refined)) × (n ≤ length (now rounds)) ⌝ }
-    ensures { λ _. ⌜ now (bound .exit) ≡ filled (byPlace (boundIn (now (counts .entry)) (now (holds .entry)) n)) n (now (bound .entry)) ⌝ }
-    ensures { λ _. ⌜ now (refined .exit) ≡ filled (byPlace (refinedIn (now (counts .entry)) (now (holds .entry)) (now (ends .entry)) (now (pairs .entry)) n)) n (now (refined .entry)) ⌝ }
-    ensures { λ _. ⌜ now (rounds .exit) ≡ filled (byPlace (roundsIn (now (counts .entry)) (now (holds .entry)) (now (ends .entry)) (now (pairs .entry)) n)) n (now (rounds .entry)) ⌝ }
+    ensures { λ _. ⌜ now (bound .exit) ≡ filled (λ i. boundIn (now (counts .entry)) (now (charges .entry)) n (i + 1)) n (now (bound .entry)) ⌝ }
+    ensures { λ _. ⌜ now (refined .exit) ≡ filled (λ i. refinedIn (now (counts .entry)) (now (charges .entry)) (now (ends .entry)) (now (pairs .entry)) n (i + 1)) n (now (refined .entry)) ⌝ }
+    ensures { λ _. ⌜ now (rounds .exit) ≡ filled (λ i. roundsIn (now (counts .entry)) (now (charges .entry)) (now (ends .entry)) (now (pairs .entry)) n (i + 1)) n (now (rounds .entry)) ⌝ }
 {
     let mut i: usize = 0;
     while i < n {
         let k = i + 1;
         let r = counts[k] as u32 * turn.0;
-        let found = search(counts, holds, ends, slacks, pairs, n, turn.0, k);
+        let found = search(counts, charges, ends, slacks, pairs, n, turn.0, k);
         bound[i] = r;
         refined[i] = found.refined;
         rounds[i] = found.rounds;

@@ -7,10 +7,10 @@ use Rattle.pnet_search.proofs.begin.Statement.{statement}
 use Rattle.pnet_search.proofs.begin.Tie as tie
 
 abbrev Inv-loop : tie.InvT-loop
-Inv-loop counts holds slacks n turn k saved₀ until₀ y₀ saved until y = (y ≤ n) × Opened counts holds slacks turn k y saved until
+Inv-loop counts charges slacks n turn k saved₀ until₀ y₀ saved until y = (y ≤ n) × Opened counts charges slacks turn k y saved until
 
 abbrev μ-loop : tie.MeasureT-loop
-μ-loop counts holds slacks n turn k saved₀ until₀ y₀ saved until y = n - y
+μ-loop counts charges slacks n turn k saved₀ until₀ y₀ saved until y = n - y
 
 loop-holds : tie.Need-loop-holds Inv-loop μ-loop
 loop-holds c =

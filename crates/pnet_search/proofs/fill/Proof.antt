@@ -4,20 +4,20 @@ use Prim.Native.Nat.{_+_, _-_, _≤_}
 use native.Mathlib.Omega.{arith}
 use borrow.Author.Needs.{needs}
 use Rattle.common.proofs.Runs.{Filling, filling-none, filling-more, filling-done}
-use Rattle.pnet_search.specs.Arrays.{boundIn, refinedIn, roundsIn, byPlace}
+use Rattle.pnet_search.specs.Arrays.{boundIn, refinedIn, roundsIn}
 use Rattle.pnet_search.proofs.Arrays.{bound-is, bound-small}
 use Rattle.pnet_search.proofs.fill.Statement.{statement}
 use Rattle.pnet_search.proofs.fill.Tie as tie
 
 abbrev Inv-loop : tie.InvT-loop
-Inv-loop counts holds ends slacks pairs n turn bound₀ refined₀ rounds₀ i₀ bound refined rounds i =
+Inv-loop counts charges ends slacks pairs n turn bound₀ refined₀ rounds₀ i₀ bound refined rounds i =
     (i ≤ n)
-    × Filling (byPlace (boundIn counts holds n)) i bound₀ bound
-    × Filling (byPlace (refinedIn counts holds ends pairs n)) i refined₀ refined
-    × Filling (byPlace (roundsIn counts holds ends pairs n)) i rounds₀ rounds
+    × Filling (λ j. boundIn counts charges n (j + 1)) i bound₀ bound
+    × Filling (λ j. refinedIn counts charges ends pairs n (j + 1)) i refined₀ refined
+    × Filling (λ j. roundsIn counts charges ends pairs n (j + 1)) i rounds₀ rounds
 
 abbrev μ-loop : tie.MeasureT-loop
-μ-loop counts holds ends slacks pairs n turn bound₀ refined₀ rounds₀ i₀ bound refined rounds i =
+μ-loop counts charges ends slacks pairs n turn bound₀ refined₀ rounds₀ i₀ bound refined rounds i =
     n - i
 
 loop-holds : tie.Need-loop-holds Inv-loop μ-loop
@@ -70,7 +70,7 @@ loop-again c =
     let p = c .before .before .before .before .before .before .before .before .before .pre .0 .0 in
     let l = c .before .before .before .before .loop in (
       search needs,
-      filling-more _ (l .inv .1) (omega arith) (bound-is (a .counts .now) (a .holds .now) (a .n) (l .i + 1) (a .turn .0) (p .turn-is)),
+      filling-more _ (l .inv .1) (omega arith) (bound-is (a .counts .now) (a .charges .now) (a .n) (l .i + 1) (a .turn .0) (p .turn-is)),
       filling-more _ (l .inv .2) (omega arith) (c .search .ensures .0),
       filling-more _ (l .inv .3) (omega arith) (c .search .ensures .1),
     )

@@ -19,11 +19,11 @@ element-copy-out-count c = search needs
 cast-count : tie.Need-cast-count
 cast-count c = search needs
 
-mul-hold : tie.Need-mul-hold
-mul-hold c = search needs
+mul-charge : tie.Need-mul-charge
+mul-charge c = search needs
 
-element-copy-out-hold : tie.Need-element-copy-out-hold
-element-copy-out-hold c = search needs
+element-copy-out-charge : tie.Need-element-copy-out-charge
+element-copy-out-charge c = search needs
 
 returns : tie.Need-returns
 returns c = record { never = λ l. (refl, refl); once = λ l. absurd (omega (arith, c .if1 .taken)) }
@@ -42,7 +42,7 @@ sub-saved-2 c = search needs
 mul-saved : tie.Need-mul-saved
 mul-saved c =
     let a = c .before .before .before .before .args in
-    omega (arith, saved-small (at (a .counts .now) (a .k)) (at (a .counts .now) (a .y)) (at (a .holds .now) (a .y)) (omega arith) (omega arith))
+    omega (arith, saved-small (at (a .counts .now) (a .k)) (at (a .counts .now) (a .y)) (at (a .charges .now) (a .y)) (omega arith) (omega arith))
 
 mul-until : tie.Need-mul-until
 mul-until c = search needs
@@ -64,8 +64,8 @@ first-saving-spec =
     cast-s
     element-copy-out-count
     cast-count
-    mul-hold
-    element-copy-out-hold
+    mul-charge
+    element-copy-out-charge
     returns
     mul-bound
     sub-saved

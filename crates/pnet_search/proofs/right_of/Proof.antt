@@ -16,24 +16,24 @@ use Rattle.pnet_search.proofs.right_of.Statement.{statement}
 use Rattle.pnet_search.proofs.right_of.Tie as tie
 
 abbrev Inv-loop : tie.InvT-loop
-Inv-loop counts holds ends pairs n turn k w saved₀ until₀ s all₀ y₀ saved until all y =
+Inv-loop counts charges ends pairs n turn k w saved₀ until₀ s all₀ y₀ saved until all y =
     (y ≤ n)
-    × (all ≡ upto (savedIn counts holds ends pairs turn k w) y)
+    × (all ≡ upto (savedIn counts charges ends pairs turn k w) y)
     × (all ≤ 126800 * y)
-    × Fresh counts holds ends pairs n turn k w saved until
+    × Fresh counts charges ends pairs n turn k w saved until
 
 abbrev μ-loop : tie.MeasureT-loop
-μ-loop counts holds ends pairs n turn k w saved₀ until₀ s all₀ y₀ saved until all y = n - y
+μ-loop counts charges ends pairs n turn k w saved₀ until₀ s all₀ y₀ saved until all y = n - y
 
 -- what k saves at each master at W, for a V
 abbrev saves : tie.Start Inv-loop μ-loop → ℕ → ℕ → ℕ
-saves c v = savedIn (c .args .counts .now) (c .args .holds .now) (c .args .ends .now) (c .args .pairs .now) v (c .args .k) (c .args .w)
+saves c v = savedIn (c .args .counts .now) (c .args .charges .now) (c .args .ends .now) (c .args .pairs .now) v (c .args .k) (c .args .w)
 
 abbrev total : tie.Start Inv-loop μ-loop → ℕ
-total c = upto (saves c (turnIn (c .args .holds .now) (c .args .n))) (c .args .n)
+total c = upto (saves c (turnIn (c .args .charges .now) (c .args .n))) (c .args .n)
 
 abbrev Right : tie.Start Inv-loop μ-loop → ℕ → List ℕ → List ℕ → Type 0
-Right c y = Renewed (c .args .counts .now) (c .args .holds .now) (c .args .ends .now) (c .args .pairs .now) (c .args .n) (c .args .turn) (c .args .k) (c .args .w) y
+Right c y = Renewed (c .args .counts .now) (c .args .charges .now) (c .args .ends .now) (c .args .pairs .now) (c .args .n) (c .args .turn) (c .args .k) (c .args .w) y
 
 element-copy-out-s : tie.Need-element-copy-out-s Inv-loop μ-loop
 element-copy-out-s c = omega (arith, c .before .pre .0 .3 .few)
@@ -101,7 +101,7 @@ added c =
 small : (c : tie.Start Inv-loop μ-loop) (y : ℕ) → 1 ≤ y → y ≤ c .args .n → saves c (c .args .turn) y ≤ 126800
 small c y lo hi =
     let a = c .args in
-    saved-in-small (a .counts .now) (a .holds .now) (a .ends .now) (a .pairs .now) (a .turn) (a .k) (a .w) y (few c) (c .pre .0 .3 .each y lo hi .hold-to)
+    saved-in-small (a .counts .now) (a .charges .now) (a .ends .now) (a .pairs .now) (a .turn) (a .k) (a .w) y (few c) (c .pre .0 .3 .each y lo hi .charge-to)
 
 added-small : (c : tie.Joined1 Inv-loop μ-loop) → at (c .if1 .saved) (c .before .before .before .loop .y + 1) ≤ 126800
 added-small c = omega (arith, added c, small (c .before .before .before .before .before .before) (c .before .before .before .loop .y + 1) (omega arith) (omega arith))
@@ -139,8 +139,8 @@ done c =
 
 -- what the code multiplies is R of master k
 bound : (c : tie.Start Inv-loop μ-loop) → at (c .args .counts .now) (c .args .k) * c .args .turn
-    ≡ boundIn (c .args .counts .now) (c .args .holds .now) (c .args .n) (c .args .k)
-bound c = bound-is (c .args .counts .now) (c .args .holds .now) (c .args .n) (c .args .k) (c .args .turn) (c .pre .0 .3 .turn-is)
+    ≡ boundIn (c .args .counts .now) (c .args .charges .now) (c .args .n) (c .args .k)
+bound c = bound-is (c .args .counts .now) (c .args .charges .now) (c .args .n) (c .args .k) (c .args .turn) (c .pre .0 .3 .turn-is)
 
 sub-result : tie.Need-sub-result Inv-loop μ-loop
 sub-result c =

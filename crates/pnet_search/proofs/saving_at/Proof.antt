@@ -24,17 +24,17 @@ element-copy-out-end c = search needs
 cast-end : tie.Need-cast-end
 cast-end c = search needs
 
-mul-hold : tie.Need-mul-hold
-mul-hold c = search needs
+mul-charge : tie.Need-mul-charge
+mul-charge c = search needs
 
-element-copy-out-hold : tie.Need-element-copy-out-hold
-element-copy-out-hold c = search needs
+element-copy-out-charge : tie.Need-element-copy-out-charge
+element-copy-out-charge c = search needs
 
 -- R(y), and that it is small
 abbrev bound : tie.Start → ℕ
 bound c = at (c .args .counts .now) (c .args .y) * c .args .turn
 
-waited : (c : tie.After-hold) → bound (c .before .before .before .before) ≤ 4083200
+waited : (c : tie.After-charge) → bound (c .before .before .before .before) ≤ 4083200
 waited c =
     let a = c .before .before .before .before .args in
     let p = c .before .before .before .before .pre in
@@ -69,7 +69,7 @@ sub-saved-2 c = search needs
 mul-saved : tie.Need-mul-saved
 mul-saved c =
     let a = c .before .before .before .before .before .before .args in
-    omega (arith, saved-small (a .s) (c .before .look .result .asked) (at (a .holds .now) (a .y)) (omega arith) (omega arith))
+    omega (arith, saved-small (a .s) (c .before .look .result .asked) (at (a .charges .now) (a .y)) (omega arith) (omega arith))
 
 sub-until : tie.Need-sub-until
 sub-until c = search needs
@@ -83,7 +83,7 @@ unfolding askedAt
 returns c =
     let s = c .before .before .before .before .before .before .before in
     let e = c .before .before .look .ensures in
-    (omega arith, λ v l h. left-same {b = asks s v} (s .args .s) (at (s .args .holds .now) (s .args .y)) (e .2 (v + bound s) (omega arith) (omega arith)))
+    (omega arith, λ v l h. left-same {b = asks s v} (s .args .s) (at (s .args .charges .now) (s .args .y)) (e .2 (v + bound s) (omega arith) (omega arith)))
 
 pub saving-at-spec : {M : Type 1} → statement M
 saving-at-spec =
@@ -94,8 +94,8 @@ saving-at-spec =
     mul-end
     element-copy-out-end
     cast-end
-    mul-hold
-    element-copy-out-hold
+    mul-charge
+    element-copy-out-charge
     mul-bound
     cast-look
     sub-look

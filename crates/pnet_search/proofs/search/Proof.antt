@@ -12,16 +12,16 @@ use Rattle.pnet_search.proofs.search.Statement.{statement}
 use Rattle.pnet_search.proofs.search.Tie as tie
 
 abbrev Inv-loop : tie.InvT-loop
-Inv-loop counts holds ends slacks pairs n turn k saved₀ until₀ w₀ rounds₀ saved until w rounds =
-    Moving (rightIn counts holds ends pairs n k) rounds w × Fresh counts holds ends pairs n turn k w saved until
+Inv-loop counts charges ends slacks pairs n turn k saved₀ until₀ w₀ rounds₀ saved until w rounds =
+    Moving (rightIn counts charges ends pairs n k) rounds w × Fresh counts charges ends pairs n turn k w saved until
 
 abbrev μ-loop : tie.MeasureT-loop
-μ-loop counts holds ends slacks pairs n turn k saved₀ until₀ w₀ rounds₀ saved until w rounds =
+μ-loop counts charges ends slacks pairs n turn k saved₀ until₀ w₀ rounds₀ saved until w rounds =
     2 + (n - 1) * at counts k - rounds
 
 -- the right side of the search
 abbrev right : tie.Start Inv-loop μ-loop → ℕ → ℕ
-right c = rightIn (c .args .counts .now) (c .args .holds .now) (c .args .ends .now) (c .args .pairs .now) (c .args .n) (c .args .k)
+right c = rightIn (c .args .counts .now) (c .args .charges .now) (c .args .ends .now) (c .args .pairs .now) (c .args .n) (c .args .k)
 
 -- how often it moves at most
 abbrev most : tie.Start Inv-loop μ-loop → ℕ
@@ -32,7 +32,7 @@ begin-requires c κs =
     let k = c .before .before .before .args .k in
     let p = c .before .before .before .pre in (
       (p .2 .few, turn-small (p .2), omega (arith, p .2 .few), p .2 .each k (p .0) (p .1) .count-to, refl, refl),
-      λ y lo hi. (p .2 .each y lo hi .count-to, p .2 .each y lo hi .hold-from, p .2 .each y lo hi .hold-to, p .3 .covers y lo hi),
+      λ y lo hi. (p .2 .each y lo hi .count-to, p .2 .each y lo hi .charge-from, p .2 .each y lo hi .charge-to, p .3 .covers y lo hi),
     )
 
 loop-holds : tie.Need-loop-holds Inv-loop μ-loop
