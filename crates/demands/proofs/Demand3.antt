@@ -1,7 +1,7 @@
 -- Demand 3 from the bytes of a sheet: where the planner accepts a sheet, the number that stands in the lent run for R at master k's
--- place is kept to by every run of the bus, and no lower one would be. `planned` is what the planner answers, and `runOf` what a lent
--- run then holds: both are the words of its contract. The bus, its runs and the promise are those of crates/pnet_run.
--- Assumes nothing.
+-- place is kept to by every run of the bus, whichever the edition; and under edition 1 no lower one would be. `planned` is what the planner
+-- answers, and `runOf` what a lent run then holds: both are the words of its contract. The bus, its runs and the promise are those of
+-- crates/pnet_run. Assumes nothing.
 use Prim.Native.Nat.{ℕ, _+_, _-_, _≤_, _<_}
 use mathlib.Core.Path.{_≡_, ap, _∙_}
 use mathlib.Core.List.{List}
@@ -72,7 +72,7 @@ module _ (s bounds refined rounds : List ℕ) (H : Sheet) (accepts : planned s (
     each-request-is-answered-within-the-written-bound run spaced =
         rw written-is-bound (each-request-is-answered-within-the-bound H accepted-as-demanded k run spaced)
 
-    -- 'some such run takes exactly the bound'
+    -- 'some such run takes exactly the bound': 'asked only for edition 1' (page 02, Ask 10), which `Even` asks for
     pub some-run-takes-exactly-the-written-bound : 1 ≤ count (segmentOf H) k → Even (segmentOf H) k → Reached (bp written) (segmentOf H) k
     some-run-takes-exactly-the-written-bound some even = rw written-is-bound (some-run-takes-exactly-the-bound H in-range k some even)
 

@@ -1,33 +1,26 @@
 -- Page 02, Asks 2, 5 and 7, on a sheet with release jitter, from its bytes: the planner accepts it, writes W = 596 bp for master 1 and reports that with
 -- its ns; where all masters keep their spacing, each request of master 1 is answered within that, and some request takes exactly that. So nothing that
 -- Corrected and Shown suppose is empty, and the figure is no higher than it must be. Without J in the count it would be 356 (crates/pnet_run: Jitter).
--- Assumes nothing.
+-- The sheet names no edition, so edition 1 holds. Assumes nothing.
 use Prim.Native.Nat.{ℕ, _≤_}
 use mathlib.Core.Path.{_≡_, refl, _∙_}
 use mathlib.Core.List.{List, [], _∷_, _++_}
 use native.Mathlib.Omega.{arith}
 use lib.ListN.{length}
-use Rattle.common.specs.Checks.{verdict}
-use Rattle.common.specs.Sums.{upto, greatest, up, firstOf}
+use Rattle.common.specs.Sums.{up}
 use Rattle.sheet_record.specs.declared.Record.{Record}
-use Rattle.sheet_record.specs.Kinds.{kinds, lineOf, fieldsOf, busOf, partOf, isSetting, isStream, widths, sizeOf, known, fieldAt, decode, limit, within, ranged, inRange}
-use Rattle.sheet_record.specs.Numbers.{be}
-use Rattle.sheet_reader.specs.Walk.{byteChecks, foundAt}
-use Rattle.sheet_read.specs.Sheets.{Sheet, headOf, having, sheetOf, fits, ofKind, countOf, mostInAll, hasMasters, overLimit, metBefore}
-use Rattle.sheet_read.specs.Whole.{placeOf, recordsOf, before, recordChecks, endChecks, judge, ended, readFrom, reading}
+use Rattle.sheet_read.specs.Sheets.{Sheet}
 use Rattle.sheet_read.specs.Whole.Outcome.{Read}
 use Rattle.units.specs.Units.{bp, ns, nanosUp}
 use Rattle.units.specs.declared.BitPeriods.{BitPeriods}
-use Rattle.pnet_rules.specs.Segment.{Segment, segmentOf, streamAt, owns, count, longest, hold, turnBy, boundBy, turn, bound, late}
-use Rattle.pnet_rules.specs.Refined.{saving, rightBy, valueOf, stands, roundsOf, mostRounds, askedBy, right, rounds, refined}
-use Rattle.pnet_plan.specs.Planned.{firstLate, planChecks, planned}
+use Rattle.pnet_rules.specs.Segment.{Segment, segmentOf, count, bound}
+use Rattle.pnet_rules.specs.Refined.{rounds, refined}
+use Rattle.pnet_plan.specs.Planned.{planned}
 use Rattle.pnet_run.specs.Run.{Request, Answer, answer, Queues, Token, Run}
 use Rattle.pnet_run.specs.Promise.{Spaced, Answered, Reached}
 use Rattle.pnet_run.proofs.Jitter.{with-J-it-is-596, some-run-takes-W}
-use Rattle.text.specs.Text.{word, _·_, places, holds, widthOf, decimal, texts}
-use Rattle.report_phrases.specs.Phrases.{inBp, inNs, inBoth, twoCounts, nameOf}
-use Rattle.report_lines.specs.Lines.{masterLine}
-use Rattle.report_sheet.specs.Whole.{masterOf, mastersOf, segmentReport, firstBus, reportOf}
+use Rattle.text.specs.Text.{word, _·_}
+use Rattle.report_sheet.specs.Whole.{reportOf}
 use Rattle.demands.specs.Shown.{AnsweredWithin}
 use Rattle.demands.proofs.Corrected.{written-refined, written-refined-is-W, each-request-is-answered-within-the-written-refined-figure}
 use Rattle.demands.proofs.Shown.{what-the-report-shows-is-kept}
@@ -70,12 +63,12 @@ abbrev pub lent : List ℕ
 lent = 0 ∷ 0 ∷ []
 
 pub accepts : planned bytes (length lent) (length lent) (length lent) ≡ Read sheet
-unfolding planned planChecks verdict firstLate firstOf late segmentOf streamAt owns count longest hold turnBy boundBy bound upto reading readFrom ended judge recordChecks endChecks recordsOf placeOf headOf having sheetOf before fits ofKind countOf mostInAll hasMasters overLimit metBefore kinds lineOf fieldsOf busOf partOf isSetting isStream widths sizeOf known fieldAt decode limit within ranged inRange be
+unfolding planned
 accepts = refl
 
 -- the same with the 32 places that the program lends
 accepts-32 : planned bytes 32 32 32 ≡ Read sheet
-unfolding planned planChecks verdict firstLate firstOf late segmentOf streamAt owns count longest hold turnBy boundBy bound upto reading readFrom ended judge recordChecks endChecks recordsOf placeOf headOf having sheetOf before fits ofKind countOf mostInAll hasMasters overLimit metBefore kinds lineOf fieldsOf busOf partOf isSetting isStream widths sizeOf known fieldAt decode limit within ranged inRange be
+unfolding planned
 accepts-32 = refl
 
 -- what it writes for master 1 in the run for W
@@ -114,7 +107,7 @@ pub its-report : reportOf bytes
     ≡ word "P-NET segment\n"
     · word "M01 bound 596 bp 7760417 ns refined 596 bp 7760417 ns 2 rounds\n"
     · word "M02 bound 298 bp 3880209 ns refined 298 bp 3880209 ns 1 rounds\n"
-unfolding reportOf firstBus foundAt byteChecks segmentReport mastersOf masterOf texts masterLine nameOf twoCounts inBoth inBp inNs nanosUp up decimal places widthOf holds firstOf planned planChecks verdict firstLate late segmentOf streamAt owns count longest hold turnBy boundBy turn bound saving rightBy valueOf stands roundsOf mostRounds askedBy right rounds refined upto greatest reading readFrom ended judge recordChecks endChecks recordsOf placeOf headOf having sheetOf before fits ofKind countOf mostInAll hasMasters overLimit metBefore kinds lineOf fieldsOf busOf partOf isSetting isStream widths sizeOf known fieldAt decode limit within ranged inRange be
+unfolding reportOf
 its-report = refl
 
 shown-in-ns : nanosUp (bp (refined jittery 1)) ≡ ns 7760417
@@ -122,7 +115,7 @@ unfolding nanosUp up
 shown-in-ns = rw with-J-it-is-596
 
 some : 1 ≤ count jittery 1
-unfolding segmentOf streamAt owns count
+unfolding segmentOf count
 some = omega arith
 
 -- each response of master 1 is over within the ns shown, where all masters keep their spacing

@@ -17,3 +17,4 @@ pub mod Relayed
 pub mod Lines
 pub mod Shown
 pub mod JitterCase
+pub mod EditionCase

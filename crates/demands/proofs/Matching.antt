@@ -26,7 +26,7 @@ use borrow.Author.Tests.{eq-eqb, ne-eqb, eqb-true, le-ltb}
 use Rattle.common.specs.Sums.{when}
 use Rattle.sheet_record.proofs.Tables.{both-true}
 use Rattle.units.specs.Units.{bp}
-use Rattle.pnet_rules.specs.Segment.{Segment, hold, boundBy, bound}
+use Rattle.pnet_rules.specs.Segment.{Segment, charged, boundBy, bound}
 use Rattle.pnet_run.specs.Run.{
   Belongs,
   Request,
@@ -49,7 +49,7 @@ use Rattle.pnet_run.specs.Run.{
   skip,
 }
 use Rattle.pnet_run.specs.Promise.{Spaced, Answered, Accepted}
-use Rattle.pnet_run.proofs.Charges.{in-ring, hold-covers}
+use Rattle.pnet_run.proofs.Charges.{Covers, free, in-ring, charged-covers-visits}
 use Rattle.pnet_run.proofs.Queues.{put-same, put-other, owned}
 use Rattle.pnet_run.proofs.Answering.{NotLate}
 use Rattle.pnet_run.proofs.Bound.{waits-in-time, answered-by, first-differs, none-waits}
@@ -199,6 +199,10 @@ largest-most {R} {i} (and {e = e} {es = es} f w) = by (answers e i) (λ t. f (an
 -- ---- Every run
 
 module _ {S : Segment} (accepted : Accepted S) where
+  -- whichever the edition
+  cover : Covers (charged S) free S
+  cover = charged-covers-visits (accepted .declared)
+
   -- what crates/pnet_run says of a master k that has a stream
   module _ {k j : ℕ} (d : Belongs S k j) where
     ring : (1 ≤ k) × (k ≤ S .masters)
@@ -208,25 +212,25 @@ module _ {S : Segment} (accepted : Accepted S) where
     abbrev far : ℕ → ℕ
     far i = S .stream i .spacing - S .stream i .jitter
 
-    fits : (i : ℕ) → Belongs S k i → boundBy (hold S) S k ≤ far i
+    fits : (i : ℕ) → Belongs S k i → boundBy (charged S) S k ≤ far i
     unfolding bound
     fits i b = omega (arith, accepted .declared .ranges i (b .from-one) (b .to-last) .deadline-to, accepted .passes k i b)
 
     module _ {t : ℕ} {y : Token} {q : Queues} {came : List Request} {went : List Answer} (run : Run S t y q came went) where
       in-bound : Spaced S k came → Answered (bp (bound S k)) S k t y came went
       unfolding bound
-      in-bound spaced = answered-by S (hold S) k (ring .0) (ring .1) (hold-covers S) far fits run (spaced-apart (accepted .declared) run spaced)
+      in-bound spaced = answered-by S (charged S) k (ring .0) (ring .1) cover far fits run (spaced-apart (accepted .declared) run spaced)
 
       pub not-late : Spaced S k came → (r : Request) → List·Memᴰ r (q k) → NotLate (bound S k) (r .since) t y
       unfolding bound
-      not-late spaced = waits-in-time S (hold S) k (ring .0) (ring .1) (hold-covers S) far fits run (spaced-apart (accepted .declared) run spaced)
+      not-late spaced = waits-in-time S (charged S) k (ring .0) (ring .1) cover far fits run (spaced-apart (accepted .declared) run spaced)
 
       differs : {r p : Request} {rest : List Request} → Spaced S k came → q k ≡ r ∷ rest → List·Memᴰ p rest → r .of ≢ p .of
-      differs spaced e i = first-differs S (hold S) k (ring .0) (ring .1) (hold-covers S) far fits run (spaced-apart (accepted .declared) run spaced) e i
+      differs spaced e i = first-differs S (charged S) k (ring .0) (ring .1) cover far fits run (spaced-apart (accepted .declared) run spaced) e i
 
       pub alone : {i : ℕ} → Settled y → Belongs S k i → Spaced S k (request i t ∷ came) → (r : Request) → List·Memᴰ r (q k) → i ≢ r .of
       alone settled b spaced =
-          none-waits S (hold S) k (ring .0) (ring .1) (hold-covers S) far fits run settled b (spaced-apart (accepted .declared) (arrive run settled b) spaced)
+          none-waits S (charged S) k (ring .0) (ring .1) cover far fits run settled b (spaced-apart (accepted .declared) (arrive run settled b) spaced)
 
   pub earlier : {k : ℕ} {r : Request} {came : List Request} → Spaced S k (r ∷ came) → Spaced S k came
   earlier = spaced-before

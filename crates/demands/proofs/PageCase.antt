@@ -1,5 +1,6 @@
 -- Demand 3 on the page's worked segment, from its bytes: N = 4, two streams each, C = 203, T = 100,000, D = 2,000. The planner accepts it, some
--- run takes exactly 2,000 bp, and no lower figure is true. So nothing that the demand supposes is empty. Assumes nothing.
+-- run takes exactly 2,000 bp, and no lower figure is true. So nothing that the demand supposes is empty. The sheet names no edition, so edition 1
+-- holds. Assumes nothing.
 use Prim.Native.Nat.{ℕ, _-_, _≤_, _<_, zero, suc}
 use mathlib.Core.Path.{_≡_, refl, sym, ap, _∙_}
 use mathlib.Core.Bool.{Bool, true, _&&_}
@@ -10,20 +11,16 @@ use native.Mathlib.Decide.{ℕ-discrete}
 use borrow.Author.Tests.{eqb-true}
 use lib.Dec.{eqb}
 use lib.ListN.{length, getD}
-use Rattle.common.specs.Checks.{verdict}
-use Rattle.common.specs.Sums.{upto, firstOf}
 use Rattle.sheet_record.specs.declared.Record.{Record}
-use Rattle.sheet_record.specs.Kinds.{kinds, lineOf, fieldsOf, busOf, partOf, isSetting, isStream, widths, sizeOf, known, fieldAt, decode, encode, body, limit, within, ranged, inRange, nothing}
-use Rattle.sheet_record.specs.Numbers.{be, digits}
+use Rattle.sheet_record.specs.Kinds.{nothing}
 use Rattle.sheet_record.proofs.Tables.{both-true}
-use Rattle.sheet_read.specs.Sheets.{Sheet, headOf, having, sheetOf, fits, ofKind, countOf, mostInAll, hasMasters, overLimit, metBefore}
-use Rattle.sheet_read.specs.Whole.{placeOf, recordsOf, before, recordChecks, endChecks, judge, ended, readFrom, reading}
+use Rattle.sheet_read.specs.Sheets.{Sheet}
 use Rattle.sheet_read.specs.Whole.Outcome.{Read}
 use Rattle.sheet_read.specs.Records.{recordsIn, bytesOf}
 use Rattle.units.specs.Units.{bp}
 use Rattle.units.specs.declared.BitPeriods.{BitPeriods}
-use Rattle.pnet_rules.specs.Segment.{Segment, segmentOf, streamAt, owns, count, longest, hold, turnBy, boundBy, bound, late}
-use Rattle.pnet_plan.specs.Planned.{firstLate, planChecks, planned}
+use Rattle.pnet_rules.specs.Segment.{Segment, segmentOf, count, bound}
+use Rattle.pnet_plan.specs.Planned.{planned}
 use Rattle.pnet_run.specs.Promise.{Safe, Reached, Even}
 use Rattle.demands.proofs.Demand3.{written, written-is-bound, some-run-takes-exactly-the-written-bound, no-lower-figure-than-the-written-would-be-true}
 
@@ -53,7 +50,7 @@ abbrev pub page : Segment
 page = segmentOf sheet
 
 pub accepts : planned bytes (length lent) (length lent) (length lent) ≡ Read sheet
-unfolding sheet bytes recordsIn bytesOf encode body digits planned planChecks verdict firstLate firstOf late segmentOf streamAt owns count longest hold turnBy boundBy bound upto reading readFrom ended judge recordChecks endChecks recordsOf placeOf headOf having sheetOf before fits ofKind countOf mostInAll hasMasters overLimit metBefore kinds lineOf fieldsOf busOf partOf isSetting isStream widths sizeOf known fieldAt decode limit within ranged inRange be
+unfolding sheet bytes planned
 accepts = refl
 
 -- ---- It is even
@@ -69,11 +66,11 @@ all-at c (r ∷ rs) e zero l = eqb-true (r .b) c (both-true (eqb (r .b) c) (all 
 all-at c (r ∷ rs) e (suc i) l = all-at c rs (both-true (eqb (r .b) c) (all c rs) e .1) i (omega arith)
 
 cycles : (i : ℕ) → 1 ≤ i → i ≤ page .number → page .stream i .cycle ≡ 203
-unfolding sheet segmentOf streamAt
+unfolding sheet segmentOf
 cycles i lo hi = all-at 203 (sheet .streams) refl (i - 1) (omega arith)
 
 counts : (y : ℕ) → 1 ≤ y → y ≤ page .masters → count page y ≡ 2
-unfolding sheet segmentOf streamAt owns count
+unfolding sheet segmentOf count
 counts y lo hi = by (ℕ-discrete y 1) (ℕ-discrete y 2) (ℕ-discrete y 3)
   where
     by : Dec (y ≡ 1) → Dec (y ≡ 2) → Dec (y ≡ 3) → count page y ≡ 2
@@ -83,8 +80,10 @@ counts y lo hi = by (ℕ-discrete y 1) (ℕ-discrete y 2) (ℕ-discrete y 3)
     by (no a) (no b) (no c) = let e : y ≡ 4 = omega (arith, a, b, c) in ap (count page) e
 
 pub even : Even page 1
+unfolding sheet segmentOf
 even =
     record {
+      first-edition = refl;
       alike = λ m i j b c. cycles i (b .from-one) (b .to-last) ∙ sym (cycles j (c .from-one) (c .to-last));
       others = λ y lo hi z. inr (omega (arith, counts 1 (omega arith) (omega arith), counts y lo hi));
     }
@@ -101,7 +100,7 @@ unfolding segmentOf
 some = omega (arith, counts 1 (omega arith) one)
 
 bound-is-2000 : bound page 1 ≡ 2000
-unfolding sheet segmentOf streamAt owns count longest hold turnBy boundBy bound upto
+unfolding sheet segmentOf bound
 bound-is-2000 = refl
 
 -- what the planner writes for it

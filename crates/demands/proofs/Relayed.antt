@@ -1,5 +1,5 @@
 -- Page 02, 'Ask 4': what a path's cost promises. A request that is relayed over an accepted path has its reply within the cost, and so within D;
--- where each segment's masters are even, some exchange takes exactly the cost, so no lower figure would be true. `crossed` is what a path is
+-- where each segment is of edition 1 and its masters are even, some exchange takes exactly the cost, so no lower figure would be true. `crossed` is what a path is
 -- answered, and `Exchange P a b` a request that is relayed over it and its reply: specs/Relayed says what is assumed of the gateways.
 -- Assumes nothing.
 use Prim.Native.Nat.{ℕ, zero, suc, _+_, _-_, _*_, _^_, _≤_, _<_}
@@ -174,7 +174,8 @@ module _ (P : Path) (c : ℕ) (accepts : crossed P ≡ crossing.Within (bp c)) w
       let r = each-is-answered (segmentAt P) (senderAt P) (forwardingAt P) (boundAt P) (gateways P) safe x in
       (r .0, (r .1, the-reply-is-there-within-the-cost (r .1)))
 
-  -- On each segment every master's own streams are equally long, and every master but the sender is silent or has at least as many streams.
+  -- Each segment is of edition 1, every master's own streams are equally long there, and every master but the sender is silent or has at least as many
+  -- streams.
   module _ (even : (i : ℕ) → 1 ≤ i → i ≤ P .segments → Even (segmentAt P i) (senderAt P i)) where
     -- from some instant m on, an exchange that begins at any instant a takes exactly the cost
     pub some-exchange-takes-exactly-the-cost : (m : ℕ) × ((a : ℕ) → m ≤ a → Exchange P a (a + c))

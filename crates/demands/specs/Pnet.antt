@@ -1,6 +1,6 @@
 -- Page 01, 'P-NET bounds' and 'Numbered refusals', in the page's own words: what the P-NET planner answers to the bytes of a sheet, and what the
--- three lent runs hold then. s, H, V, R and the right side for W are those of crates/pnet_rules, with the count of page 02, Asks 2 and 7.
--- Assumes nothing.
+-- three lent runs hold then. s, H, V, R and the right side for W are those of crates/pnet_rules, with the count of page 02, Asks 2 and 7, and the
+-- charge of the sheet's edition, Ask 10. Assumes nothing.
 use Prim.Native.Nat.{ℕ, _+_, _-_, _*_, _≤_, _<_}
 use mathlib.Core.Path.{_≡_}
 use mathlib.Core.List.{List}

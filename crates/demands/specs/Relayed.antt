@@ -50,7 +50,7 @@ mutual
 -- what a sheet declares; one that is refused declares nothing
 abbrev pub segmentFrom : Outcome → Segment
 segmentFrom (Read H) = segmentOf H
-segmentFrom (Not n p) = record { masters = 0; number = 0; stream = λ i. streamOf nothing }
+segmentFrom (Not n p) = record { edition = 1; masters = 0; number = 0; stream = λ i. streamOf nothing }
 
 unfoldable pub segmentAt : Path → ℕ → Segment
 unfolding sheetAt segmentOf

@@ -1,5 +1,5 @@
--- A declared stream and its master, and the charges that cover a visit: the page's H does, 10 bp for an unused visit, and 7 bp
--- reaction, C and a 40 bp pass for a used one. Assumes nothing.
+-- A declared stream and its master, and the charges that cover a visit: 10 bp for an unused one, and 7 bp reaction, C and a 40 bp pass for
+-- a used one. The page's H covers both, and so does any charge that is at least H, as that of either edition is. Assumes nothing.
 use Prim.Native.Nat.{ℕ, zero, suc, _+_, _≤_}
 use mathlib.Core.Path.{_≡_, refl}
 use mathlib.Core.Bool.{Bool, true, false}
@@ -9,9 +9,9 @@ use lib.Dec.{eqb}
 use borrow.Author.Tests.{eq-eqb, eqb-true}
 use Rattle.common.specs.Sums.{when, upto}
 use Rattle.common.proofs.Sums.{upto-most, greatest-least}
-use Rattle.pnet_rules.specs.Segment.{Segment, owns, count, longest, hold}
+use Rattle.pnet_rules.specs.Segment.{Segment, owns, count, longest, hold, charged}
 use Rattle.pnet_rules.specs.Limits.{Declared}
-use Rattle.pnet_rules.proofs.Holds.{count-owned, cycle-at-most-longest, hold-some, hold-at-least, cycle-held}
+use Rattle.pnet_rules.proofs.Holds.{count-owned, cycle-at-most-longest, hold-some, hold-at-least, cycle-held, charged-covers}
 use Rattle.pnet_run.specs.Run.{Belongs}
 
 -- ---- A stream of master m
@@ -65,11 +65,18 @@ pub record Covers (h x : ℕ → ℕ) (S : Segment) : Type 0 where
 abbrev pub free : ℕ → ℕ
 free y = 0
 
-pub hold-covers : (S : Segment) → Covers (hold S) free S
-hold-covers S = record {
-  unused = λ y a b. hold-at-least S y;
-  used = λ y i b. omega (arith, rw (b .own) at (cycle-held S i (b .from-one) (b .to-last)));
+-- a charge that is at least H, at masters 1..N, covers every visit
+pub covers-if : {S : Segment} {h : ℕ → ℕ} → Declared S → ((y : ℕ) → 1 ≤ y → y ≤ S .masters → hold S y ≤ h y) → Covers h free S
+covers-if {S} declared least = record {
+  unused = λ y lo hi. omega (arith, hold-at-least S y, least y lo hi);
+  used = λ y i b.
+      let ring = in-ring declared b in
+      omega (arith, least y (ring .0) (ring .1), rw (b .own) at (cycle-held S i (b .from-one) (b .to-last)));
 }
+
+-- so that of either edition does
+pub charged-covers-visits : {S : Segment} → Declared S → Covers (charged S) free S
+charged-covers-visits {S} declared = covers-if declared (charged-covers S)
 
 -- where a master's streams are equally long, H is what a used visit takes at most, and no more
 pub hold-alike : {S : Segment} {m i : ℕ} → Belongs S m i → ((j : ℕ) → Belongs S m j → S .stream j .cycle ≡ S .stream i .cycle)

@@ -1,4 +1,4 @@
--- Some run takes exactly the bound. Assumes nothing.
+-- Some run takes exactly the bound of edition 1. Assumes nothing.
 --
 -- The run: every stream asks once at 0, the token has just left master k, and every reaction and message is as long as can be. From
 -- then on each turn takes V, and brings k's queue forward by one. So k's last request is answered after s turns.
@@ -12,11 +12,11 @@ use native.Mathlib.Omega.{arith}
 use lib.ListN.{length, length-map}
 use lib.Dec.{ltb}
 use borrow.Author.Tests.{lt-ltb, le-ltb}
-use Rattle.common.specs.Sums.{when}
+use Rattle.common.specs.Sums.{when, upto}
 use Rattle.units.specs.Units.{bp}
-use Rattle.pnet_rules.specs.Segment.{Segment, owns, count, hold, turn, turnBy, boundBy, bound}
+use Rattle.pnet_rules.specs.Segment.{Segment, owns, count, hold, charged, turn, turnBy, boundBy, bound}
 use Rattle.pnet_rules.specs.Limits.{Declared}
-use Rattle.pnet_rules.proofs.Holds.{hold-none}
+use Rattle.pnet_rules.proofs.Holds.{hold-none, charged-first}
 use Rattle.pnet_run.specs.Run.{
   Belongs,
   Request,
@@ -174,6 +174,11 @@ module _ (S : Segment) (k : ℕ) (1≤k : 1 ≤ k) (k≤n : k ≤ S .masters) (d
 
   -- ---- One turn
 
+  -- V is the sum of H: so it is under edition 1
+  turn-first : turn S ≡ upto (hold S) N
+  unfolding turn turnBy
+  turn-first = ap (λ (h : ℕ → ℕ). upto h N) (charged-first S (λ e. omega (arith, even .first-edition)))
+
   record Arrived (j m t : ℕ) : Type 0 where
     now : ℕ
     went : List Answer
@@ -205,7 +210,6 @@ module _ (S : Segment) (k : ℕ) (1≤k : 1 ≤ k) (k≤n : k ≤ S .masters) (d
     stage : Stage j (after k) t (toward (after k) 40) (answer slow t ∷ went)
 
   turned : {j t : ℕ} {went : List Answer} → j < count S k → Stage j (after k) t (toward (after k) 40) went → Turned (suc j) (t + turn S)
-  unfolding turn turnBy
   turned {j} {t} l g = at-k (walk (far (after k)) refl (next-in k≤n .0) (next-in k≤n .1) l (passed {d = 0} 40 g))
     where
       at-k : Arrived j (after k) (t + 40) → Turned (suc j) (t + turn S)
@@ -225,7 +229,7 @@ module _ (S : Segment) (k : ℕ) (1≤k : 1 ≤ k) (k≤n : k ≤ S .masters) (d
               own = owned (r .stage .run) k s (rw p (List·Memᴰ·head refl))
 
               time : r .now + (7 + S .stream (s .of) .cycle) ≡ t + turn S
-              time = omega (arith, r .time, hold-served (s .of) own, gap-lap (hold S) N k 1≤k k≤n)
+              time = omega (arith, r .time, hold-served (s .of) own, gap-lap (hold S) N k 1≤k k≤n, turn-first)
 
   -- ---- All turns
 
@@ -267,7 +271,7 @@ module _ (S : Segment) (k : ℕ) (1≤k : 1 ≤ k) (k≤n : k ≤ S .masters) (d
   }
     where
       time : r .slow .since + bound S k ≡ j * turn S + turn S
-      time = omega (arith, r .since, ap (λ (x : ℕ). x * turnBy (hold S) S) e)
+      time = omega (arith, r .since, ap (λ (x : ℕ). x * turnBy (charged S) S) e)
 
   pub exact : 1 ≤ count S k → Reached (bp (bound S k)) S k
   exact some = reached (count S k - 1) (omega arith) (turned (omega arith) (turns (count S k - 1) (omega arith) .stage))

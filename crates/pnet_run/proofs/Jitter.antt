@@ -1,8 +1,8 @@
 -- Page 02, Ask 7, on two sheets, step by step. On the first the count of the refined figure needs its J: every master keeps its spacing, and a
 -- request of master 1 takes 596 bp, which is W; with the count without J the figure would be 356. On the second, two requests of one stream
 -- lie within J behind one and the same nominal time, and the second takes 95 bp where the bound is 48: so each needs a nominal time of
--- its own. Assumes nothing.
-use Prim.Native.Nat.{ℕ, zero, suc, _+_, _≤_}
+-- its own. The sheets name no edition, so edition 1 holds. Assumes nothing.
+use Prim.Native.Nat.{ℕ, _+_, _≤_}
 use mathlib.Core.Path.{_≡_, refl}
 use mathlib.Core.Bool.{false}
 use mathlib.Core.Logic.{_⊎_, inr, ⊎-elim}
@@ -18,10 +18,9 @@ use Rattle.pnet_rules.specs.Limits.{Ranged, Declared}
 use Rattle.pnet_rules.proofs.Declares.{stream-ranged}
 use Rattle.pnet_run.specs.Run.{Belongs, Request, request, Answer, answer, Queues, put, Token, toward, on-way, next, Run, start, arrive, travel}
 use Rattle.pnet_run.specs.Promise.{Kept, quiet, other, asks, Spaced, Answered, Reached, Accepted}
-use Rattle.pnet_run.proofs.Charges.{count-most}
+use Rattle.pnet_run.proofs.Few.{each, alone, limits, declared-if-few}
 use Rattle.pnet_run.proofs.Slowest.{slowest}
 use Rattle.pnet_run.proofs.Demand.{accepted-if-none-is-late, each-request-is-answered-within-the-bound}
-use Rattle.pnet_run.proofs.TwoMasters.{each, limits}
 
 -- ---- A sheet on which J counts
 
@@ -59,14 +58,9 @@ jittery-in-range = stream-ranged (limits 2) (jittery 356) refl refl
 
 late-pair-declared : Declared late-pair
 unfolding segmentOf
-late-pair-declared = record {
-  masters-from = omega arith;
-  masters-to = omega arith;
-  number-from = omega arith;
-  number-to = omega arith;
-  ranges = each (λ i. Ranged 2 (late-pair .stream i)) short-in-range short-in-range jittery-in-range;
-  counts = λ k. omega (arith, count-most late-pair k);
-}
+late-pair-declared =
+    declared-if-few late-pair (omega arith) (omega arith) (omega arith) (omega arith)
+    (each (λ i. Ranged 2 (late-pair .stream i)) short-in-range short-in-range jittery-in-range)
 
 pub late-pair-is-accepted : Accepted late-pair
 unfolding segmentOf late
@@ -174,26 +168,13 @@ crowded-sheet = record { head = record { kind = 1; a = 1; b = 0; c = 0; d = 0; e
 abbrev pub crowded : Segment
 crowded = segmentOf crowded-sheet
 
--- of one stream
-alone : (P : ℕ → Type 0) → P 1 → (i : ℕ) → 1 ≤ i → i ≤ 1 → P i
-alone P x zero lo hi = absurd (omega arith)
-alone P x (suc zero) lo hi = x
-alone P x (suc (suc i)) lo hi = absurd (omega arith)
-
 crowding-in-range : Ranged 1 (streamOf crowding)
 unfolding isStreamOf inRange
 crowding-in-range = stream-ranged (limits 1) crowding refl refl
 
 crowded-declared : Declared crowded
 unfolding segmentOf
-crowded-declared = record {
-  masters-from = omega arith;
-  masters-to = omega arith;
-  number-from = omega arith;
-  number-to = omega arith;
-  ranges = alone (λ i. Ranged 1 (crowded .stream i)) crowding-in-range;
-  counts = λ k. omega (arith, count-most crowded k);
-}
+crowded-declared = declared-if-few crowded (omega arith) (omega arith) (omega arith) (omega arith) (alone (λ i. Ranged 1 (crowded .stream i)) crowding-in-range)
 
 pub crowded-is-accepted : Accepted crowded
 unfolding segmentOf late

@@ -17,5 +17,7 @@ pub mod Progress
 pub mod Refined
 pub mod Literal
 pub mod Demand
+pub mod Few
 pub mod TwoMasters
 pub mod Jitter
+pub mod Editions

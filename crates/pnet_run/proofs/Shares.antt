@@ -16,15 +16,15 @@ use Rattle.pnet_rules.proofs.Figures.{right-is-sum-by, asked-rises}
 use Rattle.pnet_run.proofs.Charges.{Covers, free}
 
 -- s visits of which a can be used: all of them in full, or 10 for each and H - 10 for each used one
-charged : (H s a : ℕ) → 10 ≤ H → (own all : Bool) → leb s a ≡ all
+either-way : (H s a : ℕ) → 10 ≤ H → (own all : Bool) → leb s a ≡ all
     → s * cond (own || all) H 10 + a * cond (own || all) 0 (H - 10) ≡ cond own (s * H) (10 * s + min s a * (H - 10))
-charged H s a big true all e = omega arith
-charged H s a big false true e =
+either-way H s a big true all e = omega arith
+either-way H s a big false true e =
     let l : s ≤ a = leb-true s a e in
     let m : min s a * (H - 10) ≡ s * (H - 10) = ap (λ (x : ℕ). x * (H - 10)) (omega arith) in
     let w : s * (10 + (H - 10)) ≡ s * H = ap (λ (x : ℕ). s * x) (omega arith) in
     omega (arith, m, w, mul-add s 10 (H - 10))
-charged H s a big false false e =
+either-way H s a big false false e =
     let l : a < s = leb-false s a e in
     let m : min s a * (H - 10) ≡ a * (H - 10) = ap (λ (x : ℕ). x * (H - 10)) (omega arith) in
     omega (arith, m)
@@ -93,7 +93,7 @@ module _ (h : ℕ → ℕ) (S : Segment) (W : ℕ) where
     -- master y's part of the right side
     term : (y : ℕ) → 10 ≤ h y → count S k * share y + askedBy h S y W * extra y ≡ charge h (count S k) k (askedBy h S y W) y
     unfolding share extra charge
-    term y big = charged (h y) (count S k) (askedBy h S y W) big (eqb y k) (leb (count S k) (askedBy h S y W)) refl
+    term y big = either-way (h y) (count S k) (askedBy h S y W) big (eqb y k) (leb (count S k) (askedBy h S y W)) refl
 
     pub shares-are-the-right-side : ((y : ℕ) → 1 ≤ y → y ≤ S .masters → 10 ≤ h y) → 1 ≤ k → k ≤ S .masters
         → ((i : ℕ) → 1 ≤ i → i ≤ S .number → (1 ≤ S .stream i .master) × (S .stream i .master ≤ S .masters))

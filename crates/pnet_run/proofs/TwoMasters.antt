@@ -1,13 +1,12 @@
 -- The refined figure on page 01's third sheet, step by step: W of master 1 is 760 bp. A run in which every master keeps its spacing takes 760 bp; one in
 -- which master 2 asks oftener than declared takes 1,000. So on this sheet W is no larger than it must be, and it needs the spacing of
--- every master, not of master 1 alone. Assumes nothing.
-use Prim.Native.Nat.{ℕ, zero, suc, _+_, _≤_}
+-- every master, not of master 1 alone. The sheet names no edition, so edition 1 holds. Assumes nothing.
+use Prim.Native.Nat.{ℕ, _+_, _≤_}
 use mathlib.Core.Path.{_≡_, refl, ap}
 use mathlib.Core.Logic.{_≢_, ⊎-elim}
 use mathlib.Core.Bool.{false}
 use mathlib.Core.List.{List, [], _∷_, List·Memᴰ, List·Memᴰ·head, List·Memᴰ·not-nil, List·Memᴰ·cases-cons}
 use native.Mathlib.Omega.{arith}
-use Rattle.sheet_record.specs.declared.Given.{Given}
 use Rattle.sheet_record.specs.declared.Record.{Record}
 use Rattle.sheet_record.specs.Kinds.{isStreamOf, inRange}
 use Rattle.units.specs.Units.{bp}
@@ -17,7 +16,7 @@ use Rattle.pnet_rules.specs.Limits.{Ranged, Declared}
 use Rattle.pnet_rules.proofs.Declares.{stream-ranged}
 use Rattle.pnet_run.specs.Run.{Belongs, Request, request, Answer, answer, Queues, put, Token, toward, on-way, next, Run, start, arrive, travel, skip}
 use Rattle.pnet_run.specs.Promise.{none, and, Spaced, Answered, Reached, Accepted}
-use Rattle.pnet_run.proofs.Charges.{count-most}
+use Rattle.pnet_run.proofs.Few.{each, limits, declared-if-few}
 use Rattle.pnet_run.proofs.Picked.{picked}
 use Rattle.pnet_run.proofs.Spacing.{apart-spaced}
 use Rattle.pnet_run.proofs.Slowest.{slowest, asked, queuesTo, askedTo, all-asked, asked-each, asked-spaced}
@@ -37,18 +36,6 @@ pub refined-is-760 : refined two 1 ≡ 760
 unfolding segmentOf refined
 refined-is-760 = refl
 
--- stream by stream
-pub each : (P : ℕ → Type 0) → P 1 → P 2 → P 3 → (i : ℕ) → 1 ≤ i → i ≤ 3 → P i
-each P x y z zero lo hi = absurd (omega arith)
-each P x y z (suc zero) lo hi = x
-each P x y z (suc (suc zero)) lo hi = y
-each P x y z (suc (suc (suc zero))) lo hi = z
-each P x y z (suc (suc (suc (suc i)))) lo hi = absurd (omega arith)
-
--- what stands before a stream of a segment of n masters
-abbrev pub limits : ℕ → Given
-limits n = record { masters = n; message = 0 }
-
 first-in-range : Ranged 2 (streamOf (stream 1))
 unfolding isStreamOf inRange
 first-in-range = stream-ranged (limits 2) (stream 1) refl refl
@@ -59,14 +46,7 @@ second-in-range = stream-ranged (limits 2) (stream 2) refl refl
 
 declared : Declared two
 unfolding segmentOf
-declared = record {
-  masters-from = omega arith;
-  masters-to = omega arith;
-  number-from = omega arith;
-  number-to = omega arith;
-  ranges = each (λ i. Ranged 2 (two .stream i)) first-in-range first-in-range second-in-range;
-  counts = λ k. omega (arith, count-most two k);
-}
+declared = declared-if-few two (omega arith) (omega arith) (omega arith) (omega arith) (each (λ i. Ranged 2 (two .stream i)) first-in-range first-in-range second-in-range)
 
 pub two-is-accepted : Accepted two
 unfolding segmentOf late

@@ -71,7 +71,10 @@ pub record Accepted (S : Segment) : Type 0 where
   pub declared : Declared S
   pub passes : (m i : ℕ) → Belongs S m i → bound S m ≤ S .stream i .deadline
 
--- each master's own streams are equally long, and every master but k is silent or has at least as many streams as k
+-- where some run is asked to take exactly the bound. Page 02, Ask 10: 'the exactness part of demand 3 is asked only for edition 1'; there each
+-- master is charged its own H. And page 01: each master's own streams are equally long, and every master but k is silent or has at least as many
+-- streams as k
 pub record Even (S : Segment) (k : ℕ) : Type 0 where
+  pub first-edition : S .edition ≡ 1
   pub alike : (m i j : ℕ) → Belongs S m i → Belongs S m j → S .stream i .cycle ≡ S .stream j .cycle
   pub others : (y : ℕ) → 1 ≤ y → y ≤ S .masters → y ≢ k → (count S y ≡ 0) ⊎ (count S k ≤ count S y)
