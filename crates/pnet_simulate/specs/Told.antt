@@ -12,6 +12,7 @@ use Rattle.pnet_simulate.specs.Simulated.{Bus}
 abbrev pub segmentBy : ℕ → List ℕ → List ℕ → Segment
 segmentBy n owner cycle =
     record {
+      edition = 1;
       masters = n;
       number = length owner;
       stream = λ i. record { master = getD owner (i - 1) 0; cycle = getD cycle (i - 1) 0; spacing = 0; deadline = 0; jitter = 0 };
