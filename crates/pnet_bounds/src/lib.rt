@@ -25,6 +25,12 @@ pub enum Sender {
     Refused { no: u8, place: usize },
 }
 
+// V of a sheet under its edition, and its first stream whose master's R is above its D, the number past the last where there is none.
+struct Judged {
+    turn: u32,
+    late: usize,
+}
+
 // The first of n streams whose master's R is above its D, and n + 1 where there is none; turn is V.
 fn first_late(s: &[u8], first: usize, n: usize, counts: &[u8; 33], turn: u32) -> usize
     requires { ⌜ Ready (now s) pnet first n ⌝ }
@@ -44,6 +50,24 @@ fn first_late(s: &[u8], first: usize, n: usize, counts: &[u8; 33], turn: u32) ->
         i += 1;
     }
     n + 1
+}
+
+// A P-NET sheet of N masters and n streams judged.
+fn judge(
+    s: &[u8],
+    all: usize,
+    first: usize,
+    n: usize,
+    counts: &[u8; 33],
+    longests: &[u32; 33],
+) -> Judged
+    requires { ⌜ Sheeted (now s) all n first (now counts) (now longests) ⌝ }
+    ensures { λ r. ⌜ (r .turn ≡ Segment.turn (segmentIn (now (s .entry)))) × (r .late ≡ firstLate (segmentIn (now (s .entry)))) ⌝ }
+{
+    let edition = sheet_read::edition(s);
+    let turn = pnet_turn::turn_of(counts, longests, all, edition).0;
+    let late = first_late(s, first, n, counts, turn);
+    Judged { turn, late }
 }
 
 // Each stream's master, bound, spacing and jitter; turn is V.
@@ -100,12 +124,22 @@ fn bounds_of(
     ensures { λ _. ⌜ now (spacing .exit) ≡ streamRun (bounded (now (s .entry)) room) spacingOf (now (spacing .entry)) ⌝ }
     ensures { λ _. ⌜ now (jitter .exit) ≡ streamRun (bounded (now (s .entry)) room) jitterOf (now (jitter .entry)) ⌝ }
 {
-    let turn = pnet_turn::turn_of(counts, longests, all).0;
-    let late = first_late(s, first, n, counts, turn);
+    let found = judge(s, all, first, n, counts, longests);
+    let late = found.late;
     if late <= n {
         return Plan::Refused { no: 8, place: late };
     }
-    by_stream(s, first, n, counts, turn, masters, bound, spacing, jitter);
+    by_stream(
+        s,
+        first,
+        n,
+        counts,
+        found.turn,
+        masters,
+        bound,
+        spacing,
+        jitter,
+    );
     Plan::Accepted {
         masters: all,
         streams: n,
@@ -187,11 +221,11 @@ fn bound_by(
     requires { ⌜ Sheeted (now s) all n first (now counts) (now longests) ⌝ }
     ensures { λ r. ⌜ r ≡ senderOf (sound (now (s .entry))) master ⌝ }
 {
-    let turn = pnet_turn::turn_of(counts, longests, all).0;
-    let late = first_late(s, first, n, counts, turn);
+    let found = judge(s, all, first, n, counts, longests);
+    let late = found.late;
     if n < late {
         let own = streams_of(counts, master) as u32;
-        let bound = own * turn;
+        let bound = own * found.turn;
         return Sender::Bound(BitPeriods(bound));
     }
     Sender::Refused { no: 8, place: late }
