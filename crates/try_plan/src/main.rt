@@ -217,7 +217,7 @@ fn try_line(line: &[u8]) {
     if line[0] == b'#' {
         say(line);
     } else {
-        let mut case = [0u8; 12805];
+        let mut case = [0u8; 12807];
         let n = text_hex::put_bytes(&mut case, line);
         try_case(line[1], &case[..n]);
     }
