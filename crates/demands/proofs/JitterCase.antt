@@ -19,8 +19,10 @@ use Rattle.pnet_plan.specs.Planned.{planned}
 use Rattle.pnet_run.specs.Run.{Request, Answer, answer, Queues, Token, Run}
 use Rattle.pnet_run.specs.Promise.{Spaced, Answered, Reached}
 use Rattle.pnet_run.proofs.Jitter.{with-J-it-is-596, some-run-takes-W}
-use Rattle.text.specs.Text.{word, _·_}
-use Rattle.report_sheet.specs.Whole.{reportOf}
+use Rattle.text.specs.Text.{word, _·_, places, holds, widthOf, decimal, texts}
+use Rattle.report_phrases.specs.Phrases.{inBp, inNs, inBoth, twoCounts, nameOf}
+use Rattle.report_lines.specs.Lines.{masterLine}
+use Rattle.report_sheet.specs.Whole.{masterOf, mastersOf, segmentReport, firstBus, reportOf}
 use Rattle.demands.specs.Shown.{AnsweredWithin}
 use Rattle.demands.proofs.Corrected.{written-refined, written-refined-is-W, each-request-is-answered-within-the-written-refined-figure}
 use Rattle.demands.proofs.Shown.{what-the-report-shows-is-kept}
@@ -107,7 +109,7 @@ pub its-report : reportOf bytes
     ≡ word "P-NET segment\n"
     · word "M01 bound 596 bp 7760417 ns refined 596 bp 7760417 ns 2 rounds\n"
     · word "M02 bound 298 bp 3880209 ns refined 298 bp 3880209 ns 1 rounds\n"
-unfolding reportOf
+unfolding reportOf firstBus segmentReport mastersOf masterOf planned refined texts masterLine nameOf twoCounts inBoth inBp inNs nanosUp decimal places widthOf holds
 its-report = refl
 
 shown-in-ns : nanosUp (bp (refined jittery 1)) ≡ ns 7760417
