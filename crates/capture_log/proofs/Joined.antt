@@ -15,7 +15,7 @@ use Rattle.common.specs.Sums.{when, up}
 use Rattle.sheet_record.specs.Numbers.{be}
 use Rattle.sheet_record.specs.Kinds.{within}
 use Rattle.sheet_record.proofs.Numbers.{be-same}
-use Rattle.sheet_record.proofs.Ranges.{within-range}
+use Rattle.sheet_ranges.proofs.Ranges.{within-range}
 use Rattle.sheet_record.proofs.Tables.{both-true}
 use Rattle.capture_log.specs.declared.Event.{Event}
 use Rattle.capture_log.specs.Log.{Before, around, answers, left, since, shown, answered, largest, above}

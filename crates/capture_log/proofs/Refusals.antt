@@ -18,7 +18,7 @@ use Rattle.common.proofs.Checks.Applies.{here, later}
 use Rattle.common.proofs.Checks.Clear.{none, and}
 use Rattle.common.proofs.Firsts.{First, first-is, found-first, found-none}
 use Rattle.sheet_record.specs.Kinds.{within}
-use Rattle.sheet_record.proofs.Ranges.{within-range, range-within}
+use Rattle.sheet_ranges.proofs.Ranges.{within-range, range-within}
 use Rattle.sheet_record.proofs.Tables.{both-true}
 use Rattle.capture_log.specs.declared.Event.{Event}
 use Rattle.capture_log.specs.Log.{fresh, asks, answers, left}

@@ -16,7 +16,7 @@ use Rattle.common.specs.Runs.{tab}
 use Rattle.common.specs.Sums.{when, up}
 use Rattle.common.proofs.Firsts.{found-first, found-none}
 use Rattle.common.proofs.Runs.{tab-places}
-use Rattle.sheet_record.proofs.Ranges.{within-range}
+use Rattle.sheet_ranges.proofs.Ranges.{within-range}
 use Rattle.capture_log.specs.declared.Event.{Event}
 use Rattle.capture_log.specs.Log as Log
 use Rattle.capture_log.specs.Log.{Before, shown}

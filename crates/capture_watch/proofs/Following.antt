@@ -8,8 +8,8 @@ use lib.Dec.{ltb, eqb}
 use lib.ListN.{length, getD, set, length-set}
 use Rattle.common.specs.Runs.{tab}
 use Rattle.common.proofs.Runs.{Filling, filled-at, tab-places}
-use Rattle.sheet_record.specs.Ranges.{Range}
-use Rattle.sheet_record.proofs.Ranges.{within-range}
+use Rattle.sheet_ranges.specs.Ranges.{Range}
+use Rattle.sheet_ranges.proofs.Ranges.{within-range}
 use Rattle.sheet_record.proofs.Tables.{both-true}
 use Rattle.capture_log.specs.declared.Event.{Event}
 use Rattle.capture_log.specs.Records.{size, metAt}

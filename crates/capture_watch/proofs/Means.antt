@@ -11,7 +11,7 @@ use lib.ListN.{length, getD, set}
 use lib.Seq.{getD-set-same, getD-set-other}
 use Rattle.common.specs.Sums.{when}
 use Rattle.common.proofs.Runs.{getD-tab}
-use Rattle.sheet_record.proofs.Ranges.{range-within}
+use Rattle.sheet_ranges.proofs.Ranges.{range-within}
 use Rattle.capture_log.specs.declared.Event.{Event}
 use Rattle.capture_log.specs.Log.{asks, around, fresh}
 use Rattle.capture_log.specs.Log as Log

@@ -13,7 +13,7 @@ use Rattle.common.specs.Checks.Verdict.{Passed}
 use Rattle.common.specs.Sums.{up}
 use Rattle.common.proofs.Checks.{Clear, none, and, passed-if}
 use Rattle.common.proofs.Firsts.{found-none}
-use Rattle.sheet_record.proofs.Ranges.{range-within}
+use Rattle.sheet_ranges.proofs.Ranges.{range-within}
 use Rattle.pnet_rules.specs.Segment.{Segment}
 use Rattle.pnet_run.specs.Run.{Belongs, Request, request, Answer, Queues, Token, Settled, Run, start, complete, arrive, travel, work, serve, skip}
 use Rattle.pnet_run.specs.Promise.{Spaced, Accepted}

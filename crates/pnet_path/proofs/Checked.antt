@@ -11,7 +11,7 @@ use Rattle.common.proofs.Checks.Applies.{here, later}
 use Rattle.common.proofs.Checks.Clear.{none, and}
 use Rattle.common.proofs.Outside.{outside-is}
 use Rattle.sheet_record.specs.Kinds.{within}
-use Rattle.sheet_record.proofs.Ranges.{range-within}
+use Rattle.sheet_ranges.proofs.Ranges.{range-within}
 use Rattle.units.specs.Units.{bp}
 use Rattle.pnet_path.specs.Path.{segmentStep, tooLong, costOver, pathChecks, costOr, crossingBy}
 use Rattle.pnet_path.specs.declared.Crossing.the-variants as answer

@@ -18,7 +18,7 @@ use Rattle.common.proofs.Checks.Applies.{here, later}
 use Rattle.common.proofs.Checks.Clear.{none, and}
 use Rattle.common.proofs.Firsts.{First, first-is}
 use Rattle.sheet_record.specs.Kinds.{within}
-use Rattle.sheet_record.proofs.Ranges.{within-range, range-within}
+use Rattle.sheet_ranges.proofs.Ranges.{within-range, range-within}
 use Rattle.sheet_read.specs.Sheets.{Sheet}
 use Rattle.sheet_read.specs.Whole.{Outcome}
 use Rattle.sheet_read.specs.Whole.Outcome.{Read, Not}

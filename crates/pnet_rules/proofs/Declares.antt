@@ -9,7 +9,7 @@ use Rattle.sheet_record.specs.declared.Given.{Given}
 use Rattle.sheet_record.specs.declared.Record.{Record}
 use Rattle.sheet_record.specs.Kinds.{pnet, isStreamOf, nothing, inRange}
 use Rattle.sheet_record.proofs.Parts.{first-bus}
-use Rattle.sheet_record.proofs.Ranges.{segment-ranges, pnet-ranges}
+use Rattle.sheet_ranges.proofs.Ranges.{segment-ranges, pnet-ranges}
 use Rattle.sheet_read.specs.Sheets.{Sheet, sheetOf, busIn, given, countOf, longestOf}
 use Rattle.sheet_read.proofs.Counts.{counted-by-number, longest-by-number}
 use Rattle.sheet_read.proofs.Known.{Known}

@@ -8,8 +8,8 @@ use borrow.Author.Tests.{eqb-true}
 use lib.ListN.{length, getD}
 use Rattle.sheet_record.specs.Kinds.{nothing, profibus, isStreamOf}
 use Rattle.sheet_record.proofs.Parts.{first-bus, ring-streams}
-use Rattle.sheet_record.specs.Ranges.{Range, RingRanges, RingStreamRanges}
-use Rattle.sheet_record.proofs.Ranges.{ring-ranges, ring-stream-ranges}
+use Rattle.sheet_ranges.specs.Ranges.{Range, RingRanges, RingStreamRanges}
+use Rattle.sheet_ranges.proofs.Ranges.{ring-ranges, ring-stream-ranges}
 use Rattle.sheet_read.specs.Sheets.{Sheet, busIn, given, sheetOf, countOf}
 use Rattle.sheet_read.proofs.Counts.{counted-by-number}
 use Rattle.sheet_read.proofs.Known.{Known}

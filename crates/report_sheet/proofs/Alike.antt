@@ -23,7 +23,7 @@ use Rattle.sheet_read.proofs.Walk.{head-at}
 use Rattle.sheet_record.specs.declared.Record.{Record}
 use Rattle.sheet_record.specs.Kinds.{busOf, sizeOf, decode}
 use Rattle.sheet_record.proofs.Parts.{first-bus}
-use Rattle.sheet_record.proofs.Ranges.{segment-ranges}
+use Rattle.sheet_ranges.proofs.Ranges.{segment-ranges}
 use Rattle.pnet_rules.specs.Segment.{segmentOf}
 use Rattle.pnet_plan.specs.Planned.{firstLate, planChecks, plannedBy, planned, planOf as segmentPlan}
 use Rattle.profibus_plan.specs.Planned.{planOf as ringPlan}

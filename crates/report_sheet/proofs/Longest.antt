@@ -13,7 +13,7 @@ use Rattle.common.specs.Checks.{verdict, Verdict}
 use Rattle.common.specs.Checks.Verdict.{Passed, Refused}
 use Rattle.sheet_record.specs.Kinds.{isStreamOf, nothing}
 use Rattle.sheet_record.proofs.Parts.{variables}
-use Rattle.sheet_record.proofs.Ranges.{variable-ranges}
+use Rattle.sheet_ranges.proofs.Ranges.{variable-ranges}
 use Rattle.sheet_read.specs.Sheets.{Sheet, busIn}
 use Rattle.sheet_read.specs.Whole.{Outcome, reading}
 use Rattle.sheet_read.specs.Whole.Outcome.{Read, Not}

@@ -14,8 +14,8 @@ use Rattle.sheet_record.specs.Numbers.{be}
 use Rattle.sheet_record.specs.Kinds.{Field, Kind, kinds, fieldsOf, numbers, known, fieldAt, decode, nothing, inRange}
 use Rattle.sheet_record.proofs.Numbers.{be-below}
 use Rattle.sheet_record.proofs.Tables.{both-true}
-use Rattle.sheet_record.proofs.Fits.{Fit, in-range-fits}
-use Rattle.sheet_record.proofs.Fits.Fit.{none, over, more}
+use Rattle.sheet_ranges.proofs.Fits.{Fit, in-range-fits}
+use Rattle.sheet_ranges.proofs.Fits.Fit.{none, over, more}
 use Rattle.sheet_line.specs.Lines.{cells, wordOf, hasWord, lineText, inBytes, sayable, Says}
 use Rattle.sheet_line.specs.Said.{begins, headed, kindAmong, kindIn, guess, same, recordIn}
 use Rattle.sheet_line.proofs.Cells.{same-itself, same-true}

@@ -20,7 +20,7 @@ use Rattle.sheet_record.specs.Kinds.{known, sizeOf, decode, inRange, whole, met
 use Rattle.sheet_record.proofs.Tables.{both-true}
 use Rattle.sheet_record.proofs.Records.{stream-same}
 use Rattle.sheet_record.proofs.Parts.{first-kinds, first-bus, setting-is, setting-kind, ring-streams}
-use Rattle.sheet_record.proofs.Ranges.{segment-ranges, pnet-ranges, ring-ranges, ring-stream-ranges}
+use Rattle.sheet_ranges.proofs.Ranges.{segment-ranges, pnet-ranges, ring-ranges, ring-stream-ranges}
 use Rattle.sheet_read.specs.Sheets.{Sheet, sheetOf, busIn, given, fits, mostInAll, hasMasters, countOf, overLimit, metBefore}
 use Rattle.sheet_read.specs.Whole.{placeOf, recordsOf, before, firstStream, judge, ended, reading, told, streamsOfMaster, longestOfMaster, byMaster, countsTold, longestsTold, Outcome}
 use Rattle.sheet_read.specs.Whole.Outcome.{Read, Not}

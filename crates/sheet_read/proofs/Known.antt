@@ -29,7 +29,7 @@ use Rattle.sheet_read.proofs.Walk.{before-none, head-at, place-next}
 use Rattle.sheet_read.proofs.Cases.{PassesAt, Upto, Stops, upto-front, reading-stops}
 use Rattle.sheet_read.proofs.Cases.Stops.{by-record, at-end}
 use Rattle.sheet_read.proofs.Counts.{count-more, count-none}
-use Rattle.sheet_record.proofs.Ranges.{edition-ranges}
+use Rattle.sheet_ranges.proofs.Ranges.{edition-ranges}
 use Rattle.sheet_record.proofs.Records.{met-same, met-other}
 use Rattle.sheet_read.proofs.Settings.{Settled, settled, one-setting}
 use Rattle.sheet_read.proofs.Settings.Settled.{unset, set}

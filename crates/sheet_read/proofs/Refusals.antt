@@ -16,7 +16,7 @@ use Rattle.common.proofs.Checks.Applies.{here, later}
 use Rattle.sheet_record.specs.declared.Record.{Record}
 use Rattle.sheet_record.specs.Kinds.{kinds, lineOf, busOf, isFirst, isSetting, isStreamOf, nothing, known, sizeOf, decode, inRange}
 use Rattle.sheet_record.proofs.Tables.{both-true, known-within, known-bounds}
-use Rattle.sheet_record.proofs.InPage.{in-page-in-range, in-range-exactly}
+use Rattle.sheet_ranges.proofs.InPage.{in-page-in-range, in-range-exactly}
 use Rattle.sheet_record.proofs.Parts.{first-is, first-kinds, first-bus, pnet-streams, ring-streams, variables}
 use Rattle.sheet_read.specs.Sheets.{Sheet, sheetOf, busIn, given, ofKind, fits, countOf, mostInAll, hasMasters, overLimit, metBefore}
 use Rattle.sheet_read.specs.Whole.{placeOf, recordsOf, before, firstStream, recordChecks, judge, ended, reading, Outcome}

@@ -15,7 +15,7 @@ use Rattle.sheet_record.specs.declared.Given.{Given}
 use Rattle.sheet_record.specs.Kinds.{kinds, lineOf, fieldsOf, limit, ranged, busOf, isFirst, isStreamOf, written, sizeOf, decode, encode, inRange, nothing}
 use Rattle.sheet_write.specs.Writing.{greatest}
 use Rattle.sheet_record.proofs.Parts.{first-kinds, first-bus, setting-kind, variables, written-is}
-use Rattle.sheet_record.proofs.Ranges.{segment-ranges, ring-ranges, in-range-mono}
+use Rattle.sheet_ranges.proofs.Ranges.{segment-ranges, ring-ranges, in-range-mono}
 use Rattle.sheet_write.proofs.Trips.{length-encode, decode-encode, encode-decode, whole-if}
 use Rattle.sheet_read.specs.Sheets.{Sheet, headOf, sheetOf, having}
 use Rattle.sheet_read.specs.Whole.{placeOf, recordsOf, before, ended, reading}

@@ -8,7 +8,7 @@ use mathlib.Core.Logic.{_⊎_}
 use lib.ListN.{length}
 use Rattle.sheet_record.specs.declared.Record.{Record}
 use Rattle.sheet_record.specs.Kinds.{sizeOf, decode, busOf}
-use Rattle.sheet_record.specs.Ranges.{InPage}
+use Rattle.sheet_ranges.specs.Ranges.{InPage}
 use Rattle.sheet_read.specs.Sheets.{given, countOf, mostInAll, hasMasters}
 use Rattle.sheet_read.specs.Whole.{placeOf, before}
 

@@ -141,9 +141,9 @@ fn pnet_in_range(given: Given, r: Record) -> bool
     ensures { λ ok. ⌜ ok ≡ (isStreamOf pnet (r .kind) && inRange given r) ⌝ }
 {
     if r.kind == 7 {
-        return sheet_record::in_range_of(7, given, r);
+        return sheet_ranges::in_range_of(7, given, r);
     }
-    sheet_record::in_range_of(2, given, r)
+    sheet_ranges::in_range_of(2, given, r)
 }
 
 // A stream of a bus with every field in its range.
@@ -153,8 +153,8 @@ fn stream_in_range(bus: u8, given: Given, r: Record) -> bool
 {
     match bus {
         1 => pnet_in_range(given, r),
-        3 => sheet_record::in_range_of(4, given, r),
-        _ => sheet_record::in_range_of(6, given, r),
+        3 => sheet_ranges::in_range_of(4, given, r),
+        _ => sheet_ranges::in_range_of(6, given, r),
     }
 }
 
@@ -250,7 +250,7 @@ fn read_behind(
             masters: head.a,
             message: head.c,
         };
-        let ranged = sheet_record::in_range(given, met.found);
+        let ranged = sheet_ranges::in_range(given, met.found);
         let own = own_no(8, true, met.next != first, ranged);
         if own != 0 {
             return Reading::Refused {
@@ -281,7 +281,7 @@ pub fn read_gathering(s: &[u8], counts: &mut [u8; 33], longests: &mut [u32; 33])
         masters: 0,
         message: 0,
     };
-    let ranged = sheet_record::in_range(none, head);
+    let ranged = sheet_ranges::in_range(none, head);
     let own = own_no(kind, right, met.next != 0, ranged);
     if own != 0 {
         return Reading::Refused { no: own, place: 0 };

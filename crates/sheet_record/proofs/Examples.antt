@@ -1,13 +1,11 @@
 -- Page 01, 'Sheet records': closed examples, as the definitions compute them. Assumes nothing.
 use mathlib.Core.Path.{_≡_, refl}
-use mathlib.Core.Bool.{true, false}
+use mathlib.Core.Bool.{false}
 use mathlib.Core.List.{[], _∷_, map}
-use Prim.Native.Nat.{ℕ}
-use Rattle.sheet_record.specs.declared.Given.{Given}
 use Rattle.sheet_record.specs.declared.Met.{Met}
 use Rattle.sheet_record.specs.declared.Record.{Record}
 use Rattle.sheet_record.specs.Numbers.{be, digits}
-use Rattle.sheet_record.specs.Kinds.{kinds, lineOf, fieldsOf, widths, sizeOf, known, fieldAt, decode, body, encode, whole, nothing, metAt, metOf, limit, within, ranged, inRange}
+use Rattle.sheet_record.specs.Kinds.{kinds, lineOf, fieldsOf, widths, sizeOf, known, fieldAt, decode, body, encode, whole, nothing, metAt, metOf}
 
 -- the eight kinds: a byte of kind, and a body of 1, 11, 9, 9, 4, 6, 15, 1
 sizes : map sizeOf (1 ∷ 2 ∷ 3 ∷ 4 ∷ 5 ∷ 6 ∷ 7 ∷ 8 ∷ []) ≡ 2 ∷ 12 ∷ 10 ∷ 10 ∷ 5 ∷ 7 ∷ 16 ∷ 2 ∷ []
@@ -32,7 +30,7 @@ unfolding decode fieldAt be fieldsOf lineOf kinds
 stream-decoded = refl
 
 -- one of master 2 that comes up to 900 late: C = 203, T = 1,000, D = 100
-abbrev late : Record
+abbrev pub late : Record
 late = record { kind = 7; a = 2; b = 203; c = 1000; d = 100; e = 900 }
 
 late-bytes : encode late ≡ 7 ∷ 2 ∷ 0 ∷ 203 ∷ 0 ∷ 0 ∷ 3 ∷ 232 ∷ 0 ∷ 0 ∷ 0 ∷ 100 ∷ 0 ∷ 0 ∷ 3 ∷ 132 ∷ []
@@ -50,45 +48,3 @@ met-as-segment = refl
 met-as-stream : metOf (1 ∷ 2 ∷ []) 0 2 ≡ record { found = nothing; next = 0 }
 unfolding metOf
 met-as-stream = refl
-
--- behind a segment of two masters
-abbrev behind : Given
-behind = record { masters = 2; message = 0 }
-
--- master 3 of 2 masters, C of 1,549, D above T: out of range
-master-beyond : inRange behind (record { kind = 2; a = 3; b = 203; c = 1000; d = 1000; e = 0 }) ≡ false
-unfolding inRange ranged limit within fieldsOf lineOf kinds
-master-beyond = refl
-
-cycle-beyond : inRange behind (record { kind = 2; a = 1; b = 1549; c = 1000; d = 1000; e = 0 }) ≡ false
-unfolding inRange ranged limit within fieldsOf lineOf kinds
-cycle-beyond = refl
-
-deadline-beyond : inRange behind (record { kind = 2; a = 1; b = 1548; c = 1000; d = 1001; e = 0 }) ≡ false
-unfolding inRange ranged limit within fieldsOf lineOf kinds
-deadline-beyond = refl
-
--- D up to T - J: 100 is in range and 101 is not; J up to T - 1, and none above wraps
-late-ranged : inRange behind late ≡ true
-unfolding inRange ranged limit within fieldsOf lineOf kinds
-late-ranged = refl
-
-deadline-beyond-slack : inRange behind (record { kind = 7; a = 2; b = 203; c = 1000; d = 101; e = 900 }) ≡ false
-unfolding inRange ranged limit within fieldsOf lineOf kinds
-deadline-beyond-slack = refl
-
-jitter-beyond : inRange behind (record { kind = 7; a = 2; b = 203; c = 1000; d = 1; e = 1000 }) ≡ false
-unfolding inRange ranged limit within fieldsOf lineOf kinds
-jitter-beyond = refl
-
-jitter-far-beyond : inRange behind (record { kind = 7; a = 2; b = 203; c = 1000; d = 1; e = 4294967295 }) ≡ false
-unfolding inRange ranged limit within fieldsOf lineOf kinds
-jitter-far-beyond = refl
-
--- the editions of the P-NET rule are 1 and 2
-abbrev by-edition : ℕ → Record
-by-edition n = record { kind = 8; a = n; b = 0; c = 0; d = 0; e = 0 }
-
-editions : map (λ n. inRange behind (by-edition n)) (0 ∷ 1 ∷ 2 ∷ 3 ∷ 255 ∷ []) ≡ false ∷ true ∷ true ∷ false ∷ false ∷ []
-unfolding inRange ranged limit within fieldsOf lineOf kinds
-editions = refl

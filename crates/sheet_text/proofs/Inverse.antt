@@ -20,8 +20,8 @@ use Rattle.sheet_record.specs.Numbers.{digits}
 use Rattle.sheet_record.specs.Kinds.{Field, Kind, kinds, fieldsOf, isStreamPart, partOf, isFirst, isStream, known, body, numbers, encode, decode, inRange, nothing}
 use Rattle.sheet_record.proofs.Tables.{both-true, at-every-line, fields-at-most, known-bounds}
 use Rattle.sheet_record.proofs.Parts.{first-kinds}
-use Rattle.sheet_record.proofs.Fits.{Fit, in-range-fits}
-use Rattle.sheet_record.proofs.Fits.Fit.{none as no-field, over as no-number, more as a-field}
+use Rattle.sheet_ranges.proofs.Fits.{Fit, in-range-fits}
+use Rattle.sheet_ranges.proofs.Fits.Fit.{none as no-field, over as no-number, more as a-field}
 use Rattle.sheet_write.specs.declared.Put.the-variants as put
 use Rattle.sheet_write.specs.Writing.{greatest, putBy}
 use Rattle.sheet_write.proofs.Trips.{decode-fit}

@@ -11,8 +11,8 @@ use Rattle.sheet_record.specs.declared.Record.{Record}
 use Rattle.sheet_record.specs.Kinds.{Field, inRange, nothing}
 use Rattle.sheet_record.specs.Widths.{widthAt}
 use Rattle.sheet_record.proofs.Tables.{width-at-most}
-use Rattle.sheet_record.proofs.Fits.{Fit, in-range-fits}
-use Rattle.sheet_record.proofs.Fits.Fit.{none, over, more}
+use Rattle.sheet_ranges.proofs.Fits.{Fit, in-range-fits}
+use Rattle.sheet_ranges.proofs.Fits.Fit.{none, over, more}
 use Rattle.sheet_write.specs.declared.Put.the-variants as put
 use Rattle.sheet_write.specs.Writing.{greatest}
 use Rattle.sheet_read.specs.Sheets.{Sheet, mostInAll}

@@ -19,8 +19,8 @@ use Rattle.sheet_record.proofs.Numbers.{length-digits, be-digits, be-same, digi
 use Rattle.sheet_record.proofs.Tables.{both-true, wide, size-is, fields-at-most}
 use Rattle.sheet_write.proofs.Stored.{encode-is}
 use Rattle.sheet_record.proofs.Records.{decode-is}
-use Rattle.sheet_record.proofs.Fits.{Fit, in-range-fits}
-use Rattle.sheet_record.proofs.Fits.Fit.{none, over, more}
+use Rattle.sheet_ranges.proofs.Fits.{Fit, in-range-fits}
+use Rattle.sheet_ranges.proofs.Fits.Fit.{none, over, more}
 
 -- ---- Whole records
 

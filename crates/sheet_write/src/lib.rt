@@ -1,7 +1,7 @@
 // Writing one record of a sheet, page 01 'Sheet records' and page 02 'Ask 7' and 'Ask 10'.
+use sheet_ranges::in_range;
 use sheet_record::Given;
 use sheet_record::Record;
-use sheet_record::in_range;
 use sheet_record::known;
 ghost use mathlib.Core.Bool.{true};
 ghost use mathlib.Core.List.{_++_};

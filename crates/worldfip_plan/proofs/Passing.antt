@@ -15,8 +15,8 @@ use Rattle.common.specs.Checks.Verdict.{Passed, Refused}
 use Rattle.sheet_record.specs.declared.Met.{Met}
 use Rattle.sheet_record.specs.Kinds.{nothing, worldfip, isStreamOf, streamMet}
 use Rattle.sheet_record.proofs.Parts.{first-bus, variables}
-use Rattle.sheet_record.specs.Ranges.{VariableRanges}
-use Rattle.sheet_record.proofs.Ranges.{exchange-ranges, variable-ranges}
+use Rattle.sheet_ranges.specs.Ranges.{VariableRanges}
+use Rattle.sheet_ranges.proofs.Ranges.{exchange-ranges, variable-ranges}
 use Rattle.sheet_read.specs.Sheets.{Sheet, busIn, given, sheetOf}
 use Rattle.sheet_read.specs.Whole.{Outcome, reading}
 use Rattle.sheet_read.specs.Steps.{sheetIn, streamPlace, Ready}

@@ -6,7 +6,7 @@ use borrow.Author.Needs.{needs}
 use borrow.Author.Tests.{not-true, not-false}
 use denote.Ref.{now}
 use lib.ListN.{getD}
-use Rattle.sheet_record.proofs.Ranges.{within-range}
+use Rattle.sheet_ranges.proofs.Ranges.{within-range}
 use Rattle.capture_log.specs.declared.Event.{Event}
 use Rattle.capture_log.specs.Records.{eventAt}
 use Rattle.capture_tally.specs.Pieces.{most}

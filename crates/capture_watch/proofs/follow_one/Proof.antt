@@ -4,7 +4,7 @@ use mathlib.Core.Path.{_≡_, sym, _∙_}
 use mathlib.Core.Bool.{true}
 use native.Mathlib.Omega.{arith}
 use borrow.Author.Tests.{not-true, not-false}
-use Rattle.sheet_record.specs.Ranges.{Range}
+use Rattle.sheet_ranges.specs.Ranges.{Range}
 use Rattle.capture_watch.specs.Follow.{most, request}
 use Rattle.capture_watch.proofs.Following.{request-placed, passed-by, asked-by}
 use Rattle.capture_watch.proofs.follow_one.Statement.{statement}

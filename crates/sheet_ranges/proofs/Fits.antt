@@ -7,12 +7,12 @@ use native.Mathlib.Omega.{arith}
 use borrow.Author.Tests.{ltb-true, eqb-true}
 use lib.Dec.{ltb, eqb}
 use lib.ListN.{length, getD}
 use Rattle.sheet_record.specs.declared.Given.{Given}
 use Rattle.sheet_record.specs.declared.Record.{Record}
 use Rattle.sheet_record.specs.Kinds.{Field, Limit, kinds, fieldsOf, numbers, limit, within, ranged, inRange}
 use Rattle.sheet_record.specs.Kinds.Limit.{is, masters, message, own, under, less}
 use Rattle.sheet_record.proofs.Tables.{both-true, at-every-kind, fields-at-most}
-use Rattle.sheet_record.proofs.Ranges.{within-range}
+use Rattle.sheet_ranges.proofs.Ranges.{within-range}
 
 -- each number fits its field, and is 0 where there is no field
 pub data Fit : List Field → List ℕ → Type 0 where

@@ -8,13 +8,13 @@ use Prim.Native.Nat.{ℕ, zero, suc, _+_, _-_, _≤_}
 use native.Mathlib.Omega.{arith}
 use borrow.Author.Tests.{eq-eqb}
 use lib.ListN.{length, getD}
 use Rattle.sheet_record.specs.declared.Given.{Given}
 use Rattle.sheet_record.specs.declared.Record.{Record}
 use Rattle.sheet_record.specs.Kinds.{Field, kinds, lineOf, fieldsOf, known, fieldAt, decode, numbers, limit, ranged, inRange}
-use Rattle.sheet_record.specs.Ranges.{Range, SegmentRanges, PnetStreamRanges, RingRanges, RingStreamRanges, ExchangeRanges, VariableRanges, JitterStreamRanges, EditionRanges, InPage}
-use Rattle.sheet_record.specs.Ranges.InPage.{segment, pnet-stream, ring, ring-stream, exchange, variable, jitter-stream, edition}
+use Rattle.sheet_ranges.specs.Ranges.{Range, SegmentRanges, PnetStreamRanges, RingRanges, RingStreamRanges, ExchangeRanges, VariableRanges, JitterStreamRanges, EditionRanges, InPage}
+use Rattle.sheet_ranges.specs.Ranges.InPage.{segment, pnet-stream, ring, ring-stream, exchange, variable, jitter-stream, edition}
 use Rattle.sheet_record.proofs.Parts.{by-kind}
-use Rattle.sheet_record.proofs.Ranges.{range-within, segment-ranges, pnet-stream-ranges, ring-ranges, ring-stream-ranges, exchange-ranges, variable-ranges, jitter-stream-ranges, edition-ranges}
+use Rattle.sheet_ranges.proofs.Ranges.{range-within, segment-ranges, pnet-stream-ranges, ring-ranges, ring-stream-ranges, exchange-ranges, variable-ranges, jitter-stream-ranges, edition-ranges}
 
 -- ---- Kind by kind
 

@@ -8,13 +8,13 @@ use native.Mathlib.Nat.{le-refl, le-trans}
 use native.Mathlib.Omega.{arith}
 use borrow.Author.Tests.{le-leb, leb-true, eqb-true, eq-eqb}
 use lib.Dec.{leb, eqb}
 use Rattle.sheet_record.specs.declared.Given.{Given}
 use Rattle.sheet_record.specs.declared.Record.{Record}
 use Rattle.sheet_record.specs.Kinds.{Field, Limit, kinds, lineOf, fieldsOf, isStreamOf, limit, within, ranged, inRange, numbers}
 use Rattle.sheet_record.specs.Kinds.Limit.{is, masters, message, own, under, less}
-use Rattle.sheet_record.specs.Ranges.{Range, SegmentRanges, PnetStreamRanges, RingRanges, RingStreamRanges, ExchangeRanges, VariableRanges, JitterStreamRanges, EditionRanges}
+use Rattle.sheet_ranges.specs.Ranges.{Range, SegmentRanges, PnetStreamRanges, RingRanges, RingStreamRanges, ExchangeRanges, VariableRanges, JitterStreamRanges, EditionRanges}
 use Rattle.sheet_record.proofs.Tables.{both-true}
 use Rattle.sheet_record.proofs.Parts.{pnet-stream-kinds}
 
 -- ---- One field
 

@@ -1,4 +1,4 @@
--- `sheet_record::in_range_of` meets its contract: another kind is refused, and each arm has its kind's ranges. Assumes nothing.
+-- `sheet_ranges::in_range_of` meets its contract: another kind is refused, and each arm has its kind's ranges. Assumes nothing.
 use mathlib.Core.Path.{_≡_, ap, _∙_}
 use mathlib.Core.Bool.{_&&_, and-assoc, and-true}
 use Prim.Native.Nat.{ℕ}
@@ -6,13 +6,13 @@ use native.Mathlib.Omega.{arith}
 use borrow.Author.Needs.{needs}
 use borrow.Author.Tests.{le-leb, ne-eqb}
 use lib.Dec.{eqb}
 use Rattle.sheet_record.specs.declared.Given.{Given}
 use Rattle.sheet_record.specs.declared.Record.{Record}
 use Rattle.sheet_record.specs.Kinds.{kinds, lineOf, fieldsOf, numbers, limit, within, ranged, inRange}
 use Rattle.sheet_record.proofs.Tables.{unknown, no-fields, NoneOf, none-of}
-use Rattle.sheet_record.proofs.Ranges.{of-kind}
-use Rattle.sheet_record.proofs.in_range_of.Statement.{statement}
-use Rattle.sheet_record.proofs.in_range_of.Tie as tie
+use Rattle.sheet_ranges.proofs.Ranges.{of-kind}
+use Rattle.sheet_ranges.proofs.in_range_of.Statement.{statement}
+use Rattle.sheet_ranges.proofs.in_range_of.Tie as tie
 
 -- a record of the kind asked for is in range by that kind's fields
 by-fields : (kind : ℕ) (g : Given) (r : Record) → r .kind ≡ kind

@@ -1,11 +1,11 @@
--- `sheet_record::fits_behind` meets its contract: two differences that are cut off at 0. Assumes nothing.
+-- `sheet_ranges::fits_behind` meets its contract: two differences that are cut off at 0. Assumes nothing.
 use mathlib.Core.Bool.{and-assoc}
 use native.Mathlib.Omega.{arith}
 use borrow.Author.Needs.{needs}
 use borrow.Author.Tests.{le-leb}
 use Rattle.sheet_record.specs.Kinds.{within}
-use Rattle.sheet_record.proofs.fits_behind.Statement.{statement}
-use Rattle.sheet_record.proofs.fits_behind.Tie as tie
+use Rattle.sheet_ranges.proofs.fits_behind.Statement.{statement}
+use Rattle.sheet_ranges.proofs.fits_behind.Tie as tie
 
 less-requires : tie.Need-less-requires
 less-requires c κs = search needs

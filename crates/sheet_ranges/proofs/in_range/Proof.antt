@@ -1,9 +1,9 @@
--- `sheet_record::in_range` meets its contract: a record is of its own kind. Assumes nothing.
+-- `sheet_ranges::in_range` meets its contract: a record is of its own kind. Assumes nothing.
 use mathlib.Core.Path.{refl, _∙_}
 use borrow.Author.Needs.{needs}
-use Rattle.sheet_record.proofs.Ranges.{of-kind}
-use Rattle.sheet_record.proofs.in_range.Statement.{statement}
-use Rattle.sheet_record.proofs.in_range.Tie as tie
+use Rattle.sheet_ranges.proofs.Ranges.{of-kind}
+use Rattle.sheet_ranges.proofs.in_range.Statement.{statement}
+use Rattle.sheet_ranges.proofs.in_range.Tie as tie
 
 in-range-of-requires : tie.Need-in-range-of-requires
 in-range-of-requires c κs = search needs

@@ -1,0 +1,4 @@
+pub mod Ranges
+pub mod InPage
+pub mod Fits
+pub mod Examples
