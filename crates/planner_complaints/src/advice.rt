@@ -8,8 +8,8 @@ use crate::scan::is_blank;
 use crate::scan::is_digit;
 use crate::scan::is_letter;
 use crate::scan::is_padding;
-use sheet_line::begins;
 use sheet_record::known;
+use sheet_said::begins;
 
 // How the likeliest slips are mended.
 pub(crate) const ADVICE: [u8; 908] =

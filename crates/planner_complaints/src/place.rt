@@ -6,10 +6,10 @@ use crate::scan::first_difference;
 use crate::scan::is_digit;
 use crate::scan::one_more;
 use sheet_line::LINE;
-use sheet_line::guess;
 use sheet_line::put_line;
 use sheet_record::Record;
 use sheet_record::is_pnet_stream;
+use sheet_said::guess;
 
 // The place where a line stops being the one that it can be; the byte that is wanted there, 0 where a number is too big for its field; and whether a
 // number is cut off there, or missing.

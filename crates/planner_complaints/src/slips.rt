@@ -18,11 +18,11 @@ use crate::scan::one_more;
 use crate::show;
 use libc::STDERR_FILENO;
 use sheet_line::LINE;
-use sheet_line::begins;
-use sheet_line::kind_in;
 use sheet_read::Reading;
 use sheet_record::known;
 use sheet_record::record_at;
+use sheet_said::begins;
+use sheet_said::kind_in;
 
 // ---- Lists of words, a line for each number from 1 on
 

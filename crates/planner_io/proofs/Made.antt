@@ -9,7 +9,7 @@ use lib.ListN.{length, take, drop}
 use lib.Seq.{take-append-seam}
 use Rattle.text.specs.Text.{Zeros, Wrote}
 use Rattle.text.proofs.Writing.{wrote-front}
-use Rattle.sheet_line.specs.Said.{kindIn}
+use Rattle.sheet_said.specs.Said.{kindIn}
 use Rattle.sheet_pieces.specs.Texts.{Meaning, meaning}
 use Rattle.sheet_pieces.specs.Texts.Meaning.{Stands, Bad}
 use Rattle.sheet_pieces.specs.Steps.{State, started, room, steps, endedAs}

@@ -8,7 +8,7 @@ use lib.Dec.{eqb}
 use Rattle.sheet_read.specs.Sheets.{Sheet}
 use Rattle.sheet_read.specs.Whole.{reading}
 use Rattle.sheet_read.specs.Whole.Outcome.{Read}
-use Rattle.sheet_line.specs.Said.{kindIn}
+use Rattle.sheet_said.specs.Said.{kindIn}
 use Rattle.sheet_pieces.specs.Texts.{meaning}
 use Rattle.sheet_pieces.specs.Texts.Meaning.{Stands, Bad}
 use Rattle.sheet_pieces.specs.Steps.{State, started, room, steps}

@@ -181,7 +181,7 @@ pub fn read_sheet(fd: i32, name: &[u8], sheet: &mut [u8], as_text: bool) -> Give
         return failed();
     }
     let length = input.length;
-    let kind = sheet_line::kind_in(&sheet[..length]);
+    let kind = sheet_said::kind_in(&sheet[..length]);
     if as_text | (kind != 0) {
         return read_text(fd, name, sheet, length);
     }

@@ -1,6 +1,2 @@
-pub mod Cells
 pub mod Examples
-pub mod Guessed
-pub mod Laws
 pub mod Lines
-pub mod Without

@@ -12,13 +12,13 @@ use lib.ListN.{length, take, set, length-append, length-set}
 use lib.Seq.{set-out, take-all, take-append-le, take-suc-set}
 use Rattle.sheet_record.specs.Kinds.{numbers, nothing}
 use Rattle.sheet_line.specs.Lines.{lineText, sayable}
-use Rattle.sheet_line.specs.Said.{guess, same, recordIn}
-use Rattle.sheet_line.proofs.Without.{Without}
-use Rattle.sheet_line.proofs.Without.Without.{none, more}
+use Rattle.sheet_said.specs.Said.{guess, same, recordIn}
+use Rattle.sheet_said.proofs.Without.{Without}
+use Rattle.sheet_said.proofs.Without.Without.{none, more}
 use Rattle.sheet_line.proofs.Lines.{Small, line-most}
-use Rattle.sheet_line.proofs.Cells.{guess-small}
-use Rattle.sheet_line.proofs.Guessed.{has-word}
-use Rattle.sheet_line.proofs.Laws.{line-read, line-ended, word-some}
+use Rattle.sheet_said.proofs.Cells.{guess-small}
+use Rattle.sheet_said.proofs.Guessed.{has-word}
+use Rattle.sheet_said.proofs.Laws.{line-read, line-ended, word-some}
 use Rattle.sheet_pieces.specs.Steps.{holds, heldMore, frontWith}
 
 -- ---- What `hold` does

@@ -9,7 +9,7 @@ use lib.Dec.{eqb}
 use lib.ListN.{length, getD, take, drop}
 use Rattle.sheet_record.specs.declared.Record.{Record}
 use Rattle.text_entry.proofs.Laws.{left-more, left-none}
-use Rattle.sheet_line.specs.Said.{recordIn}
+use Rattle.sheet_said.specs.Said.{recordIn}
 use Rattle.sheet_pieces.specs.declared.Taken.{Taken}
 use Rattle.sheet_pieces.specs.Steps.{State, nextLine, heldWith, lineEnds, endedWith, stepped, steps}
 use Rattle.sheet_pieces.proofs.Held.{HeldOne}

@@ -9,11 +9,11 @@ use lib.Dec.{eqb}
 use lib.ListN.{length, length-append}
 use Rattle.sheet_record.specs.declared.Record.{Record}
 use Rattle.sheet_record.specs.Kinds.{encode}
-use Rattle.sheet_line.specs.Said.{recordIn}
-use Rattle.sheet_line.proofs.Without.{Without, without-append}
-use Rattle.sheet_line.proofs.Without.Without.{none, more}
-use Rattle.sheet_line.proofs.Guessed.{has-word}
-use Rattle.sheet_line.proofs.Laws.{line-read}
+use Rattle.sheet_said.specs.Said.{recordIn}
+use Rattle.sheet_said.proofs.Without.{Without, without-append}
+use Rattle.sheet_said.proofs.Without.Without.{none, more}
+use Rattle.sheet_said.proofs.Guessed.{has-word}
+use Rattle.sheet_said.proofs.Laws.{line-read}
 use Rattle.sheet_pieces.specs.Texts.{Meaning, meaningFrom, meaning}
 use Rattle.sheet_pieces.specs.Texts.Meaning.{Stands, Bad}
 use Rattle.sheet_pieces.specs.Steps.{State, started, room, nextLine, lineEnds, heldWith, endedWith, stepped, steps, endedAs}

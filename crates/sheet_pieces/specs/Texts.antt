@@ -7,7 +7,7 @@ use lib.Dec.{eqb}
 use Rattle.sheet_record.specs.declared.Record.{Record}
 use Rattle.sheet_record.specs.Kinds.{encode}
 use Rattle.sheet_line.specs.Lines.{lineText}
-use Rattle.sheet_line.specs.Said.{recordIn}
+use Rattle.sheet_said.specs.Said.{recordIn}
 
 -- the lines of these records
 unfoldable pub textOf : List Record → List ℕ

@@ -1,8 +1,8 @@
 // A sheet as text, page 02 'Ask 14': a text may be long, and comes piece by piece: `start`, `take` each piece, `end`. What is kept between is one line and the
 // front of the sheet, in two runs that the caller lends.
 use sheet_line::LINE;
-use sheet_line::record_in;
 use sheet_record::Record;
+use sheet_said::record_in;
 use sheet_write::Put;
 ghost use mathlib.Core.Path.{_≡_};
 ghost use Prim.Native.Nat.{_≤_};

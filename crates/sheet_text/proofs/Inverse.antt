@@ -35,8 +35,8 @@ use Rattle.sheet_read.proofs.Known.{reading-read}
 use Rattle.sheet_read.proofs.Trips.{writable, read-right, read-written}
 use Rattle.sheet_line.specs.Lines.{wordOf, hasWord, inBytes, sayable}
 use Rattle.sheet_line.proofs.Lines.{known-but-3}
-use Rattle.sheet_line.proofs.Guessed.{has-word, in-bytes}
-use Rattle.sheet_line.proofs.Laws.{ranged-sayable}
+use Rattle.sheet_said.proofs.Guessed.{has-word, in-bytes}
+use Rattle.sheet_said.proofs.Laws.{ranged-sayable}
 use Rattle.sheet_pieces.specs.Texts.{Meaning, textOf, meaning}
 use Rattle.sheet_pieces.specs.Texts.Meaning.{Stands, Bad}
 use Rattle.sheet_text.specs.Answers.{sheetText, textBy, sheetBy, exportChecks, exportVerdict, exportAnswer, exportBytes, copyVerdict, importVerdict, importAnswer, importBytes, Exports, Imports}

@@ -15,11 +15,11 @@ use Rattle.sheet_record.specs.declared.Record.{Record}
 use Rattle.sheet_record.specs.Kinds.{encode}
 use Rattle.sheet_read.specs.Records.{bytesOf}
 use Rattle.sheet_line.specs.Lines.{lineText, sayable, Says}
-use Rattle.sheet_line.specs.Said.{recordIn}
-use Rattle.sheet_line.proofs.Without.{Without, without-append}
-use Rattle.sheet_line.proofs.Without.Without.{none, more}
-use Rattle.sheet_line.proofs.Guessed.{has-word}
-use Rattle.sheet_line.proofs.Laws.{reads-line, line-read, word-some, no-line, line-ended}
+use Rattle.sheet_said.specs.Said.{recordIn}
+use Rattle.sheet_said.proofs.Without.{Without, without-append}
+use Rattle.sheet_said.proofs.Without.Without.{none, more}
+use Rattle.sheet_said.proofs.Guessed.{has-word}
+use Rattle.sheet_said.proofs.Laws.{reads-line, line-read, word-some, no-line, line-ended}
 use Rattle.sheet_pieces.specs.Texts.{Meaning, textOf, meaningFrom, meaning}
 use Rattle.sheet_pieces.specs.Texts.Meaning.{Stands, Bad}
 use Rattle.sheet_text.specs.Refusals.{AllSayable, StandsFor, NoLine, BadLine}

@@ -26,9 +26,9 @@ use Rattle.sheet_read.specs.Whole.Outcome.{Read, Not}
 use Rattle.sheet_read.proofs.Known.{reading-read}
 use Rattle.sheet_read.proofs.Refusals.{given-then, given-if, refused-2}
 use Rattle.sheet_line.specs.Lines.{hasWord}
-use Rattle.sheet_line.specs.Said.{kindIn}
-use Rattle.sheet_line.proofs.Guessed.{has-word, kind-text}
-use Rattle.sheet_line.proofs.Laws.{word-some, headed-unread}
+use Rattle.sheet_said.specs.Said.{kindIn}
+use Rattle.sheet_said.proofs.Guessed.{has-word, kind-text}
+use Rattle.sheet_said.proofs.Laws.{word-some, headed-unread}
 use Rattle.sheet_pieces.specs.Texts.{Meaning, textOf, meaning}
 use Rattle.sheet_pieces.specs.Texts.Meaning.{Stands, Bad}
 use Rattle.sheet_text.specs.Answers.{over, textBy, sheetBy, exportChecks, exportVerdict, exportAnswer, exportBytes, copyVerdict, importVerdict, importAnswer, importBytes}

@@ -1,13 +1,13 @@
--- `sheet_line::begins` meets its contract. The loop's invariant: the bytes so far are the same in both, so what is left decides. Assumes nothing.
+-- `sheet_said::begins` meets its contract. The loop's invariant: the bytes so far are the same in both, so what is left decides. Assumes nothing.
 use Prim.Native.Nat.{_-_, _≤_}
 use mathlib.Core.Path.{_≡_, refl, sym, _∙_}
 use native.Mathlib.Omega.{arith}
 use borrow.Author.Needs.{needs}
 use lib.ListN.{length, drop}
-use Rattle.sheet_line.specs.Said as said
-use Rattle.sheet_line.proofs.Cells.{begins-short, begins-more, begins-other, begins-whole}
-use Rattle.sheet_line.proofs.begins.Statement.{statement}
-use Rattle.sheet_line.proofs.begins.Tie as tie
+use Rattle.sheet_said.specs.Said as said
+use Rattle.sheet_said.proofs.Cells.{begins-short, begins-more, begins-other, begins-whole}
+use Rattle.sheet_said.proofs.begins.Statement.{statement}
+use Rattle.sheet_said.proofs.begins.Tie as tie
 
 abbrev Inv-loop : tie.InvT-loop
 Inv-loop line word i₀ i = (i ≤ length word) × (length word ≤ length line) × (said.begins word line ≡ said.begins (drop i word) (drop i line))

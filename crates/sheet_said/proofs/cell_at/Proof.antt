@@ -1,11 +1,11 @@
--- `sheet_line::cell_at` meets its contract. The loop's invariant: with the digits so far as one number, what is left of the line gives the cell. Assumes nothing.
+-- `sheet_said::cell_at` meets its contract. The loop's invariant: with the digits so far as one number, what is left of the line gives the cell. Assumes nothing.
 use Prim.Native.Nat.{_-_}
 use native.Mathlib.Omega.{arith}
 use borrow.Author.Needs.{needs}
 use lib.ListN.{length}
-use Rattle.sheet_line.proofs.Cells.{Within, starts, ends, stops, goes}
-use Rattle.sheet_line.proofs.cell_at.Statement.{statement}
-use Rattle.sheet_line.proofs.cell_at.Tie as tie
+use Rattle.sheet_said.proofs.Cells.{Within, starts, ends, stops, goes}
+use Rattle.sheet_said.proofs.cell_at.Statement.{statement}
+use Rattle.sheet_said.proofs.cell_at.Tie as tie
 
 abbrev Inv-loop : tie.InvT-loop
 Inv-loop line at number₀ i₀ number i = Within line at number i

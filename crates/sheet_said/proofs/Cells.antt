@@ -14,9 +14,9 @@ use Rattle.text_entry.specs.Entered.{isDigit, withByte}
 use Rattle.text_entry.proofs.Laws.{left-more, left-none}
 use Rattle.sheet_record.specs.declared.Record.{Record}
 use Rattle.sheet_record.specs.Kinds.{kinds, numbers, nothing}
 use Rattle.sheet_line.specs.Lines.{lineText, sayable}
-use Rattle.sheet_line.specs.Said.{begins, kindAmong, kindIn, digitsBehind, numberAt, behindComma, guess, same, recordIn}
+use Rattle.sheet_said.specs.Said.{begins, kindAmong, kindIn, digitsBehind, numberAt, behindComma, guess, same, recordIn}
 use Rattle.sheet_line.proofs.Lines.{Small}
 
 -- ---- Its word
 

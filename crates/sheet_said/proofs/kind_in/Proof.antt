@@ -1,13 +1,13 @@
--- `sheet_line::kind_in` meets its contract: the table's words, each with its comma, one after another. Assumes nothing.
+-- `sheet_said::kind_in` meets its contract: the table's words, each with its comma, one after another. Assumes nothing.
 use borrow.Author.Needs.{needs}
 use denote.Ref.{now}
 use mathlib.Core.Path.{_≡_, refl, sym, _∙_}
 use mathlib.Core.Bool.{false}
 use Rattle.text.specs.Text.{word}
-use Rattle.sheet_line.specs.Said.{begins}
-use Rattle.sheet_line.proofs.Cells.{kind-tests}
-use Rattle.sheet_line.proofs.kind_in.Statement.{statement}
-use Rattle.sheet_line.proofs.kind_in.Tie as tie
+use Rattle.sheet_said.specs.Said.{begins}
+use Rattle.sheet_said.proofs.Cells.{kind-tests}
+use Rattle.sheet_said.proofs.kind_in.Statement.{statement}
+use Rattle.sheet_said.proofs.kind_in.Tie as tie
 
 -- ---- The words that the line did not begin with
 

@@ -17,10 +17,10 @@ use Rattle.sheet_record.specs.Kinds.{Unit, Field, fieldsOf, numbers}
 use Rattle.sheet_record.specs.Kinds.Unit.{no-unit, bp, us}
 use Rattle.sheet_record.specs.Widths.{widthAt}
 use Rattle.sheet_record.proofs.Tables.{both-true, width-at-most}
 use Rattle.sheet_line.specs.Lines.{unitText, cells, wordOf, hasWord, lineText, inBytes, sayable}
-use Rattle.sheet_line.specs.Said.{kindIn, digitsBehind, numberAt, behindComma, guess}
-use Rattle.sheet_line.proofs.Without.{Without, word-no-comma, unit-no-comma, number-no-comma}
-use Rattle.sheet_line.proofs.Without.Without.{none, more}
+use Rattle.sheet_said.specs.Said.{kindIn, digitsBehind, numberAt, behindComma, guess}
+use Rattle.sheet_said.proofs.Without.{Without, word-no-comma, unit-no-comma, number-no-comma}
+use Rattle.sheet_said.proofs.Without.Without.{none, more}
 
 -- ---- The line
 

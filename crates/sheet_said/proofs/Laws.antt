@@ -16,11 +16,11 @@ use Rattle.sheet_record.proofs.Numbers.{be-below}
 use Rattle.sheet_record.proofs.Tables.{both-true}
 use Rattle.sheet_ranges.proofs.Fits.{Fit, in-range-fits}
 use Rattle.sheet_ranges.proofs.Fits.Fit.{none, over, more}
 use Rattle.sheet_line.specs.Lines.{cells, wordOf, hasWord, lineText, inBytes, sayable, Says}
-use Rattle.sheet_line.specs.Said.{begins, headed, kindAmong, kindIn, guess, same, recordIn}
-use Rattle.sheet_line.proofs.Cells.{same-itself, same-true}
-use Rattle.sheet_line.proofs.Without.{Without, without-append, word-no-end, cells-no-end}
-use Rattle.sheet_line.proofs.Guessed.{line-is, has-word, guess-line}
+use Rattle.sheet_said.specs.Said.{begins, headed, kindAmong, kindIn, guess, same, recordIn}
+use Rattle.sheet_said.proofs.Cells.{same-itself, same-true}
+use Rattle.sheet_said.proofs.Without.{Without, without-append, word-no-end, cells-no-end}
+use Rattle.sheet_said.proofs.Guessed.{line-is, has-word, guess-line}
 
 -- ---- The record of a line
 

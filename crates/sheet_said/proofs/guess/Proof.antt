@@ -1,8 +1,8 @@
--- `sheet_line::guess` meets its contract: each number is read from where the one before it ends. Assumes nothing.
+-- `sheet_said::guess` meets its contract: each number is read from where the one before it ends. Assumes nothing.
 use borrow.Author.Needs.{needs}
-use Rattle.sheet_line.proofs.Cells.{guess-is}
-use Rattle.sheet_line.proofs.guess.Statement.{statement}
-use Rattle.sheet_line.proofs.guess.Tie as tie
+use Rattle.sheet_said.proofs.Cells.{guess-is}
+use Rattle.sheet_said.proofs.guess.Statement.{statement}
+use Rattle.sheet_said.proofs.guess.Tie as tie
 
 cell-at-requires : tie.Need-cell-at-requires
 cell-at-requires c κs = search needs

@@ -1,14 +1,14 @@
--- `sheet_line::sayable` meets its contract: each arm has the widths of its kind's fields. A field of four bytes holds every number of 32 bits. Assumes nothing.
+-- `sheet_said::sayable` meets its contract: each arm has the widths of its kind's fields. A field of four bytes holds every number of 32 bits. Assumes nothing.
 use mathlib.Core.Path.{_≡_, sym}
 use mathlib.Core.Bool.{true, and-assoc, and-true}
 use native.Mathlib.Omega.{arith}
 use borrow.Author.Tests.{lt-ltb}
 use lib.Dec.{ltb}
 use Rattle.sheet_record.specs.Kinds.{kinds, lineOf, fieldsOf}
 use Rattle.sheet_line.specs.Lines.{wordOf, hasWord, inBytes}
 use Rattle.sheet_line.proofs.Lines.{left-out, judged-by, not-sayable, below-next}
-use Rattle.sheet_line.proofs.sayable.Statement.{statement}
-use Rattle.sheet_line.proofs.sayable.Tie as tie
+use Rattle.sheet_said.proofs.sayable.Statement.{statement}
+use Rattle.sheet_said.proofs.sayable.Tie as tie
 
 returns : tie.Need-returns
 unfolding hasWord wordOf inBytes fieldsOf lineOf kinds

@@ -1,4 +1,4 @@
--- `sheet_line::record_in` meets its contract: a run of 96 bytes holds the line of what was taken, and that is held against the line. Assumes nothing.
+-- `sheet_said::record_in` meets its contract: a run of 96 bytes holds the line of what was taken, and that is held against the line. Assumes nothing.
 use borrow.Author.Needs.{needs}
 use denote.Ref.{now}
 use mathlib.Core.Path.{_≡_, sym, ap, _∙_}
@@ -8,12 +8,12 @@ use lib.ListN.{take}
 use lib.Seq.{length-take-le}
 use Rattle.text.proofs.Writing.{wrote-inside}
 use Rattle.sheet_record.specs.Kinds.{numbers, nothing}
 use Rattle.sheet_line.specs.Lines.{lineText}
-use Rattle.sheet_line.specs.Said.{recordIn}
+use Rattle.sheet_said.specs.Said.{recordIn}
 use Rattle.sheet_line.proofs.Lines.{Small, line-most}
-use Rattle.sheet_line.proofs.Cells.{guess-small, said-is, stored-front}
-use Rattle.sheet_line.proofs.record_in.Statement.{statement}
-use Rattle.sheet_line.proofs.record_in.Tie as tie
+use Rattle.sheet_said.proofs.Cells.{guess-small, said-is, stored-front}
+use Rattle.sheet_said.proofs.record_in.Statement.{statement}
+use Rattle.sheet_said.proofs.record_in.Tie as tie
 
 guess-requires : tie.Need-guess-requires
 guess-requires c κs = search needs
