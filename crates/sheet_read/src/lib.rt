@@ -244,6 +244,7 @@ fn read_behind(
     ensures { λ _. ⌜ now (counts .exit) ≡ countsTold (reading (now (s .entry))) (now (counts .entry)) ⌝ }
     ensures { λ _. ⌜ now (longests .exit) ≡ longestsTold (reading (now (s .entry))) (now (longests .entry)) ⌝ }
 {
+    let mut streams = first;
     if edition_stands(head.kind, s, first) {
         let met = sheet_record::record_at(s, first);
         let given = Given {
@@ -258,9 +259,10 @@ fn read_behind(
                 place: first,
             };
         }
-        return read_streams(s, head, met.next, counts, longests);
+        streams = met.next;
     }
-    read_streams(s, head, first, counts, longests)
+    // One call, so that it is taken in here, where the first record's kind is known: each bus has its own loop then.
+    read_streams(s, head, streams, counts, longests)
 }
 
 // What a whole sheet is: accepted, or refused with a number and a place. One pass reads it and gathers what the planners ask of a master: it
@@ -311,8 +313,5 @@ pub fn edition(s: &[u8]) -> u32
     ensures { λ r. ⌜ r ≡ editionAt (now (s .entry)) ⌝ }
 {
     let met = sheet_record::record_of(s, 2, 8);
-    if met.next == 2 {
-        return 1;
-    }
-    met.found.a
+    if met.next == 2 { 1 } else { met.found.a }
 }

@@ -1,6 +1,8 @@
 -- `sheet_read::read_behind` meets its contract: the edition by itself, where it stands, and the streams by `read_streams`. Assumes nothing.
-use mathlib.Core.Path.{sym, _∙_}
+use mathlib.Core.Path.{sym, _∙_, subst}
+use mathlib.Core.Logic.{⊎-elim}
 use borrow.Author.Needs.{needs}
+use Rattle.sheet_read.specs.Steps.{Opened}
 use Rattle.sheet_read.proofs.Behind.{refused-keeps, opened-at-once, MeetsEdition, refused-edition, opened-behind}
 use Rattle.sheet_read.proofs.read_behind.Statement.{statement}
 use Rattle.sheet_read.proofs.read_behind.Tie as tie
@@ -39,18 +41,24 @@ returns c =
     let e = refused-edition (meets (c .before)) (c .if2 .taken) in
     (e, refused-keeps (a .s .now) _ _ _ (a .counts .now) (a .longests .now) e)
 
+-- where the streams begin: behind the edition, or behind the first record
+opened : (c : tie.Joined1) → Opened (c .before .before .before .args .s .now) (c .before .before .before .args .head) (c .if1 .streams)
+opened c =
+    let a = c .before .before .before in
+    let none = sym (c .before .edition-stands .ensures) in
+    ⊎-elim
+    (λ w.
+    let m : MeetsEdition (a .args .s .now) (a .args .head) (a .args .first) (w .1 .result) (w .2 .result) (w .4 .result) =
+    record { begun = a .pre; stands = none ∙ w .0 .taken; is-met = w .1 .ensures; is-ranged = w .2 .ensures; is-own = w .4 .ensures } in
+    subst (Opened (a .args .s .now) (a .args .head)) (sym (w .6)) (opened-behind m (w .5 .left)))
+    (λ w. subst (Opened (a .args .s .now) (a .args .head)) (sym (w .1)) (opened-at-once (a .pre) (none ∙ w .0 .left)))
+    (c .if1 .came)
+
 read-streams-requires : tie.Need-read-streams-requires
-read-streams-requires c κs = opened-behind (meets (c .before .before .before)) (c .before .before .if2 .left)
+read-streams-requires c κs = opened (c .before .before)
 
 returns-2 : tie.Need-returns-2
 returns-2 c = search needs
-
-read-streams-requires-2 : tie.Need-read-streams-requires-2
-read-streams-requires-2 c κs =
-    opened-at-once (c .before .before .before .before .before .pre) (sym (c .before .before .before .edition-stands .ensures) ∙ c .before .before .if1 .left)
-
-returns-3 : tie.Need-returns-3
-returns-3 c = search needs
 
 pub read-behind-spec : {M : Type 1} → statement M
 read-behind-spec =
@@ -62,6 +70,4 @@ read-behind-spec =
     own-no-requires
     returns
     read-streams-requires
-    returns-2
-    read-streams-requires-2
-    returns-3)
+    returns-2)
