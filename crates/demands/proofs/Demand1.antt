@@ -21,6 +21,7 @@ use Rattle.sheet_read.proofs.Refusals.{refused-exactly}
 use Rattle.sheet_read.proofs.Lengths.{reading-prefix}
 use Rattle.pnet_rules.specs.Segment.{Segment}
 use Rattle.pnet_plan.specs.Planned.{planned, runOf}
+use Rattle.worldfip_figures.specs.Declares.{trafficOf}
 use Rattle.worldfip_plan.specs.Answer as fip
 use Rattle.worldfip_plan.specs.declared.answer.Plan.the-variants as plan
 use Rattle.capture_log.specs.Log.{Before}
@@ -60,7 +61,7 @@ pub worldfip-refusal-keeps-the-rows : (s old : List ℕ) (n p : ℕ) → fip.pla
 unfolding fip.planOf fip.runOf
 worldfip-refusal-keeps-the-rows s old n p e = split (reading s) e
   where
-    by : (S : Sheet) (v : Verdict) → fip.planBy v (fip.trafficOf S) ≡ plan.Refused n p → fip.runBy v (fip.trafficOf S) old ≡ old
+    by : (S : Sheet) (v : Verdict) → fip.planBy v (trafficOf S) ≡ plan.Refused n p → fip.runBy v (trafficOf S) old ≡ old
     by S Passed q = let z : _≡_ {A = ℕ} 0 1 = cc in absurd (omega arith)
     by S (Refused m k) q = refl
 

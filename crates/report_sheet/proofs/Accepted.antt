@@ -16,6 +16,7 @@ use Rattle.pnet_plan.specs.Planned as pnet
 use Rattle.profibus_plan.specs.Planned as profibus
 use Rattle.profibus_plan.specs.declared.answer.Plan.{Plan}
 use Rattle.profibus_plan.specs.declared.answer.Plan.the-variants as ring
+use Rattle.worldfip_figures.specs.Declares.{trafficOf}
 use Rattle.worldfip_plan.specs.Answer as fip
 use Rattle.text.specs.Text.{item}
 use Rattle.report_phrases.specs.Phrases.{refusedText, refusalText}
@@ -98,7 +99,7 @@ unfolding fip.planOf tableAccepts tableReport tableOf tableText tableHead
 table-agrees (Not n p) = Agrees.refused n p
 table-agrees (Read S) = by (verdict (fip.planChecks S 4096))
   where
-    by : (v : Verdict) → Agrees (tableAccepts (fip.planBy v (fip.trafficOf S))) (tableBy v (fip.trafficOf S))
+    by : (v : Verdict) → Agrees (tableAccepts (fip.planBy v (trafficOf S))) (tableBy v (trafficOf S))
     by Passed = Agrees.accepted refl
     by (Refused n p) = Agrees.refused n p
 

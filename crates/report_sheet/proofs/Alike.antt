@@ -28,6 +28,7 @@ use Rattle.pnet_rules.specs.Segment.{segmentOf}
 use Rattle.pnet_plan.specs.Planned.{firstLate, planChecks, plannedBy, planned, planOf as segmentPlan}
 use Rattle.profibus_plan.specs.Planned.{planOf as ringPlan}
 use Rattle.worldfip_rules.specs.Traffic.{Traffic, slots, rows, missOf, missingOf}
+use Rattle.worldfip_figures.specs.Declares.{trafficOf}
 use Rattle.worldfip_plan.specs.Answer as fip
 use Rattle.worldfip_plan.specs.declared.answer.Plan.the-variants as answer
 use Rattle.report_phrases.specs.Phrases.{refusalText}
@@ -150,7 +151,7 @@ no-13-segment s p e = by (reading s) refl e
 
 -- 4,096 places hold every table
 pub no-13-table : (s : List ℕ) (p : ℕ) → fip.planOf (reading s) 4096 ≡ answer.Refused 13 p → ⊥
-unfolding fip.planOf fip.planChecks fip.tableChecks verdict
+unfolding fip.planOf fip.planChecks verdict
 no-13-table s p e = by (reading s) refl e
   where
     checks : (a b c d : Bool) (x y : ℕ) → cond a (Refused 3 0) (cond b (Refused 10 0) (cond c (Refused 11 0) (cond c (Refused 13 x) (cond d (Refused 12 y) Passed)))) ≡ Refused 13 p → ⊥
@@ -167,6 +168,6 @@ no-13-table s p e = by (reading s) refl e
     by : (o : Outcome) → reading s ≡ o → fip.planOf o 4096 ≡ answer.Refused 13 p → ⊥
     by (Not n q) r f = let k : n ≡ 13 = cc in omega (arith, numbers-given s (given-then s n q r))
     by (Read S) r f =
-        let T = fip.trafficOf S in
+        let T = trafficOf S in
         checks (not (eqb (busIn S) 5)) (eqb (slots T) 0) (ltb 4096 (rows T)) (leb (missOf T) (rows T)) (rows T) (missingOf T)
         (refused T (verdict (fip.planChecks S 4096)) f)

@@ -24,7 +24,8 @@ use Rattle.profibus_plan.specs.Planned.{planOf}
 use Rattle.profibus_plan.specs.declared.answer.Plan.{Plan}
 use Rattle.profibus_plan.specs.declared.answer.Plan.the-variants as ring
 use Rattle.worldfip_rules.specs.Traffic.{microcycle, slots, rows, rowOf, variableOf, identifierAt}
-use Rattle.worldfip_plan.specs.Answer.{variableAt, trafficOf, planChecks}
+use Rattle.worldfip_figures.specs.Declares.{variableAt, trafficOf}
+use Rattle.worldfip_plan.specs.Answer.{planChecks}
 use Rattle.report_sheet.specs.declared.Reported.{Reported}
 use Rattle.report_sheet.specs.declared.Reported.the-variants as answer
 use Rattle.report_sheet.specs.Whole.{mostText, segmentReport, ringReport, tableOf, tableBy, tableReport, firstBus, reportOf, accepts, told, answerOf}

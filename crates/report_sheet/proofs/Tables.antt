@@ -18,7 +18,9 @@ use Rattle.sheet_read.specs.Sheets.{Sheet, busIn}
 use Rattle.sheet_read.specs.Whole.{Outcome}
 use Rattle.sheet_read.specs.Whole.Outcome.{Read, Not}
 use Rattle.worldfip_rules.specs.Traffic.{microcycle, slots, rows, rowOf, identifierAt}
-use Rattle.worldfip_plan.specs.Answer.{trafficOf, tableChecks, planChecks, planBy, planOf, runBy, runOf, identifierOf}
+use Rattle.worldfip_figures.specs.Declares.{trafficOf}
+use Rattle.worldfip_figures.specs.Figures.{identifierOf}
+use Rattle.worldfip_plan.specs.Answer.{planChecks, planBy, planOf, runBy, runOf}
 use Rattle.worldfip_plan.specs.declared.answer.Plan.the-variants as answer
 use Rattle.text.specs.Text.{item}
 use Rattle.report_phrases.specs.Phrases.{refusalText}
@@ -33,7 +35,7 @@ row-same m row f g e = rw (texts-same (nameAt row f) (nameAt row g) 64 (λ r h. 
 
 -- what a sheet passed that has a table
 pub table-passed : (S : Sheet) → verdict (planChecks S 4096) ≡ Passed → (busIn S ≡ 5) × (rows (trafficOf S) ≤ 4096)
-unfolding planChecks tableChecks
+unfolding planChecks
 table-passed S e = by (passed-then (planChecks S 4096) e)
   where
     by : Clear (planChecks S 4096) → (busIn S ≡ 5) × (rows (trafficOf S) ≤ 4096)

@@ -23,7 +23,8 @@ use Rattle.profibus_plan.specs.Planned.{planOf as ringPlan}
 use Rattle.profibus_plan.specs.declared.answer.Plan.{Plan as RingPlan}
 use Rattle.profibus_plan.specs.declared.answer.Plan.the-variants as ring
 use Rattle.worldfip_rules.specs.Traffic.{Traffic, microcycle, slots, rows, rowOf, identifierAt}
-use Rattle.worldfip_plan.specs.Answer.{trafficOf, planChecks, planOf as tablePlan}
+use Rattle.worldfip_figures.specs.Declares.{trafficOf}
+use Rattle.worldfip_plan.specs.Answer.{planChecks, planOf as tablePlan}
 use Rattle.worldfip_plan.specs.declared.answer.Plan.{Plan as TablePlan}
 use Rattle.worldfip_plan.specs.declared.answer.Plan.the-variants as table
 use Rattle.report_sheet.specs.declared.Reported.{Reported}

@@ -152,7 +152,7 @@ fn table_report(s: &[u8], out: &mut [u8]) -> Reported
             slots,
             rows,
         } => {
-            let names = worldfip_plan::identifiers(s);
+            let names = worldfip_figures::identifiers(s);
             Reported::Accepted(put_table(out, microcycle, slots, rows, &table, &names))
         }
         worldfip_plan::Plan::Refused { no, place } => refuse(out, no, place),

@@ -178,7 +178,7 @@ fn say_names(names: &[u16; 64]) {
 fn plan_worldfip(s: &[u8], rows: &mut [u64]) {
     say_worldfip(worldfip_plan::plan(s, rows));
     say_table(rows);
-    let names = worldfip_plan::identifiers(s);
+    let names = worldfip_figures::identifiers(s);
     say_names(&names);
 }
 

@@ -8,8 +8,9 @@ use Rattle.sheet_read.specs.Whole.{reading}
 use Rattle.worldfip_rules.specs.Build.{row, missRow, byRank}
 use Rattle.units.specs.Units.{us}
 use Rattle.worldfip_rules.specs.Traffic.{askedOf}
+use Rattle.worldfip_figures.specs.Figures.{identifierOf}
 use Rattle.worldfip_plan.specs.declared.answer.Plan.the-variants as plan
-use Rattle.worldfip_plan.specs.Answer.{planOf, runOf, identifierOf}
+use Rattle.worldfip_plan.specs.Answer.{planOf, runOf}
 
 -- a lent run of six places before the call
 abbrev six : List ℕ

@@ -20,12 +20,13 @@ use Rattle.worldfip_rules.specs.Table.{Table}
 use Rattle.worldfip_rules.specs.Traffic.{Traffic, rows, askedOf, rowOf}
 use Rattle.worldfip_rules.proofs.Rows.{table-same}
 use Rattle.worldfip_rules.proofs.Factors.{asked-sound}
+use Rattle.worldfip_figures.specs.Declares.{trafficOf}
+use Rattle.worldfip_figures.proofs.Passing.{declared}
 use Rattle.worldfip_plan.specs.declared.answer.Plan.{Plan}
 use Rattle.worldfip_plan.specs.declared.answer.Plan.the-variants as plan
-use Rattle.worldfip_plan.specs.Answer.{trafficOf, planChecks, planBy, runBy, planOf, runOf}
+use Rattle.worldfip_plan.specs.Answer.{planChecks, planBy, runBy, planOf, runOf}
 use Rattle.worldfip_plan.specs.Refusals.{Answers, Room}
 use Rattle.worldfip_plan.specs.Refusals.Answers.{another-bus, none-fits, too-many, too-short, misses, table}
-use Rattle.worldfip_plan.proofs.Passing.{declared}
 use Rattle.worldfip_plan.proofs.Refusals.{plan-answers}
 
 -- ---- A refusal

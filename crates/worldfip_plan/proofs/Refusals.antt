@@ -17,14 +17,14 @@ use Rattle.worldfip_rules.specs.Traffic.{Traffic, Declared, microcycle, slots, 
 use Rattle.worldfip_rules.specs.Misses.{Named}
 use Rattle.worldfip_rules.proofs.Promises.{table-built}
 use Rattle.worldfip_rules.proofs.Named.{missing-named, named-miss, named-only}
+use Rattle.worldfip_figures.specs.Declares.{trafficOf}
+use Rattle.worldfip_figures.proofs.Passing.{declared}
 use Rattle.worldfip_plan.specs.declared.answer.Plan.{Plan}
 use Rattle.worldfip_plan.specs.declared.answer.Plan.the-variants as plan
-use Rattle.worldfip_plan.specs.Answer.{trafficOf, tableChecks, planBy, planOf}
-use Rattle.worldfip_plan.specs.Held.{tablePlan}
+use Rattle.worldfip_plan.specs.Answer.{planChecks, planBy, planOf}
 use Rattle.worldfip_plan.specs.Refusals.{Fits, Few, Room, Answers}
 use Rattle.worldfip_plan.specs.Refusals.Answers.{another-bus, none-fits, too-many, too-short, misses, table}
-use Rattle.worldfip_plan.proofs.Answers.{gives-10, gives-11, gives-13, gives-12, gives-none}
-use Rattle.worldfip_plan.proofs.Passing.{declared, this-bus, other-bus}
+use Rattle.worldfip_plan.proofs.Answers.{gives-3, gives-10, gives-11, gives-13, gives-12, gives-none}
 
 -- an exchange fits exactly if there is a slot
 module _ (T : Traffic) (D : Declared T) where
@@ -42,31 +42,34 @@ module _ (T : Traffic) (D : Declared T) where
   nobody l i N = omega (arith, named-miss T D N)
 
 module _ (s : List ℕ) (S : Sheet) (known : Known s S) (room : ℕ) where
+  answered : {v : Verdict} → verdict (planChecks S room) ≡ v → planOf (Read S) room ≡ planBy v (trafficOf S)
+  unfolding planOf
+  answered e = ap (λ (x : Verdict). planBy x (trafficOf S)) e
+
+  only-3 : (busIn S ≡ worldfip → ⊥) → planOf (Read S) room ≡ plan.Refused 3 0
+  only-3 h = answered (gives-3 S room h)
+
   module _ (bus : busIn S ≡ worldfip) where
     D : Declared (trafficOf S)
     D = declared s S known bus
 
-    answered : {v : Verdict} → verdict (tableChecks (trafficOf S) room) ≡ v → planOf (Read S) room ≡ planBy v (trafficOf S)
-    unfolding tablePlan
-    answered e = this-bus S bus room ∙ ap (λ (x : Verdict). planBy x (trafficOf S)) e
-
     -- ---- No other answer is the page's
 
     only-10 : microcycle (trafficOf S) < trafficOf S .exchange → planOf (Read S) room ≡ plan.Refused 10 0
-    only-10 l = answered (gives-10 (trafficOf S) room (no-slot (trafficOf S) D l))
+    only-10 l = answered (gives-10 S room bus (no-slot (trafficOf S) D l))
 
     only-11 : Fits (trafficOf S) → 4096 < rows (trafficOf S) → planOf (Read S) room ≡ plan.Refused 11 0
-    only-11 f l = answered (gives-11 (trafficOf S) room (a-slot (trafficOf S) D f) l)
+    only-11 f l = answered (gives-11 S room bus (a-slot (trafficOf S) D f) l)
 
     only-13 : Few (trafficOf S) → room < rows (trafficOf S) → planOf (Read S) room ≡ plan.Refused 13 (rows (trafficOf S))
-    only-13 f l = answered (gives-13 (trafficOf S) room (a-slot (trafficOf S) D (f .fits)) (f .most) l)
+    only-13 f l = answered (gives-13 S room bus (a-slot (trafficOf S) D (f .fits)) (f .most) l)
 
     only-12 : Room (trafficOf S) room → missOf (trafficOf S) ≤ rows (trafficOf S) → planOf (Read S) room ≡ plan.Refused 12 (missingOf (trafficOf S))
-    only-12 f l = answered (gives-12 (trafficOf S) room (a-slot (trafficOf S) D (f .few .fits)) (f .few .most) (f .lent) l)
+    only-12 f l = answered (gives-12 S room bus (a-slot (trafficOf S) D (f .few .fits)) (f .few .most) (f .lent) l)
 
     only-table : Room (trafficOf S) room → rows (trafficOf S) < missOf (trafficOf S)
         → planOf (Read S) room ≡ plan.Accepted (us (microcycle (trafficOf S))) (slots (trafficOf S)) (rows (trafficOf S))
-    only-table f l = answered (gives-none (trafficOf S) room (a-slot (trafficOf S) D (f .few .fits)) (f .few .most) (f .lent) l)
+    only-table f l = answered (gives-none S room bus (a-slot (trafficOf S) D (f .few .fits)) (f .few .most) (f .lent) l)
 
     -- ---- The planner's is
 
@@ -93,10 +96,10 @@ module _ (s : List ℕ) (S : Sheet) (known : Known s S) (room : ℕ) where
     where
       by-bus : Dec (busIn S ≡ worldfip) → Answers S room (planOf (Read S) room)
       by-bus (yes e) = by-slots e (decLt (microcycle (trafficOf S)) (trafficOf S .exchange))
-      by-bus (no e) = rw (other-bus S e room) (another-bus e)
+      by-bus (no e) = rw (only-3 e) (another-bus e)
 
   pub answers-only : (p : Plan) → Answers S room p → p ≡ planOf (Read S) room
-  answers-only p (another-bus e) = sym (other-bus S e room)
+  answers-only p (another-bus e) = sym (only-3 e)
   answers-only p (none-fits e l) = sym (only-10 e l)
   answers-only p (too-many e f l) = sym (only-11 e f l)
   answers-only p (too-short e f l) = sym (only-13 e f l)

@@ -8,9 +8,9 @@ use Rattle.worldfip_rules.specs.Table.{Table}
 use Rattle.units.specs.Units.{us}
 use Rattle.worldfip_rules.specs.Traffic.{Traffic, microcycle, slots, rows, askedOf, rowOf}
 use Rattle.worldfip_rules.specs.Misses.{Named}
+use Rattle.worldfip_figures.specs.Declares.{trafficOf}
 use Rattle.worldfip_plan.specs.declared.answer.Plan.{Plan}
 use Rattle.worldfip_plan.specs.declared.answer.Plan.the-variants as plan
-use Rattle.worldfip_plan.specs.Answer.{trafficOf}
 
 -- one exchange at least fits a microcycle
 pub record Fits (T : Traffic) : Type 0 where

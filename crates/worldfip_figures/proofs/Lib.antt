@@ -1,0 +1,4 @@
+pub mod Measured
+pub mod Passing
+pub mod Tied
+pub mod Turns

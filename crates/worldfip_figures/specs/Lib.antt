@@ -1,0 +1,3 @@
+pub mod Declares
+pub mod Figures
+pub mod Held
