@@ -69,10 +69,13 @@ unfoldable pub largest : Segment → ℕ
 unfolding greatest hold
 largest S = greatest (hold S) (S .masters)
 
--- what each master is charged: its H; under edition 2 the largest H in the segment, be the master silent or not
+-- what an edition charges each master, by the H of each and the largest of them: its H; under edition 2 the largest, be the master silent or not
+abbrev pub chargedBy : (ℕ → ℕ) → ℕ → ℕ → ℕ → ℕ
+chargedBy h most edition = cond (eqb edition 2) (λ y. most) h
+
 unfoldable pub charged : Segment → ℕ → ℕ
 unfolding hold largest
-charged S = cond (eqb (S .edition) 2) (λ y. largest S) (hold S)
+charged S = chargedBy (hold S) (largest S) (S .edition)
 
 -- V under a charge h for each master: its sum over masters 1..N
 unfoldable pub turnBy : (ℕ → ℕ) → Segment → ℕ

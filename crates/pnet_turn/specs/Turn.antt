@@ -2,13 +2,12 @@
 -- longest C of them; and page 02, Ask 10: what each master is charged under an edition. Assumes nothing.
 use Prim.Native.Nat.{ℕ, min, max}
 use mathlib.Core.List.{List}
-use mathlib.Core.Bool.{cond}
 use lib.Dec.{eqb}
 use lib.ListN.{getD}
 use Rattle.common.specs.Sums.{when, upto, greatest}
 use Rattle.units.specs.Units.{capped}
 use Rattle.units.specs.declared.BitPeriods.{BitPeriods}
-use Rattle.pnet_rules.specs.Segment.{charge}
+use Rattle.pnet_rules.specs.Segment.{charge, chargedBy}
 
 -- what stands at a place, and 0 past the end
 abbrev pub at : List ℕ → ℕ → ℕ
@@ -24,10 +23,10 @@ unfoldable pub largestIn : List ℕ → List ℕ → ℕ → ℕ
 unfolding greatest holdIn
 largestIn counts longests N = greatest (holdIn counts longests) (min N 32)
 
--- what each is charged: its H; under edition 2 every master 1..N, silent or not, the largest H of them
+-- what each is charged under an edition
 unfoldable pub chargedIn : List ℕ → List ℕ → ℕ → ℕ → ℕ → ℕ
 unfolding holdIn largestIn
-chargedIn counts longests N edition = cond (eqb edition 2) (λ y. largestIn counts longests N) (holdIn counts longests)
+chargedIn counts longests N edition = chargedBy (holdIn counts longests) (largestIn counts longests N) edition
 
 -- V: the sum of what masters 1..N are charged, again at most 32
 unfoldable pub turnOf : List ℕ → List ℕ → ℕ → ℕ → BitPeriods

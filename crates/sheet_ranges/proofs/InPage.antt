@@ -7,11 +7,12 @@ use mathlib.Core.List.{List, [], _∷_}
 use Prim.Native.Nat.{ℕ, zero, suc, _+_, _-_, _≤_}
 use native.Mathlib.Omega.{arith}
 use borrow.Author.Tests.{eq-eqb}
+use lib.Dec.{eqb}
 use lib.ListN.{length, getD}
 use Rattle.sheet_record.specs.declared.Given.{Given}
 use Rattle.sheet_record.specs.declared.Record.{Record}
 use Rattle.sheet_record.specs.Kinds.{Field, kinds, lineOf, fieldsOf, known, fieldAt, decode, numbers, limit, ranged, inRange}
-use Rattle.sheet_ranges.specs.Ranges.{Range, SegmentRanges, PnetStreamRanges, RingRanges, RingStreamRanges, ExchangeRanges, VariableRanges, JitterStreamRanges, EditionRanges, InPage}
+use Rattle.sheet_ranges.specs.Ranges.{Range, OneField, SegmentRanges, PnetStreamRanges, RingRanges, RingStreamRanges, ExchangeRanges, VariableRanges, JitterStreamRanges, EditionRanges, InPage}
 use Rattle.sheet_ranges.specs.Ranges.InPage.{segment, pnet-stream, ring, ring-stream, exchange, variable, jitter-stream, edition}
 use Rattle.sheet_record.proofs.Parts.{by-kind}
 use Rattle.sheet_ranges.proofs.Ranges.{range-within, segment-ranges, pnet-stream-ranges, ring-ranges, ring-stream-ranges, exchange-ranges, variable-ranges, jitter-stream-ranges, edition-ranges}
@@ -24,11 +25,13 @@ together a b c d e = rw (a, b, c, d, e)
 
 -- a record whose fields are in the page's ranges, and 0 where its kind has no field, is in range
 module _ (g : Given) (r : Record) where
+  alone : {p : Bool} → p ≡ true → OneField r → p && (eqb (r .b) 0 && (eqb (r .c) 0 && (eqb (r .d) 0 && (eqb (r .e) 0 && true)))) ≡ true
+  alone a w = together a (eq-eqb (r .b) 0 (w .no-b)) (eq-eqb (r .c) 0 (w .no-c)) (eq-eqb (r .d) 0 (w .no-d)) (eq-eqb (r .e) 0 (w .no-e))
+
   pub segment-in-range : r .kind ≡ 1 → SegmentRanges r → inRange g r ≡ true
   unfolding inRange ranged limit fieldsOf lineOf kinds
   segment-in-range k w =
-      rw k (together (range-within 1 (r .a) 32 (w .masters)) (eq-eqb (r .b) 0 (w .no-b)) (eq-eqb (r .c) 0 (w .no-c))
-      (eq-eqb (r .d) 0 (w .no-d)) (eq-eqb (r .e) 0 (w .no-e)))
+      rw k (alone (range-within 1 (r .a) 32 (w .masters)) (w .one-field))
 
   pub pnet-stream-in-range : r .kind ≡ 2 → PnetStreamRanges g r → inRange g r ≡ true
   unfolding inRange ranged limit fieldsOf lineOf kinds
@@ -51,8 +54,7 @@ module _ (g : Given) (r : Record) where
   pub exchange-in-range : r .kind ≡ 5 → ExchangeRanges r → inRange g r ≡ true
   unfolding inRange ranged limit fieldsOf lineOf kinds
   exchange-in-range k w =
-      rw k (together (range-within 1 (r .a) 1000000 (w .exchange)) (eq-eqb (r .b) 0 (w .no-b)) (eq-eqb (r .c) 0 (w .no-c))
-      (eq-eqb (r .d) 0 (w .no-d)) (eq-eqb (r .e) 0 (w .no-e)))
+      rw k (alone (range-within 1 (r .a) 1000000 (w .exchange)) (w .one-field))
 
   pub variable-in-range : r .kind ≡ 6 → VariableRanges r → inRange g r ≡ true
   unfolding inRange ranged limit fieldsOf lineOf kinds
@@ -70,8 +72,7 @@ module _ (g : Given) (r : Record) where
   pub edition-in-range : r .kind ≡ 8 → EditionRanges r → inRange g r ≡ true
   unfolding inRange ranged limit fieldsOf lineOf kinds
   edition-in-range k w =
-      rw k (together (range-within 1 (r .a) 2 (w .edition)) (eq-eqb (r .b) 0 (w .no-b)) (eq-eqb (r .c) 0 (w .no-c))
-      (eq-eqb (r .d) 0 (w .no-d)) (eq-eqb (r .e) 0 (w .no-e)))
+      rw k (alone (range-within 1 (r .a) 2 (w .edition)) (w .one-field))
 
 -- ---- All kinds
 

@@ -12,7 +12,7 @@ use Rattle.sheet_record.specs.declared.Given.{Given}
 use Rattle.sheet_record.specs.declared.Record.{Record}
 use Rattle.sheet_record.specs.Kinds.{Field, Limit, kinds, lineOf, fieldsOf, isStreamOf, limit, within, ranged, inRange, numbers}
 use Rattle.sheet_record.specs.Kinds.Limit.{is, masters, message, own, under, less}
-use Rattle.sheet_ranges.specs.Ranges.{Range, SegmentRanges, PnetStreamRanges, RingRanges, RingStreamRanges, ExchangeRanges, VariableRanges, JitterStreamRanges, EditionRanges}
+use Rattle.sheet_ranges.specs.Ranges.{Range, OneField, SegmentRanges, PnetStreamRanges, RingRanges, RingStreamRanges, ExchangeRanges, VariableRanges, JitterStreamRanges, EditionRanges}
 use Rattle.sheet_record.proofs.Tables.{both-true}
 use Rattle.sheet_record.proofs.Parts.{pnet-stream-kinds}
 
@@ -87,16 +87,17 @@ tests false q s t u e = record { for-a = e; for-b = cc; for-c = cc; for-d = cc; 
 
 -- what is in range has its fields in the page's ranges
 module _ (g : Given) (r : Record) (e : inRange g r ≡ true) where
+  none-behind : eqb (r .b) 0 ≡ true → eqb (r .c) 0 ≡ true → eqb (r .d) 0 ≡ true → eqb (r .e) 0 ≡ true → OneField r
+  none-behind b c d e' =
+      record { no-b = eqb-true (r .b) 0 b; no-c = eqb-true (r .c) 0 c; no-d = eqb-true (r .d) 0 d; no-e = eqb-true (r .e) 0 e' }
+
   pub segment-ranges : r .kind ≡ 1 → SegmentRanges r
   unfolding inRange ranged limit fieldsOf lineOf kinds
   segment-ranges k =
       let t = tests _ _ _ _ _ (rw k at e) in
       record {
         masters = within-range 1 (r .a) 32 (t .for-a);
-        no-b = eqb-true (r .b) 0 (t .for-b);
-        no-c = eqb-true (r .c) 0 (t .for-c);
-        no-d = eqb-true (r .d) 0 (t .for-d);
-        no-e = eqb-true (r .e) 0 (t .for-e);
+        one-field = none-behind (t .for-b) (t .for-c) (t .for-d) (t .for-e);
       }
 
   pub pnet-stream-ranges : r .kind ≡ 2 → PnetStreamRanges g r
@@ -141,10 +142,7 @@ module _ (g : Given) (r : Record) (e : inRange g r ≡ true) where
       let t = tests _ _ _ _ _ (rw k at e) in
       record {
         exchange = within-range 1 (r .a) 1000000 (t .for-a);
-        no-b = eqb-true (r .b) 0 (t .for-b);
-        no-c = eqb-true (r .c) 0 (t .for-c);
-        no-d = eqb-true (r .d) 0 (t .for-d);
-        no-e = eqb-true (r .e) 0 (t .for-e);
+        one-field = none-behind (t .for-b) (t .for-c) (t .for-d) (t .for-e);
       }
 
   pub variable-ranges : r .kind ≡ 6 → VariableRanges r
@@ -178,10 +176,7 @@ module _ (g : Given) (r : Record) (e : inRange g r ≡ true) where
       let t = tests _ _ _ _ _ (rw k at e) in
       record {
         edition = within-range 1 (r .a) 2 (t .for-a);
-        no-b = eqb-true (r .b) 0 (t .for-b);
-        no-c = eqb-true (r .c) 0 (t .for-c);
-        no-d = eqb-true (r .d) 0 (t .for-d);
-        no-e = eqb-true (r .e) 0 (t .for-e);
+        one-field = none-behind (t .for-b) (t .for-c) (t .for-d) (t .for-e);
       }
 
   -- a P-NET stream of either kind has the ranges of one with jitter: without it J is 0

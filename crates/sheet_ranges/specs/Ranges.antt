@@ -11,13 +11,17 @@ pub record Range (lo x hi : ℕ) : Type 0 where
 
 -- ---- Kind by kind; a field that the kind does not have is 0
 
--- 1, P-NET segment: masters N, 1..32
-pub record SegmentRanges (r : Record) : Type 0 where
-  pub masters : Range 1 (r .a) 32
+-- a record of a kind with one field
+pub record OneField (r : Record) : Type 0 where
   pub no-b : r .b ≡ 0
   pub no-c : r .c ≡ 0
   pub no-d : r .d ≡ 0
   pub no-e : r .e ≡ 0
+
+-- 1, P-NET segment: masters N, 1..32
+pub record SegmentRanges (r : Record) : Type 0 where
+  pub masters : Range 1 (r .a) 32
+  pub one-field : OneField r
 
 -- 2, P-NET stream: master 1..N, longest cycle C 1..1,548 bp, spacing T 1..1,000,000,000 bp, deadline D 1..T bp
 pub record PnetStreamRanges (g : Given) (r : Record) : Type 0 where
@@ -46,10 +50,7 @@ pub record RingStreamRanges (g : Given) (r : Record) : Type 0 where
 -- 5, WorldFIP: one buffer exchange E, 1..1,000,000 us
 pub record ExchangeRanges (r : Record) : Type 0 where
   pub exchange : Range 1 (r .a) 1000000
-  pub no-b : r .b ≡ 0
-  pub no-c : r .c ≡ 0
-  pub no-d : r .d ≡ 0
-  pub no-e : r .e ≡ 0
+  pub one-field : OneField r
 
 -- 6, WorldFIP variable: identifier (2 bytes, any), period 1..1,000,000,000 us
 pub record VariableRanges (r : Record) : Type 0 where
@@ -70,10 +71,7 @@ pub record JitterStreamRanges (g : Given) (r : Record) : Type 0 where
 -- 8, edition of the P-NET rule: 1 or 2
 pub record EditionRanges (r : Record) : Type 0 where
   pub edition : Range 1 (r .a) 2
-  pub no-b : r .b ≡ 0
-  pub no-c : r .c ≡ 0
-  pub no-d : r .d ≡ 0
-  pub no-e : r .e ≡ 0
+  pub one-field : OneField r
 
 -- ---- A record of any kind
 

@@ -47,7 +47,7 @@ ranged-for-writer h r f i its j = split (first-kinds (h .kind) f)
     split : h .kind ≡ 1 ⊎ h .kind ≡ 3 ⊎ h .kind ≡ 5 → inRange greatest r ≡ true
     split (inl e) =
         let w = segment-ranges no-limits h i e in
-        in-range-mono (limits-of h) greatest r (record { masters = w .masters .most; message = omega (arith, w .no-c) }) j
+        in-range-mono (limits-of h) greatest r (record { masters = w .masters .most; message = omega (arith, w .one-field .no-c) }) j
     split (inr (inl e)) =
         let w = ring-ranges no-limits h i e in
         in-range-mono (limits-of h) greatest r (record { masters = w .masters .most; message = w .message .most }) j
