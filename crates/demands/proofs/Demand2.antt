@@ -16,7 +16,8 @@ use Rattle.sheet_read.proofs.Known.{reading-read}
 use Rattle.sheet_read.proofs.Trips.{same-records-same-bytes}
 use Rattle.sheet_read.proofs.Writes.{right-writes, writes-read, read-writes, read-writes-alone}
 use Rattle.pnet_rules.specs.Segment.{Segment, count, turn, bound}
-use Rattle.pnet_rules.specs.Refined.{valueOf, right, rounds, refined}
+use Rattle.pnet_rules.specs.Search.{valueFrom}
+use Rattle.pnet_rules.specs.Refined.{right, rounds, refined}
 use Rattle.pnet_rules.proofs.Figures as figures
 use Rattle.pnet_plan.specs.Planned.{planned}
 use Rattle.pnet_plan.specs.Refusals as late
@@ -52,8 +53,8 @@ module _ (S : Segment) (k : ℕ) (from : 1 ≤ k) (to : k ≤ S .masters) where
   pub refined-at-most-bound : refined S k ≤ bound S k
   refined-at-most-bound = figures.refined-at-most-bound S k from to
 
-  pub rounds-first-to-stand : (valueOf (right S k) (rounds S k) ≡ valueOf (right S k) (suc (rounds S k)))
-      × ((j : ℕ) → j < rounds S k → valueOf (right S k) j ≡ valueOf (right S k) (suc j) → ⊥)
+  pub rounds-first-to-stand : (valueFrom 0 (right S k) (rounds S k) ≡ valueFrom 0 (right S k) (suc (rounds S k)))
+      × ((j : ℕ) → j < rounds S k → valueFrom 0 (right S k) j ≡ valueFrom 0 (right S k) (suc j) → ⊥)
   rounds-first-to-stand = (figures.rounds-first S k from to .still, figures.rounds-first S k from to .first)
 
   pub rounds-at-most : rounds S k ≤ 1 + (S .masters - 1) * count S k

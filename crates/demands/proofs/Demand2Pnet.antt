@@ -16,7 +16,8 @@ use Rattle.sheet_read.specs.Sheets.{Sheet, mastersOf}
 use Rattle.sheet_read.specs.Whole.{Outcome}
 use Rattle.sheet_read.specs.Whole.Outcome.{Read, Not}
 use Rattle.pnet_rules.specs.Segment.{Segment, segmentOf, turn, bound}
-use Rattle.pnet_rules.specs.Refined.{right, valueOf, refined, rounds}
+use Rattle.pnet_rules.specs.Search.{valueFrom}
+use Rattle.pnet_rules.specs.Refined.{right, refined, rounds}
 use Rattle.pnet_rules.proofs.Figures as figures
 use Rattle.pnet_plan.specs.Planned.{planned, planOf, atPlace, runOf}
 use Rattle.pnet_plan.specs.declared.answer.Plan.{Plan}
@@ -38,8 +39,8 @@ module _ (S : Segment) (k : ℕ) where
         solves = figures.refined-solves S k from to;
         least = figures.refined-least S k from to;
         reached = refl;
-        stands = settled .still ∙ ap (valueOf (right S k)) (sym (add-one (rounds S k)));
-        first = λ m l e. settled .first m (omega (arith, l)) (e ∙ ap (valueOf (right S k)) (add-one m));
+        stands = settled .still ∙ ap (valueFrom 0 (right S k)) (sym (add-one (rounds S k)));
+        first = λ m l e. settled .first m (omega (arith, l)) (e ∙ ap (valueFrom 0 (right S k)) (add-one m));
         few = omega (arith, most);
         silent = figures.silent-zero S k;
       }

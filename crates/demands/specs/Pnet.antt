@@ -7,7 +7,8 @@ use mathlib.Core.List.{List}
 use lib.ListN.{length, getD}
 use Rattle.sheet_read.specs.Sheets.{Sheet, mastersOf}
 use Rattle.pnet_rules.specs.Segment.{Segment, segmentOf, count, turn}
-use Rattle.pnet_rules.specs.Refined.{right, valueOf}
+use Rattle.pnet_rules.specs.Search.{valueFrom}
+use Rattle.pnet_rules.specs.Refined.{right}
 use Rattle.pnet_plan.specs.declared.answer.Plan.{Plan}
 use Rattle.pnet_plan.specs.declared.answer.Plan.the-variants as plan
 use Rattle.pnet_plan.specs.Refusals.{Given, Accepted}
@@ -20,10 +21,10 @@ pub record Figures (S : Segment) (k R W rounds : ℕ) : Type 0 where
   pub solves : W ≡ right S k W
   pub least : (w : ℕ) → w ≡ right S k w → W ≤ w
   -- 'It is reached from W = 0 by putting the right side for W again and again.': it is the value of the sequence at the round count
-  pub reached : W ≡ valueOf (right S k) rounds
+  pub reached : W ≡ valueFrom 0 (right S k) rounds
   -- 'The round count is the first m whose m-th value equals the next one'
-  pub stands : valueOf (right S k) rounds ≡ valueOf (right S k) (rounds + 1)
-  pub first : (m : ℕ) → m < rounds → valueOf (right S k) m ≡ valueOf (right S k) (m + 1) → ⊥
+  pub stands : valueFrom 0 (right S k) rounds ≡ valueFrom 0 (right S k) (rounds + 1)
+  pub first : (m : ℕ) → m < rounds → valueFrom 0 (right S k) m ≡ valueFrom 0 (right S k) (m + 1) → ⊥
   -- 'it is at most 1 + (N - 1)·s'
   pub few : rounds ≤ 1 + (S .masters - 1) * count S k
   -- 'all zero for a master without streams'

@@ -14,7 +14,8 @@ use Rattle.sheet_record.specs.Kinds.{kinds, lineOf, fieldsOf, busOf, partOf, is
 use Rattle.sheet_read.specs.Sheets.{headOf, having, sheetOf, fits, ofKind, countOf, mostInAll, hasMasters, overLimit, metBefore}
 use Rattle.sheet_read.specs.Whole.{placeOf, recordsOf, before, recordChecks, endChecks, judge, ended, readFrom, reading}
 use Rattle.pnet_rules.specs.Segment.{Segment, segmentOf, streamAt, owns, count, longest, hold, turnBy, boundBy, turn, bound, late}
-use Rattle.pnet_rules.specs.Refined.{saving, rightBy, valueOf, stands, roundsOf, mostRounds, askedBy, right, rounds, refined}
+use Rattle.pnet_rules.specs.Search.{valueFrom, stands, roundsFrom}
+use Rattle.pnet_rules.specs.Refined.{saving, rightBy, mostRounds, askedBy, right, rounds, refined}
 use Rattle.pnet_plan.specs.declared.answer.Plan.the-variants as answer
 use Rattle.pnet_plan.specs.Planned.{firstLate, planChecks, planned, planOf, runOf}
 
@@ -50,14 +51,14 @@ fails = refl
 figures : (runOf (planned (two seldom) 3 3 3) bound (9 ∷ 9 ∷ 9 ∷ []) ≡ 1000 ∷ 500 ∷ 9 ∷ [])
     × (runOf (planned (two seldom) 3 3 3) refined (9 ∷ 9 ∷ 9 ∷ []) ≡ 760 ∷ 500 ∷ 9 ∷ [])
     × (runOf (planned (two seldom) 3 3 3) rounds (9 ∷ 9 ∷ 9 ∷ []) ≡ 1 ∷ 1 ∷ 9 ∷ [])
-unfolding planned planChecks firstLate verdict filled tab segmentOf streamAt owns count longest hold turnBy boundBy turn bound late saving rightBy valueOf stands roundsOf mostRounds askedBy right rounds refined up upto greatest firstOf reading readFrom ended judge recordChecks endChecks recordsOf placeOf before headOf having sheetOf fits ofKind countOf mostInAll hasMasters overLimit metBefore kinds lineOf fieldsOf busOf partOf isSetting isStream widths sizeOf known fieldAt decode limit within ranged inRange be
+unfolding planned planChecks firstLate verdict filled tab segmentOf streamAt owns count longest hold turnBy boundBy turn bound late saving rightBy valueFrom stands roundsFrom mostRounds askedBy right rounds refined up upto greatest firstOf reading readFrom ended judge recordChecks endChecks recordsOf placeOf before headOf having sheetOf fits ofKind countOf mostInAll hasMasters overLimit metBefore kinds lineOf fieldsOf busOf partOf isSetting isStream widths sizeOf known fieldAt decode limit within ranged inRange be
 figures = (refl, refl, refl)
 
 -- the count takes in what waits when the window opens
 figures-waited : (runOf (planned (two often) 3 3 3) bound (9 ∷ 9 ∷ 9 ∷ []) ≡ 1000 ∷ 500 ∷ 9 ∷ [])
     × (runOf (planned (two often) 3 3 3) refined (9 ∷ 9 ∷ 9 ∷ []) ≡ 1000 ∷ 500 ∷ 9 ∷ [])
     × (runOf (planned (two often) 3 3 3) rounds (9 ∷ 9 ∷ 9 ∷ []) ≡ 2 ∷ 1 ∷ 9 ∷ [])
-unfolding planned planChecks firstLate verdict filled tab segmentOf streamAt owns count longest hold turnBy boundBy turn bound late saving rightBy valueOf stands roundsOf mostRounds askedBy right rounds refined up upto greatest firstOf reading readFrom ended judge recordChecks endChecks recordsOf placeOf before headOf having sheetOf fits ofKind countOf mostInAll hasMasters overLimit metBefore kinds lineOf fieldsOf busOf partOf isSetting isStream widths sizeOf known fieldAt decode limit within ranged inRange be
+unfolding planned planChecks firstLate verdict filled tab segmentOf streamAt owns count longest hold turnBy boundBy turn bound late saving rightBy valueFrom stands roundsFrom mostRounds askedBy right rounds refined up upto greatest firstOf reading readFrom ended judge recordChecks endChecks recordsOf placeOf before headOf having sheetOf fits ofKind countOf mostInAll hasMasters overLimit metBefore kinds lineOf fieldsOf busOf partOf isSetting isStream widths sizeOf known fieldAt decode limit within ranged inRange be
 figures-waited = (refl, refl, refl)
 
 -- the third case with D = R = 500 and J = x for master 2
@@ -73,10 +74,10 @@ jittered x =
 
 -- up to J = 98,740 the 760 bp and the 500 that a request may have waited hold one request of master 2
 figures-jittered : (firstLate (jittered 98740) ≡ 4) × (bound (jittered 98740) 1 ≡ 1000) × (refined (jittered 98740) 1 ≡ 760) × (rounds (jittered 98740) 1 ≡ 1)
-unfolding firstLate owns count longest hold turnBy boundBy turn bound late saving rightBy valueOf stands roundsOf mostRounds askedBy right rounds refined up upto greatest firstOf
+unfolding firstLate owns count longest hold turnBy boundBy turn bound late saving rightBy valueFrom stands roundsFrom mostRounds askedBy right rounds refined up upto greatest firstOf
 figures-jittered = (refl, refl, refl, refl)
 
 -- one bp more and they hold two
 figures-jittered-more : (firstLate (jittered 98741) ≡ 4) × (bound (jittered 98741) 1 ≡ 1000) × (refined (jittered 98741) 1 ≡ 1000) × (rounds (jittered 98741) 1 ≡ 2)
-unfolding firstLate owns count longest hold turnBy boundBy turn bound late saving rightBy valueOf stands roundsOf mostRounds askedBy right rounds refined up upto greatest firstOf
+unfolding firstLate owns count longest hold turnBy boundBy turn bound late saving rightBy valueFrom stands roundsFrom mostRounds askedBy right rounds refined up upto greatest firstOf
 figures-jittered-more = (refl, refl, refl, refl)

@@ -2,13 +2,14 @@
 -- under edition 2 passes under edition 1. The first part holds for any two charges of which one is at least the other. Assumes nothing.
 use mathlib.Core.Path.{_≡_, ap}
 use mathlib.Core.Bool.{true}
-use Prim.Native.Nat.{ℕ, _≤_}
+use Prim.Native.Nat.{ℕ, _≤_, zero-le}
 use native.Mathlib.Nat.{mul-le-mul}
 use native.Mathlib.Omega.{arith}
 use borrow.Author.Tests.{lt-ltb, ltb-true}
 use Rattle.common.proofs.Sums.{upto-mono}
 use Rattle.pnet_rules.specs.Segment.{Segment, owns, count, longest, hold, charged, turnBy, boundBy, bound, late}
-use Rattle.pnet_rules.specs.Refined.{rightBy, valueOf, roundsOf, mostRounds, askedBy, right, rounds, refined}
+use Rattle.pnet_rules.specs.Search.{valueFrom, roundsFrom}
+use Rattle.pnet_rules.specs.Refined.{rightBy, mostRounds, askedBy, right, rounds, refined}
 use Rattle.pnet_rules.proofs.Sequence.{value-at-most}
 use Rattle.pnet_rules.proofs.Right.{rightOf, right-no-less}
 use Rattle.pnet_rules.proofs.Holds.{charged-first, charged-covers, charged-at-least}
@@ -32,11 +33,11 @@ module _ (h g : ℕ → ℕ) (S : Segment) (less : (y : ℕ) → 1 ≤ y → y �
         right-no-less h g (askedBy h S) (askedBy g S) (S .masters) (count S k) k w w big less (λ y. asked-no-less h g S y w w (bound-no-less-by y) (omega arith))
 
     -- no value of the one sequence is above the solution of the other
-    pub refined-no-less-by : (m : ℕ) → valueOf (rightBy h (askedBy h S) S k) m ≤ valueOf (rightBy g (askedBy g S) S k) (roundsOf (rightBy g (askedBy g S) S k) (mostRounds S k))
+    pub refined-no-less-by : (m : ℕ) → valueFrom 0 (rightBy h (askedBy h S) S k) m ≤ valueFrom 0 (rightBy g (askedBy g S) S k) (roundsFrom 0 (rightBy g (askedBy g S) S k) (mostRounds S k))
     refined-no-less-by m =
-        let w = valueOf (rightBy g (askedBy g S) S k) (roundsOf (rightBy g (askedBy g S) S k) (mostRounds S k)) in
-        value-at-most (rightBy h (askedBy h S) S k) (right-rises-by h (askedBy h S) S k big (asked-rises h S) lo hi) w
-        (omega (arith, least-by g (askedBy g S) S k larger (asked-rises g S) lo hi .solves, right-no-less-by w)) m
+        let w = valueFrom 0 (rightBy g (askedBy g S) S k) (roundsFrom 0 (rightBy g (askedBy g S) S k) (mostRounds S k)) in
+        value-at-most 0 (rightBy h (askedBy h S) S k) (right-rises-by h (askedBy h S) S k big (asked-rises h S) lo hi) zero-le w
+        (omega (arith, least-by g (askedBy g S) S k larger (asked-rises g S) lo hi .solves, right-no-less-by w)) zero-le m
 
 -- ---- Edition 1 is page 01's rule
 
@@ -49,11 +50,11 @@ module _ (S : Segment) (first : S .edition ≡ 2 → ⊥) (k : ℕ) where
   unfolding right
   right-by-hold = ap (λ (h : ℕ → ℕ). rightBy h (askedBy h S) S k) (charged-first S first)
 
-  pub rounds-by-hold : rounds S k ≡ roundsOf (rightBy (hold S) (askedBy (hold S) S) S k) (mostRounds S k)
+  pub rounds-by-hold : rounds S k ≡ roundsFrom 0 (rightBy (hold S) (askedBy (hold S) S) S k) (mostRounds S k)
   unfolding rounds
   rounds-by-hold = rw right-by-hold
 
-  pub refined-by-hold : refined S k ≡ valueOf (rightBy (hold S) (askedBy (hold S) S) S k) (roundsOf (rightBy (hold S) (askedBy (hold S) S) S k) (mostRounds S k))
+  pub refined-by-hold : refined S k ≡ valueFrom 0 (rightBy (hold S) (askedBy (hold S) S) S k) (roundsFrom 0 (rightBy (hold S) (askedBy (hold S) S) S k) (mostRounds S k))
   unfolding refined
   refined-by-hold = rw (rounds-by-hold, right-by-hold)
 

@@ -8,7 +8,8 @@ use mathlib.Core.List.{[], _∷_}
 use Rattle.common.specs.Sums.{upto, greatest, up, firstOf}
 use Rattle.sheet_record.specs.declared.Record.{Record}
 use Rattle.pnet_rules.specs.Segment.{Segment, segmentOf, streamAt, owns, count, longest, hold, largest, charged, turnBy, boundBy, turn, bound}
-use Rattle.pnet_rules.specs.Refined.{saving, rightBy, valueOf, stands, roundsOf, mostRounds, askedBy, right, rounds, refined}
+use Rattle.pnet_rules.specs.Search.{valueFrom, stands, roundsFrom}
+use Rattle.pnet_rules.specs.Refined.{saving, rightBy, mostRounds, askedBy, right, rounds, refined}
 
 -- two masters with 203 bp cycles: two streams and one, with these spacings and deadlines
 abbrev stream : ℕ → ℕ → Record
@@ -23,16 +24,16 @@ unfolding segmentOf streamAt owns count longest hold largest charged turnBy boun
 bounds = (refl, refl)
 
 refineds : (refined (two 100000) 1 ≡ 760) × (refined (two 100000) 2 ≡ 500) × (rounds (two 100000) 1 ≡ 1) × (rounds (two 100000) 2 ≡ 1)
-unfolding segmentOf streamAt owns count longest hold largest charged turnBy boundBy turn bound upto greatest up firstOf saving rightBy valueOf stands roundsOf mostRounds askedBy right rounds refined
+unfolding segmentOf streamAt owns count longest hold largest charged turnBy boundBy turn bound upto greatest up firstOf saving rightBy valueFrom stands roundsFrom mostRounds askedBy right rounds refined
 refineds = (refl, refl, refl, refl)
 
 waits-from-before : (refined (two 1000) 1 ≡ 1000) × (rounds (two 1000) 1 ≡ 2)
-unfolding segmentOf streamAt owns count longest hold largest charged turnBy boundBy turn bound upto greatest up firstOf saving rightBy valueOf stands roundsOf mostRounds askedBy right rounds refined
+unfolding segmentOf streamAt owns count longest hold largest charged turnBy boundBy turn bound upto greatest up firstOf saving rightBy valueFrom stands roundsFrom mostRounds askedBy right rounds refined
 waits-from-before = (refl, refl)
 
 -- 760 and 1,000 both solve it
 least-of-two : (refined (two 1300) 1 ≡ 760) × (rounds (two 1300) 1 ≡ 1)
-unfolding segmentOf streamAt owns count longest hold largest charged turnBy boundBy turn bound upto greatest up firstOf saving rightBy valueOf stands roundsOf mostRounds askedBy right rounds refined
+unfolding segmentOf streamAt owns count longest hold largest charged turnBy boundBy turn bound upto greatest up firstOf saving rightBy valueFrom stands roundsFrom mostRounds askedBy right rounds refined
 least-of-two = (refl, refl)
 
 -- J of the second master's stream is 2,500 bp
@@ -51,12 +52,12 @@ bounds-with-jitter = (refl, refl)
 -- 0 + 500 + 2,500 is one spacing, 760 + 500 + 2,500 more than one
 refineds-with-jitter :
     (refined (pair 3000 500) 1 ≡ 1000) × (refined (pair 3000 500) 2 ≡ 500) × (rounds (pair 3000 500) 1 ≡ 2) × (rounds (pair 3000 500) 2 ≡ 1)
-unfolding segmentOf streamAt owns count longest hold largest charged turnBy boundBy turn bound upto greatest up firstOf saving rightBy valueOf stands roundsOf mostRounds askedBy right rounds refined
+unfolding segmentOf streamAt owns count longest hold largest charged turnBy boundBy turn bound upto greatest up firstOf saving rightBy valueFrom stands roundsFrom mostRounds askedBy right rounds refined
 refineds-with-jitter = (refl, refl, refl, refl)
 
 -- the sum is rounded, not its parts: 760 + 500 + 2,500 is less than 4,000
 rounded-once : (refined (pair 4000 1500) 1 ≡ 760) × (rounds (pair 4000 1500) 1 ≡ 1)
-unfolding segmentOf streamAt owns count longest hold largest charged turnBy boundBy turn bound upto greatest up firstOf saving rightBy valueOf stands roundsOf mostRounds askedBy right rounds refined
+unfolding segmentOf streamAt owns count longest hold largest charged turnBy boundBy turn bound upto greatest up firstOf saving rightBy valueFrom stands roundsFrom mostRounds askedBy right rounds refined
 rounded-once = (refl, refl)
 
 -- ---- Page 02, Ask 10
@@ -72,12 +73,12 @@ lone e = segmentOf (record { head = record { kind = 1; a = 2; b = 0; c = 0; d = 
 
 -- master 2 is charged 250 too, and 240 of them are saved there
 charged-alike : (bound (lone 2) 1 ≡ 500) × (bound (lone 2) 2 ≡ 0) × (refined (lone 2) 1 ≡ 260) × (refined (lone 2) 2 ≡ 0) × (rounds (lone 2) 1 ≡ 1) × (rounds (lone 2) 2 ≡ 0)
-unfolding segmentOf streamAt owns count longest hold largest charged turnBy boundBy turn bound upto greatest up firstOf saving rightBy valueOf stands roundsOf mostRounds askedBy right rounds refined
+unfolding segmentOf streamAt owns count longest hold largest charged turnBy boundBy turn bound upto greatest up firstOf saving rightBy valueFrom stands roundsFrom mostRounds askedBy right rounds refined
 charged-alike = (refl, refl, refl, refl, refl, refl)
 
 -- under edition 1 it is charged 10, and nothing is saved
 charged-apart : (bound (lone 1) 1 ≡ 260) × (refined (lone 1) 1 ≡ 260) × (rounds (lone 1) 1 ≡ 1)
-unfolding segmentOf streamAt owns count longest hold largest charged turnBy boundBy turn bound upto greatest up firstOf saving rightBy valueOf stands roundsOf mostRounds askedBy right rounds refined
+unfolding segmentOf streamAt owns count longest hold largest charged turnBy boundBy turn bound upto greatest up firstOf saving rightBy valueFrom stands roundsFrom mostRounds askedBy right rounds refined
 charged-apart = (refl, refl, refl)
 
 -- three masters, the first of them silent; the longest cycle is one of the third's
@@ -97,7 +98,7 @@ three-bounds = (refl, refl, refl)
 
 -- the window of master 2's requests is W and 750: 780 and 750 are more than one spacing, and 780 and the 360 of edition 1 would not be
 three-refineds : (refined (three 2) 1 ≡ 0) × (refined (three 2) 2 ≡ 510) × (refined (three 2) 3 ≡ 1020) × (rounds (three 2) 1 ≡ 0) × (rounds (three 2) 2 ≡ 1) × (rounds (three 2) 3 ≡ 2)
-unfolding segmentOf streamAt owns count longest hold largest charged turnBy boundBy turn bound upto greatest up firstOf saving rightBy valueOf stands roundsOf mostRounds askedBy right rounds refined
+unfolding segmentOf streamAt owns count longest hold largest charged turnBy boundBy turn bound upto greatest up firstOf saving rightBy valueFrom stands roundsFrom mostRounds askedBy right rounds refined
 three-refineds = (refl, refl, refl, refl, refl, refl)
 
 three-first : (bound (three 1) 2 ≡ 360) × (bound (three 1) 3 ≡ 720)

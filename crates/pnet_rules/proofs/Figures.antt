@@ -3,14 +3,15 @@
 -- Assumes nothing.
 use mathlib.Core.Path.{_≡_, ap}
 use mathlib.Core.Bool.{Bool, true, false}
-use Prim.Native.Nat.{ℕ, suc, _+_, _-_, _*_, _≤_}
+use Prim.Native.Nat.{ℕ, suc, _+_, _-_, _*_, _≤_, zero-le}
 use native.Mathlib.Nat.{zero-mul}
 use native.Mathlib.Omega.{arith}
 use Rattle.common.specs.Sums.{when, upto}
 use Rattle.common.proofs.Sums.{upto-mono, up-rises}
 use Rattle.pnet_rules.specs.Segment.{Segment, owns, count, charged, turnBy, boundBy, bound}
-use Rattle.pnet_rules.specs.Refined.{rightBy, valueOf, roundsOf, mostRounds, askedBy, right, rounds, refined}
-use Rattle.pnet_rules.proofs.Sequence.{Settles, Least, value-rises, still-at-once}
+use Rattle.pnet_rules.specs.Search.{valueFrom, roundsFrom, Settles}
+use Rattle.pnet_rules.specs.Refined.{rightBy, mostRounds, askedBy, right, rounds, refined}
+use Rattle.pnet_rules.proofs.Sequence.{Least, value-rises, still-at-once}
 use Rattle.pnet_rules.proofs.Right.{rightOf, charge, right-is-charges, right-rises, right-at-most, right-least, right-rounds, right-rounds-at-most, right-value-at-most}
 use Rattle.pnet_rules.proofs.Holds.{charged-at-least, bound-silent-by}
 
@@ -33,36 +34,36 @@ module _ (h : ℕ → ℕ) (a : ℕ → ℕ → ℕ) (S : Segment) (k : ℕ) whe
     right-at-most-by = right-at-most h a (S .masters) (count S k) k
 
     -- so the sequence rises
-    pub values-rise-by : (m : ℕ) → valueOf (rightBy h a S k) m ≤ valueOf (rightBy h a S k) (suc m)
-    values-rise-by = value-rises (rightBy h a S k) right-rises-by
+    pub values-rise-by : (m : ℕ) → valueFrom 0 (rightBy h a S k) m ≤ valueFrom 0 (rightBy h a S k) (suc m)
+    values-rise-by = value-rises 0 (rightBy h a S k) right-rises-by zero-le
 
     -- the value reached is the least W with W = right side
-    pub least-by : Least (rightBy h a S k) (valueOf (rightBy h a S k) (roundsOf (rightBy h a S k) (mostRounds S k)))
+    pub least-by : Least (rightBy h a S k) (valueFrom 0 (rightBy h a S k) (roundsFrom 0 (rightBy h a S k) (mostRounds S k)))
     unfolding rightBy turnBy rightOf mostRounds
     least-by = right-least h a (S .masters) (count S k) k big grows lo hi
 
     -- it is at most the bound
-    pub at-most-bound-by : valueOf (rightBy h a S k) (roundsOf (rightBy h a S k) (mostRounds S k)) ≤ boundBy h S k
+    pub at-most-bound-by : valueFrom 0 (rightBy h a S k) (roundsFrom 0 (rightBy h a S k) (mostRounds S k)) ≤ boundBy h S k
     unfolding rightBy turnBy rightOf mostRounds boundBy
     at-most-bound-by = right-value-at-most h a (S .masters) (count S k) k big grows _
 
     -- it is reached at the first m whose value equals the next one
-    pub rounds-first-by : Settles (rightBy h a S k) (roundsOf (rightBy h a S k) (mostRounds S k))
+    pub rounds-first-by : Settles 0 (rightBy h a S k) (roundsFrom 0 (rightBy h a S k) (mostRounds S k))
     unfolding rightBy turnBy rightOf mostRounds
     rounds-first-by = right-rounds h a (S .masters) (count S k) k big grows lo hi
 
-    pub rounds-at-most-by : roundsOf (rightBy h a S k) (mostRounds S k) ≤ 1 + (S .masters - 1) * count S k
+    pub rounds-at-most-by : roundsFrom 0 (rightBy h a S k) (mostRounds S k) ≤ 1 + (S .masters - 1) * count S k
     unfolding rightBy turnBy rightOf mostRounds
     rounds-at-most-by = right-rounds-at-most h a (S .masters) (count S k) k big grows lo hi
 
   -- a master without streams: all three are 0
   pub silent-zero-by : count S k ≡ 0
-      → (boundBy h S k ≡ 0) × (valueOf (rightBy h a S k) (roundsOf (rightBy h a S k) (mostRounds S k)) ≡ 0) × (roundsOf (rightBy h a S k) (mostRounds S k) ≡ 0)
-  unfolding rightBy turnBy mostRounds valueOf
+      → (boundBy h S k ≡ 0) × (valueFrom 0 (rightBy h a S k) (roundsFrom 0 (rightBy h a S k) (mostRounds S k)) ≡ 0) × (roundsFrom 0 (rightBy h a S k) (mostRounds S k) ≡ 0)
+  unfolding rightBy turnBy mostRounds valueFrom
   silent-zero-by e =
       let v : rightBy h a S k 0 ≡ 0 = simp e (omega (arith, zero-mul (upto h (S .masters)))) in
-      let r : roundsOf (rightBy h a S k) (1 + (S .masters - 1) * count S k) ≡ 0 = still-at-once (rightBy h a S k) v ((S .masters - 1) * count S k) in
-      (bound-silent-by h S k e, ap (valueOf (rightBy h a S k)) r, r)
+      let r : roundsFrom 0 (rightBy h a S k) (1 + (S .masters - 1) * count S k) ≡ 0 = still-at-once 0 (rightBy h a S k) v ((S .masters - 1) * count S k) in
+      (bound-silent-by h S k e, ap (valueFrom 0 (rightBy h a S k)) r, r)
 
 -- ---- The planner's
 
@@ -95,7 +96,7 @@ module _ (S : Segment) (k : ℕ) where
     refined-at-most-bound = at-most-bound-by (charged S) (askedBy (charged S) S) S k (charged-at-least S) (asked-rises (charged S) S) lo hi
 
     -- the round count is the first m whose m-th value equals the next one
-    pub rounds-first : Settles (right S k) (rounds S k)
+    pub rounds-first : Settles 0 (right S k) (rounds S k)
     unfolding rounds right
     rounds-first = rounds-first-by (charged S) (askedBy (charged S) S) S k (charged-at-least S) (asked-rises (charged S) S) lo hi
 

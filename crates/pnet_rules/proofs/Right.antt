@@ -3,14 +3,15 @@
 -- Assumes nothing.
 use mathlib.Core.Path.{_≡_, refl, ap, _∙_, subst}
 use mathlib.Core.Bool.{Bool, true, false, cond}
-use Prim.Native.Nat.{ℕ, suc, _+_, _-_, _*_, _≤_, _<_, min}
+use Prim.Native.Nat.{ℕ, suc, _+_, _-_, _*_, _≤_, _<_, min, zero-le}
 use native.Mathlib.Nat.{mul-le-mul, suc-mul}
 use native.Mathlib.Omega.{arith}
 use lib.Dec.{eqb}
 use Rattle.common.specs.Sums.{when, upto}
 use Rattle.common.proofs.Sums.{upto-mono, upto-same, upto-terms, upto-most, upto-add, upto-scale, upto-only}
-use Rattle.pnet_rules.specs.Refined.{saving, valueOf, roundsOf}
-use Rattle.pnet_rules.proofs.Sequence.{Settles, Least, still-least, value-at-most, moves-at-most, rounds-settle, rounds-at-most}
+use Rattle.pnet_rules.specs.Search.{valueFrom, roundsFrom, Settles}
+use Rattle.pnet_rules.specs.Refined.{saving}
+use Rattle.pnet_rules.proofs.Sequence.{Least, still-least, value-at-most, moves-at-most, rounds-settle, rounds-at-most}
 
 -- the page's right side for a master k with s streams, among N masters
 unfoldable pub rightOf : (ℕ → ℕ) → (ℕ → ℕ → ℕ) → ℕ → ℕ → ℕ → ℕ → ℕ
@@ -139,8 +140,8 @@ module _ (h : ℕ → ℕ) (a : ℕ → ℕ → ℕ) (N s k : ℕ) where
     right-rises v w l = right-no-less h h a a N s k v w big (λ y lo hi. omega arith) (λ y. grows y v w l)
 
     -- no value of the sequence is above s·V
-    pub right-value-at-most : (m : ℕ) → valueOf (rightOf h a N s k) m ≤ s * upto h N
-    right-value-at-most m = value-at-most (rightOf h a N s k) right-rises (s * upto h N) (right-at-most h a N s k (s * upto h N)) m
+    pub right-value-at-most : (m : ℕ) → valueFrom 0 (rightOf h a N s k) m ≤ s * upto h N
+    right-value-at-most m = value-at-most 0 (rightOf h a N s k) right-rises zero-le (s * upto h N) (right-at-most h a N s k (s * upto h N)) zero-le m
 
     visits-rise : (v w : ℕ) → v ≤ w → visits v ≤ visits w
     unfolding visits
@@ -160,16 +161,16 @@ module _ (h : ℕ → ℕ) (a : ℕ → ℕ → ℕ) (N s k : ℕ) where
 
     module _ (lo : 1 ≤ k) (hi : k ≤ N) where
       -- a search that still moves before value m has an m of at most 1 + (N - 1)·s
-      pub right-moves-at-most : (m : ℕ) → ((j : ℕ) → j < m → valueOf (rightOf h a N s k) j ≡ valueOf (rightOf h a N s k) (suc j) → ⊥) → m ≤ 1 + (N - 1) * s
-      right-moves-at-most = moves-at-most (rightOf h a N s k) right-rises visits visits-rise ((N - 1) * s) (visits-at-most lo hi) visits-settle
+      pub right-moves-at-most : (m : ℕ) → ((j : ℕ) → j < m → valueFrom 0 (rightOf h a N s k) j ≡ valueFrom 0 (rightOf h a N s k) (suc j) → ⊥) → m ≤ 1 + (N - 1) * s
+      right-moves-at-most = moves-at-most 0 (rightOf h a N s k) right-rises zero-le visits visits-rise ((N - 1) * s) (visits-at-most lo hi) visits-settle
 
       -- the round count is the first m whose value equals the next one
-      pub right-rounds : Settles (rightOf h a N s k) (roundsOf (rightOf h a N s k) (1 + (N - 1) * s))
-      right-rounds = rounds-settle (rightOf h a N s k) right-rises visits visits-rise ((N - 1) * s) (visits-at-most lo hi) visits-settle
+      pub right-rounds : Settles 0 (rightOf h a N s k) (roundsFrom 0 (rightOf h a N s k) (1 + (N - 1) * s))
+      right-rounds = rounds-settle 0 (rightOf h a N s k) right-rises zero-le visits visits-rise ((N - 1) * s) (visits-at-most lo hi) visits-settle
 
-      pub right-rounds-at-most : roundsOf (rightOf h a N s k) (1 + (N - 1) * s) ≤ 1 + (N - 1) * s
-      right-rounds-at-most = rounds-at-most (rightOf h a N s k) right-rises visits visits-rise ((N - 1) * s) (visits-at-most lo hi) visits-settle
+      pub right-rounds-at-most : roundsFrom 0 (rightOf h a N s k) (1 + (N - 1) * s) ≤ 1 + (N - 1) * s
+      right-rounds-at-most = rounds-at-most 0 (rightOf h a N s k) right-rises zero-le visits visits-rise ((N - 1) * s) (visits-at-most lo hi) visits-settle
 
       -- and the value there is the least solution
-      pub right-least : Least (rightOf h a N s k) (valueOf (rightOf h a N s k) (roundsOf (rightOf h a N s k) (1 + (N - 1) * s)))
-      right-least = still-least (rightOf h a N s k) right-rises _ (right-rounds .still)
+      pub right-least : Least (rightOf h a N s k) (valueFrom 0 (rightOf h a N s k) (roundsFrom 0 (rightOf h a N s k) (1 + (N - 1) * s)))
+      right-least = still-least 0 (rightOf h a N s k) right-rises zero-le _ (right-rounds .still) (λ x q. zero-le)

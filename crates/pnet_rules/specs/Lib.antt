@@ -1,3 +1,4 @@
 pub mod Segment
+pub mod Search
 pub mod Refined
 pub mod Limits

@@ -1,9 +1,10 @@
 -- Page 01, 'P-NET bounds', the refined figure, with the count of page 02, Asks 2 and 7, and the charge of Ask 10: W and its rounds. Assumes nothing.
-use Prim.Native.Nat.{ℕ, zero, suc, _+_, _-_, _*_, min}
-use mathlib.Core.Bool.{Bool, cond}
+use Prim.Native.Nat.{ℕ, _+_, _-_, _*_, min}
+use mathlib.Core.Bool.{cond}
 use lib.Dec.{eqb}
-use Rattle.common.specs.Sums.{when, upto, up, firstOf}
+use Rattle.common.specs.Sums.{when, upto, up}
 use Rattle.pnet_rules.specs.Segment.{Segment, owns, count, charged, turnBy, boundBy}
+use Rattle.pnet_rules.specs.Search.{valueFrom, roundsFrom}
 
 -- ---- For any charge h(y) and any count a(y) at W
 
@@ -15,21 +16,6 @@ saving h s k n y = cond (eqb y k) 0 ((s - min s n) * (h y - 10))
 unfoldable pub rightBy : (ℕ → ℕ) → (ℕ → ℕ → ℕ) → Segment → ℕ → ℕ → ℕ
 unfolding count turnBy upto saving
 rightBy h a S k w = count S k * turnBy h S - upto (λ y. saving h (count S k) k (a y w) y) (S .masters)
-
--- value m of the sequence that starts at 0 and puts the right side for W again and again
-unfoldable pub valueOf : (ℕ → ℕ) → ℕ → ℕ
-valueOf f zero = 0
-valueOf f (suc m) = f (valueOf f m)
-
--- value m equals the next one
-unfoldable pub stands : (ℕ → ℕ) → ℕ → Bool
-unfolding valueOf
-stands f m = eqb (valueOf f m) (valueOf f (suc m))
-
--- the first m, of 0..most, whose value equals the next one
-unfoldable pub roundsOf : (ℕ → ℕ) → ℕ → ℕ
-unfolding firstOf stands
-roundsOf f most = firstOf (stands f) most 0
 
 -- rounds are at most 1 + (N - 1)·s
 unfoldable pub mostRounds : Segment → ℕ → ℕ
@@ -49,11 +35,11 @@ unfoldable pub right : Segment → ℕ → ℕ → ℕ
 unfolding rightBy charged askedBy
 right S k w = rightBy (charged S) (askedBy (charged S) S) S k w
 
--- the round count, and W, the value reached then
+-- the round count of the search from W = 0, and W, the value reached then
 unfoldable pub rounds : Segment → ℕ → ℕ
-unfolding roundsOf right mostRounds
-rounds S k = roundsOf (right S k) (mostRounds S k)
+unfolding roundsFrom right mostRounds
+rounds S k = roundsFrom 0 (right S k) (mostRounds S k)
 
 unfoldable pub refined : Segment → ℕ → ℕ
-unfolding valueOf right rounds
-refined S k = valueOf (right S k) (rounds S k)
+unfolding valueFrom right rounds
+refined S k = valueFrom 0 (right S k) (rounds S k)

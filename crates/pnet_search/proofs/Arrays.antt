@@ -2,14 +2,15 @@
 use mathlib.Core.Path.{_≡_, ap, _∙_}
 use mathlib.Core.Bool.{Bool, true, false, cond}
 use mathlib.Core.List.{List}
-use Prim.Native.Nat.{ℕ, _+_, _-_, _*_, _≤_, min}
+use Prim.Native.Nat.{ℕ, _+_, _-_, _*_, _≤_, min, zero-le}
 use native.Mathlib.Nat.{mul-le-mul}
 use native.Mathlib.Omega.{arith}
 use borrow.Author.Tests.{eq-eqb, ne-eqb}
 use lib.Dec.{eqb}
 use Rattle.common.specs.Sums.{upto}
 use Rattle.common.proofs.Sums.{upto-most}
-use Rattle.pnet_rules.specs.Refined.{saving, valueOf, roundsOf}
+use Rattle.pnet_rules.specs.Search.{valueFrom, roundsFrom}
+use Rattle.pnet_rules.specs.Refined.{saving}
 use Rattle.pnet_rules.proofs.Sequence.{Moving, moving-ends, settles-is-rounds, value-rises}
 use Rattle.pnet_rules.proofs.Right.{rightOf, savings-at-most, right-rises, right-value-at-most, right-moves-at-most}
 use Rattle.pnet_turn.specs.Turn.{at}
@@ -86,33 +87,33 @@ module _ {counts charges ends pairs : List ℕ} {N turn : ℕ} (kept : Kept N tu
       rounds-small = mul-le-mul {n₁ = N - 1} {m₁ = at counts k} {n₂ = 31} {m₂ = 80} (omega (arith, kept .few)) few-streams
 
       -- and every value of the search, which moves at most so often
-      pub moving-small : (m w : ℕ) → Moving (rightIn counts charges ends pairs N k) m w → w ≤ 4083200
+      pub moving-small : (m w : ℕ) → Moving 0 (rightIn counts charges ends pairs N k) m w → w ≤ 4083200
       unfolding rightIn boundIn savedIn turnIn rightOf
       moving-small m w on =
           let a = askedAt counts ends pairs (turnIn charges N) in
           let most = right-value-at-most (at charges) a N (at counts k) k charged (at-rises counts ends pairs (turnIn charges N)) m in
           omega (arith, on .value, bound-is counts charges N k turn (kept .turn-is), bound-small, most)
 
-      pub moving-few : (m w : ℕ) → Moving (rightIn counts charges ends pairs N k) m w → m ≤ 1 + (N - 1) * at counts k
+      pub moving-few : (m w : ℕ) → Moving 0 (rightIn counts charges ends pairs N k) m w → m ≤ 1 + (N - 1) * at counts k
       unfolding rightIn boundIn savedIn turnIn rightOf
       moving-few m w on =
           let a = askedAt counts ends pairs (turnIn charges N) in
           right-moves-at-most (at charges) a N (at counts k) k charged (at-rises counts ends pairs (turnIn charges N)) lo hi m (on .moved)
 
       -- no value is below the one before
-      pub moving-rises : (m w x : ℕ) → Moving (rightIn counts charges ends pairs N k) m w → x ≡ rightIn counts charges ends pairs N k w → w ≤ x
-      unfolding rightIn boundIn savedIn turnIn rightOf valueOf
+      pub moving-rises : (m w x : ℕ) → Moving 0 (rightIn counts charges ends pairs N k) m w → x ≡ rightIn counts charges ends pairs N k w → w ≤ x
+      unfolding rightIn boundIn savedIn turnIn rightOf valueFrom
       moving-rises m w x on next =
           let a = askedAt counts ends pairs (turnIn charges N) in
           let f = rightOf (at charges) a N (at counts k) k in
-          let l = value-rises f (right-rises (at charges) a N (at counts k) k charged (at-rises counts ends pairs (turnIn charges N))) m in
+          let l = value-rises 0 f (right-rises (at charges) a N (at counts k) k charged (at-rises counts ends pairs (turnIn charges N))) zero-le m in
           omega (arith, on .value, next, l, ap f (on .value))
 
       -- where it ends
-      pub found : (m w x : ℕ) → Moving (rightIn counts charges ends pairs N k) m w → x ≡ rightIn counts charges ends pairs N k w → x ≡ w
+      pub found : (m w x : ℕ) → Moving 0 (rightIn counts charges ends pairs N k) m w → x ≡ rightIn counts charges ends pairs N k w → x ≡ w
           → (w ≡ refinedIn counts charges ends pairs N k) × (m ≡ roundsIn counts charges ends pairs N k)
       unfolding refinedIn roundsIn
       found m w x on next e =
           let f = rightIn counts charges ends pairs N k in
-          let q : m ≡ roundsOf f (1 + (N - 1) * at counts k) = settles-is-rounds f m _ (moving-ends f m w x on next e) (moving-few m w on) in
-          (on .value ∙ ap (valueOf f) q, q)
+          let q : m ≡ roundsFrom 0 f (1 + (N - 1) * at counts k) = settles-is-rounds 0 f m _ (moving-ends 0 f m w x on next e) (moving-few m w on) in
+          (on .value ∙ ap (valueFrom 0 f) q, q)

@@ -7,7 +7,8 @@ use mathlib.Core.Path.{_≡_}
 use mathlib.Core.List.{List}
 use lib.ListN.{length}
 use Rattle.common.specs.Sums.{upto, up}
-use Rattle.pnet_rules.specs.Refined.{saving, valueOf, roundsOf}
+use Rattle.pnet_rules.specs.Search.{valueFrom, roundsFrom}
+use Rattle.pnet_rules.specs.Refined.{saving}
 use Rattle.pnet_turn.specs.Turn.{at}
 
 -- ---- The figures, read off them
@@ -51,12 +52,12 @@ rightIn counts charges ends pairs N k w = boundIn counts charges N k - upto (sav
 
 -- its round count among N masters, and the value reached then
 unfoldable pub roundsIn : List ℕ → List ℕ → List ℕ → List ℕ → ℕ → ℕ → ℕ
-unfolding roundsOf rightIn
-roundsIn counts charges ends pairs N k = roundsOf (rightIn counts charges ends pairs N k) (1 + (N - 1) * at counts k)
+unfolding roundsFrom rightIn
+roundsIn counts charges ends pairs N k = roundsFrom 0 (rightIn counts charges ends pairs N k) (1 + (N - 1) * at counts k)
 
 unfoldable pub refinedIn : List ℕ → List ℕ → List ℕ → List ℕ → ℕ → ℕ → ℕ
-unfolding valueOf rightIn roundsIn
-refinedIn counts charges ends pairs N k = valueOf (rightIn counts charges ends pairs N k) (roundsIn counts charges ends pairs N k)
+unfolding valueFrom rightIn roundsIn
+refinedIn counts charges ends pairs N k = valueFrom 0 (rightIn counts charges ends pairs N k) (roundsIn counts charges ends pairs N k)
 
 -- ---- What keeps the code's sums within 32 bits
 

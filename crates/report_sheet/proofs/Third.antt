@@ -13,7 +13,8 @@ use Rattle.sheet_reader.specs.Walk.{byteChecks, foundAt}
 use Rattle.sheet_read.specs.Sheets.{headOf, having, sheetOf, fits, ofKind, countOf, mostInAll, hasMasters, overLimit, metBefore}
 use Rattle.sheet_read.specs.Whole.{placeOf, recordsOf, before, recordChecks, endChecks, judge, ended, readFrom, reading}
 use Rattle.pnet_rules.specs.Segment.{segmentOf, streamAt, owns, count, longest, hold, turnBy, boundBy, turn, bound, late}
-use Rattle.pnet_rules.specs.Refined.{saving, rightBy, valueOf, stands, roundsOf, mostRounds, askedBy, right, rounds, refined}
+use Rattle.pnet_rules.specs.Search.{valueFrom, stands, roundsFrom}
+use Rattle.pnet_rules.specs.Refined.{saving, rightBy, mostRounds, askedBy, right, rounds, refined}
 use Rattle.pnet_plan.specs.Planned.{firstLate, planChecks, planned}
 use Rattle.text.specs.Text.{word, _·_, places, holds, widthOf, decimal, texts}
 use Rattle.report_phrases.specs.Phrases.{inBp, inNs, inBoth, twoCounts, nameOf}
@@ -34,7 +35,7 @@ pub third-case : reportOf third
     ≡ word "P-NET segment\n"
     · word "M01 bound 1000 bp 13020834 ns refined 760 bp 9895834 ns 1 rounds\n"
     · word "M02 bound 500 bp 6510417 ns refined 500 bp 6510417 ns 1 rounds\n"
-unfolding third reportOf firstBus foundAt byteChecks segmentReport mastersOf masterOf texts masterLine nameOf twoCounts inBoth inBp inNs nanosUp up decimal places widthOf holds firstOf planned planChecks verdict firstLate late segmentOf streamAt owns count longest hold turnBy boundBy turn bound saving rightBy valueOf stands roundsOf mostRounds askedBy right rounds refined upto greatest reading readFrom ended judge recordChecks endChecks recordsOf placeOf headOf having sheetOf before fits ofKind countOf mostInAll hasMasters overLimit metBefore kinds lineOf fieldsOf busOf partOf isSetting isStream widths sizeOf known fieldAt decode limit within ranged inRange be
+unfolding third reportOf firstBus foundAt byteChecks segmentReport mastersOf masterOf texts masterLine nameOf twoCounts inBoth inBp inNs nanosUp up decimal places widthOf holds firstOf planned planChecks verdict firstLate late segmentOf streamAt owns count longest hold turnBy boundBy turn bound saving rightBy valueFrom stands roundsFrom mostRounds askedBy right rounds refined upto greatest reading readFrom ended judge recordChecks endChecks recordsOf placeOf headOf having sheetOf before fits ofKind countOf mostInAll hasMasters overLimit metBefore kinds lineOf fieldsOf busOf partOf isSetting isStream widths sizeOf known fieldAt decode limit within ranged inRange be
 third-case = refl
 
 pub third-accepted : accepts third ≡ true

@@ -13,7 +13,7 @@ use Rattle.pnet_search.proofs.search.Tie as tie
 
 abbrev Inv-loop : tie.InvT-loop
 Inv-loop counts charges ends slacks pairs n turn k saved₀ until₀ w₀ rounds₀ saved until w rounds =
-    Moving (rightIn counts charges ends pairs n k) rounds w × Fresh counts charges ends pairs n turn k w saved until
+    Moving 0 (rightIn counts charges ends pairs n k) rounds w × Fresh counts charges ends pairs n turn k w saved until
 
 abbrev μ-loop : tie.MeasureT-loop
 μ-loop counts charges ends slacks pairs n turn k saved₀ until₀ w₀ rounds₀ saved until w rounds =
@@ -39,7 +39,7 @@ loop-holds : tie.Need-loop-holds Inv-loop μ-loop
 loop-holds c =
     let p = c .before .before .before .before .pre in
     let e = c .begin .ensures in
-    (moving-none (right (c .before .before .before .before)), fresh-opens (p .2) (p .3) (p .0) (p .1) (e .0) (e .1) (e .2))
+    (moving-none 0 (right (c .before .before .before .before)), fresh-opens (p .2) (p .3) (p .0) (p .1) (e .0) (e .1) (e .2))
 
 right-of-requires : tie.Need-right-of-requires Inv-loop μ-loop
 right-of-requires c κs =
@@ -76,7 +76,7 @@ loop-again c =
     let p = c .before .before .before .before .before .before .before .before .before .pre in
     let l = c .before .before .before .before .loop in
     let f = c .before .right-of in (
-      moving-more (right (c .before .before .before .before .before .before .before .before .before)) (l .rounds) (l .w) (f .result) (l .inv .0) (f .ensures .0) (c .if1 .left),
+      moving-more 0 (right (c .before .before .before .before .before .before .before .before .before)) (l .rounds) (l .w) (f .result) (l .inv .0) (f .ensures .0) (c .if1 .left),
       fresh-later (f .ensures .1) (f .result) (moving-rises (p .2) k (p .0) (p .1) (l .rounds) (l .w) (f .result) (l .inv .0) (f .ensures .0)),
     )
 

@@ -1,0 +1,3 @@
+pub mod Urgent
+pub mod Planned
+pub mod Refusals
