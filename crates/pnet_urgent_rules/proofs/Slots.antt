@@ -35,6 +35,13 @@ module _ (S : Segment) (i : ℕ) (some : 1 ≤ turn S) (f : ℕ → ℕ) (in-slo
         first = λ j l e. s .first j l (still-in-slots j e);
       }
 
+  pub settles-in-slots : (m : ℕ) → Settles (turn S) (right S i) m → Settles 1 f m
+  settles-in-slots m s =
+      record {
+        still = still-in-slots m (s .still);
+        first = λ j l e. s .first j l (slot-values j ∙ (ap (λ (x : ℕ). turn S * x) e ∙ sym (slot-values (suc j))));
+      }
+
   -- where the search in slots settles in time
   module _ (m n : ℕ) (s : Settles 1 f m) (is : n ≡ valueFrom 1 f m) (in-time : turn S * n ≤ S .stream i .deadline) where
     value-is : valueFrom (turn S) (right S i) m ≡ turn S * n
