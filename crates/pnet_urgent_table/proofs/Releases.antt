@@ -1,16 +1,12 @@
 -- How often one stream asks in so many slots, and at which slot it asks once more. Pure numbers; g is `beyondOnce`. Assumes nothing.
 use mathlib.Core.Path.{_≡_, ap, _∙_}
-use mathlib.Core.List.{List}
 use Prim.Native.Nat.{ℕ, suc, _+_, _-_, _*_, _/_, _%_, _≤_, _<_}
 use native.Mathlib.Nat.{mul-comm, mul-le-mul-left, mul-le-mul-right, mul-add, mul-zero, suc-mul, div-add-mod, mod-lt, le-div-iff-mul-le}
-use native.Mathlib.Decide.{ℕ-discrete, decLe}
+use native.Mathlib.Decide.{decLe}
 use native.Mathlib.Numerals.{add-one}
 use native.Mathlib.Omega.{arith}
-use lib.ListN.{length, set}
-use lib.Seq.{getD-set-same, getD-set-other}
 use Rattle.common.specs.Sums.{up}
 use Rattle.common.proofs.Sums.{up-at-most, up-rises}
-use Rattle.pnet_turn.specs.Turn.{at}
 use Rattle.pnet_urgent_table.specs.Table.{beyondOnce}
 use Rattle.pnet_urgent_table.specs.Tally.{Asking}
 
@@ -46,33 +42,43 @@ module _ (V' T J : ℕ) where
       let a : V' * n ≤ T * n = mul-le-mul-right n (omega arith) in
       at-most (omega arith) n n (omega (arith, suc-mul n T, mul-comm n T, ap (λ (m : ℕ). m * T) (add-one n)))
 
--- ---- From one release to the next
+-- ---- From one release to the next, T later: from slot p with the rest e to slot q with the rest f
 
-module _ (V' T J p e : ℕ) (short : e < V') (slow : V' < T) (asks : V' * p + e + J ≡ (beyondOnce V' T J p + 1) * T) where
-  -- behind slot p it has asked once more
-  pub behind : (n : ℕ) → p < n → beyondOnce V' T J p + 1 ≤ beyondOnce V' T J n
-  behind n h =
-      let a : V' * (p + 1) ≤ V' * n = mul-le-mul-left V' (omega arith) in
-      at-least V' T J (omega arith) n (beyondOnce V' T J p + 1) (omega (arith, mul-add V' p 1))
+-- that many whole slots later, before a whole slot of the rest is carried
+pub later : (V' T p e : ℕ) → V' * (p + T / V') + (e + T % V') ≡ V' * p + e + T
+later V' T p e = omega (arith, mul-add V' p (T / V'), div-add-mod T V')
 
-  -- the slot and the rest at which it asks again, before a whole slot of the rest is carried and after
-  pub later : V' * (p + T / V') + (e + T % V') + J ≡ (beyondOnce V' T J p + 1 + 1) * T
-  later =
-      let c = beyondOnce V' T J p + 1 in
-      omega (arith, mul-add V' p (T / V'), div-add-mod T V', suc-mul c T, ap (λ (m : ℕ). m * T) (add-one c))
+pub carried : (V' p e x : ℕ) → V' ≤ e → V' * p + e ≡ x → V' * (p + 1) + (e - V') ≡ x
+carried V' p e x l h = omega (arith, mul-add V' p 1)
 
-  module _ (p' e' : ℕ) (on : p < p') (again : V' * p' + e' + J ≡ (beyondOnce V' T J p + 1 + 1) * T) where
-    -- up to there it asks no more
-    pub between : (n : ℕ) → p < n → n ≤ p' → beyondOnce V' T J n ≡ beyondOnce V' T J p + 1
+module _ (V' T p e q f : ℕ) (slow : V' < T) (step : V' * q + f ≡ V' * p + e + T) where
+  -- that is a later slot
+  pub further : f < V' → p < q
+  further small = by (decLe q p)
+    where
+      by : Dec (q ≤ p) → p < q
+      by (yes h) =
+          let a : V' * q ≤ V' * p = mul-le-mul-left V' h in
+          absurd (omega arith)
+      by (no h) = omega (arith, h)
+
+  module _ (J : ℕ) (short : e < V') (asks : V' * p + e + J ≡ (beyondOnce V' T J p + 1) * T) where
+    again : V' * q + f + J ≡ (beyondOnce V' T J p + 1 + 1) * T
+    again =
+        let c = beyondOnce V' T J p + 1 in
+        omega (arith, suc-mul c T, ap (λ (m : ℕ). m * T) (add-one c))
+
+    -- behind slot p the stream has asked once more, and up to slot q no more than that
+    pub between : (n : ℕ) → p < n → n ≤ q → beyondOnce V' T J n ≡ beyondOnce V' T J p + 1
     between n l h =
-        let a : V' * n ≤ V' * p' = mul-le-mul-left V' h in
-        omega (arith, behind n l, at-most V' T J (omega arith) n (beyondOnce V' T J p + 1) (omega arith))
+        let a : V' * (p + 1) ≤ V' * n = mul-le-mul-left V' (omega arith) in
+        let b : V' * n ≤ V' * q = mul-le-mul-left V' h in
+        let lo = at-least V' T J (omega arith) n (beyondOnce V' T J p + 1) (omega (arith, mul-add V' p 1)) in
+        let hi = at-most V' T J (omega arith) n (beyondOnce V' T J p + 1) (omega (arith, again)) in
+        omega arith
 
-    pub asks-again : V' * p' + e' + J ≡ (beyondOnce V' T J p' + 1) * T
-    asks-again = again ∙ ap (λ (m : ℕ). (m + 1) * T) (omega (arith, between p' on (omega arith)))
-
-pub carried : (V' J p e x : ℕ) → V' ≤ e → V' * p + e + J ≡ x → V' * (p + 1) + (e - V') + J ≡ x
-carried V' J p e x l h = omega (arith, mul-add V' p 1)
+    pub asks-again : p < q → V' * q + f + J ≡ (beyondOnce V' T J q + 1) * T
+    asks-again on = again ∙ ap (λ (m : ℕ). (m + 1) * T) (omega (arith, between q on (omega arith)))
 
 -- ---- The first release
 
@@ -98,45 +104,3 @@ module _ (V' T J : ℕ) (less : J < T) where
         asks = omega (arith, d, ap (λ (m : ℕ). (m + 1) * T) z);
         still = omega (arith, z, first-none 0 (omega (arith, mul-zero V')));
       }
-
--- ---- A block, slot by slot
-
--- one stream on its way through the block behind slot a: it is counted at each slot in front of `next`
-pub record Going (V' T J a : ℕ) (old : List ℕ) (next rest : ℕ) (table : List ℕ) : Type 0 where
-  pub asks : V' * next + rest + J ≡ (beyondOnce V' T J next + 1) * T
-  pub counted : (t : ℕ) → t < 512 → a + t < next → at table t + beyondOnce V' T J (a + t) ≡ at old t + beyondOnce V' T J (a + t + 1)
-  pub still : (n : ℕ) → a + 512 ≤ n → n ≤ next → beyondOnce V' T J n ≡ beyondOnce V' T J next
-
--- it begins
-pub going-none : {V' T J a next rest : ℕ} (old : List ℕ) → Asking V' T J a next rest → Going V' T J a old next rest old
-going-none {V'} {T} {J} {a} {next} old on =
-    record {
-      asks = on .asks;
-      counted = λ t l h. omega (arith, level V' T J a (a + t) next (omega arith) (omega arith) (on .still), level V' T J a (a + t + 1) next (omega arith) (omega arith) (on .still));
-      still = λ n l h. level V' T J a n next (omega arith) h (on .still);
-    }
-
--- it asks once more at `next`, and then at p' with the rest e'
-pub going-more : {V' T J a next rest : ℕ} {old table : List ℕ} → Going V' T J a old next rest table → rest < V' → V' < T → a ≤ next → next < a + 512 → length table ≡ 512
-    → ((t : ℕ) → next ≤ a + t → at table t ≡ at old t) → (p' e' : ℕ) → next < p' → V' * p' + e' + J ≡ (beyondOnce V' T J next + 1 + 1) * T
-    → Going V' T J a old p' e' (set table (next - a) (at table (next - a) + 1))
-going-more {V'} {T} {J} {a} {next} {rest} {old} {table} on short slow from to long ahead p' e' less again =
-    record {
-      asks = asks-again V' T J next rest short slow (on .asks) p' e' less again;
-      counted = λ t l h. by t l h (ℕ-discrete t (next - a)) (decLe (a + t) next);
-      still = λ n l h. omega (arith, up-to n (omega arith) h, up-to p' less (omega arith));
-    }
-  where
-    up-to : (n : ℕ) → next < n → n ≤ p' → beyondOnce V' T J n ≡ beyondOnce V' T J next + 1
-    up-to = between V' T J next rest short slow (on .asks) p' e' less again
-
-    by : (t : ℕ) → t < 512 → a + t < p' → Dec (t ≡ next - a) → Dec (a + t ≤ next)
-        → at (set table (next - a) (at table (next - a) + 1)) t + beyondOnce V' T J (a + t) ≡ at old t + beyondOnce V' T J (a + t + 1)
-    by t l h (yes q) d =
-        let e : a + t ≡ next = omega arith in
-        rw (q, getD-set-same table (next - a) (at table (next - a) + 1) 0 (omega (arith, long)), ← q)
-        (omega (arith, ap (beyondOnce V' T J) e, up-to (a + t + 1) (omega arith) (omega arith), ahead t (omega arith)))
-    by t l h (no q) (yes d) = rw (getD-set-other table (next - a) t (at table (next - a) + 1) 0 q) (on .counted t l (omega (arith, q)))
-    by t l h (no q) (no d) =
-        rw (getD-set-other table (next - a) t (at table (next - a) + 1) 0 q)
-        (omega (arith, ahead t (omega (arith, d)), up-to (a + t) (omega (arith, d)) (omega arith), up-to (a + t + 1) (omega (arith, d)) (omega arith)))
