@@ -1,57 +1,53 @@
+-- `add_up` meets its contract. The invariant: the first t places are added up, and the total is what they come to. Assumes nothing.
+use Prim.Native.Nat.{_+_, _-_}
+use native.Mathlib.Omega.{arith}
+use borrow.Author.Needs.{needs}
+use Rattle.pnet_urgent_table.proofs.Blocks.{Adding, adding-none, adding-next, adding-more}
 use Rattle.pnet_urgent_table.proofs.add_up.Statement.{statement}
 use Rattle.pnet_urgent_table.proofs.add_up.Tie as tie
 use Rattle.pnet_urgent_table.proofs.add_up.Reads as reads
 use Rattle.pnet_urgent_table.proofs.add_up.Lts as lts
 
 abbrev Inv-loop : tie.InvT-loop
-Inv-loop base table₀ total₀ t₀ table total t = ?
+Inv-loop base table₀ total₀ t₀ table total t = Adding base table₀ total t table
 
 abbrev μ-loop : tie.MeasureT-loop
-μ-loop base table₀ total₀ t₀ table total t = ?
+μ-loop base table₀ total₀ t₀ table total t = 512 - t
 
--- src/lib.rt:114:5
 loop-holds : tie.Need-loop-holds Inv-loop μ-loop
-loop-holds c = ?
+loop-holds c = adding-none (c .args .base) (c .args .table .now) (c .pre .0)
 
--- src/lib.rt:115:18
 mul-total : tie.Need-mul-total Inv-loop μ-loop
-mul-total c = ?
+mul-total c = search needs
 
--- src/lib.rt:115:18
 slice-read-total : tie.Need-slice-read-total Inv-loop μ-loop
-slice-read-total c = ?
+slice-read-total c = search needs
 
--- src/lib.rt:115:9
 add-total : tie.Need-add-total Inv-loop μ-loop
-add-total c = ?
+add-total c =
+    let l = c .before .before .loop in
+    omega (arith, adding-next (l .inv), c .before .before .before .pre .1 (l .t + 1) (omega arith))
 
--- src/lib.rt:116:9
 mul-table : tie.Need-mul-table Inv-loop μ-loop
-mul-table c = ?
+mul-table c = search needs
 
--- src/lib.rt:116:9
 slice-write-table : tie.Need-slice-write-table Inv-loop μ-loop
-slice-write-table c = ?
+slice-write-table c = search needs
 
--- src/lib.rt:117:9
 add-t : tie.Need-add-t Inv-loop μ-loop
-add-t c = ?
+add-t c = search needs
 
--- src/lib.rt:114:5
 loop-less : tie.Need-loop-less Inv-loop μ-loop
-loop-less c = ?
+loop-less c = search needs
 
--- src/lib.rt:114:5
 loop-again : tie.Need-loop-again Inv-loop μ-loop
-loop-again c = ?
+loop-again c = adding-more (c .before .before .loop .inv) (omega arith)
 
--- src/lib.rt:108:1
 same-length : tie.Need-same-length Inv-loop μ-loop
-same-length c = ?
+same-length c = search needs
 
--- src/lib.rt:108:1
 returns : tie.Need-returns Inv-loop μ-loop
-returns c = ?
+returns c = λ t l. c .before .loop .inv .done t (omega arith)
 
 pub add-up-spec : {M : Type 1} → statement M
 add-up-spec =

@@ -1,45 +1,50 @@
+-- `clear` meets its contract. The invariant: the first t places are cleared. Assumes nothing.
+use mathlib.Core.Path.{_≡_, _∙_}
+use Prim.Native.Nat.{ℕ, _-_, _≤_, _<_}
+use native.Mathlib.Omega.{arith}
+use borrow.Author.Needs.{needs}
+use lib.ListN.{length, length-set}
+use Rattle.pnet_turn.specs.Turn.{at}
+use Rattle.pnet_urgent_table.proofs.Blocks.{cleared-more}
 use Rattle.pnet_urgent_table.proofs.clear.Statement.{statement}
 use Rattle.pnet_urgent_table.proofs.clear.Tie as tie
 use Rattle.pnet_urgent_table.proofs.clear.Reads as reads
 use Rattle.pnet_urgent_table.proofs.clear.Lts as lts
 
 abbrev Inv-loop : tie.InvT-loop
-Inv-loop table₀ t₀ table t = ?
+Inv-loop table₀ t₀ table t = (t ≤ 512) × (length table ≡ 512) × ((i : ℕ) → i < t → at table i ≡ 0)
 
 abbrev μ-loop : tie.MeasureT-loop
-μ-loop table₀ t₀ table t = ?
+μ-loop table₀ t₀ table t = 512 - t
 
--- src/lib.rt:47:5
 loop-holds : tie.Need-loop-holds Inv-loop μ-loop
-loop-holds c = ?
+loop-holds c =
+    (search needs, c .pre, λ i l. absurd (omega arith))
 
--- src/lib.rt:48:9
 mul-table : tie.Need-mul-table Inv-loop μ-loop
-mul-table c = ?
+mul-table c = search needs
 
--- src/lib.rt:48:9
 slice-write-table : tie.Need-slice-write-table Inv-loop μ-loop
-slice-write-table c = ?
+slice-write-table c = search needs
 
--- src/lib.rt:49:9
 add-t : tie.Need-add-t Inv-loop μ-loop
-add-t c = ?
+add-t c = search needs
 
--- src/lib.rt:47:5
 loop-less : tie.Need-loop-less Inv-loop μ-loop
-loop-less c = ?
+loop-less c = search needs
 
--- src/lib.rt:47:5
 loop-again : tie.Need-loop-again Inv-loop μ-loop
-loop-again c = ?
+loop-again c =
+    let l = c .before .loop in
+    (search needs, length-set (l .table) (l .t) 0 ∙ l .inv .1, cleared-more (l .table) (l .t) (l .inv .2) (omega arith))
 
--- src/lib.rt:42:1
 same-length : tie.Need-same-length Inv-loop μ-loop
-same-length c = ?
+same-length c = search needs
 
--- src/lib.rt:42:1
 returns : tie.Need-returns Inv-loop μ-loop
-returns c = ?
+returns c =
+    let l = c .before .loop in
+    λ t h. l .inv .2 t (omega arith)
 
 pub clear-spec : {M : Type 1} → statement M
 clear-spec =

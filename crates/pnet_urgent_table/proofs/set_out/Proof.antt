@@ -1,85 +1,92 @@
+-- `set_out` meets its contract. The invariant: the first j streams are set out. Assumes nothing.
+use mathlib.Core.Path.{_≡_, _∙_}
+use Prim.Native.Nat.{_-_, _/_, _%_, _≤_}
+use native.Mathlib.Omega.{arith}
+use borrow.Author.Needs.{needs}
+use lib.ListN.{length, length-set}
+use Rattle.pnet_turn.specs.Turn.{at}
+use Rattle.pnet_urgent_table.specs.Table.{Due}
+use Rattle.pnet_urgent_table.proofs.Releases.{first}
+use Rattle.pnet_urgent_table.proofs.Blocks.{due-none, due-more, due-all}
 use Rattle.pnet_urgent_table.proofs.set_out.Statement.{statement}
 use Rattle.pnet_urgent_table.proofs.set_out.Tie as tie
 use Rattle.pnet_urgent_table.proofs.set_out.Reads as reads
 use Rattle.pnet_urgent_table.proofs.set_out.Lts as lts
 
 abbrev Inv-loop : tie.InvT-loop
-Inv-loop turn spacings jitters k nexts₀ rests₀ j₀ nexts rests j = ?
+Inv-loop turn spacings jitters k nexts₀ rests₀ j₀ nexts rests j =
+    (j ≤ k) × (length nexts ≡ length nexts₀) × (length rests ≡ length rests₀) × Due turn spacings jitters j 0 nexts rests
 
 abbrev μ-loop : tie.MeasureT-loop
-μ-loop turn spacings jitters k nexts₀ rests₀ j₀ nexts rests j = ?
+μ-loop turn spacings jitters k nexts₀ rests₀ j₀ nexts rests j = k - j
 
--- src/lib.rt:33:5
 loop-holds : tie.Need-loop-holds Inv-loop μ-loop
-loop-holds c = ?
+loop-holds c =
+    let a = c .args in
+    (search needs, search needs, search needs, due-none (a .turn) (a .spacings .now) (a .jitters .now) 0 (a .nexts .now) (a .rests .now))
 
--- src/lib.rt:34:21
 mul-first : tie.Need-mul-first Inv-loop μ-loop
-mul-first c = ?
+mul-first c = search needs
 
--- src/lib.rt:34:21
 shared-slice-read-first : tie.Need-shared-slice-read-first Inv-loop μ-loop
-shared-slice-read-first c = ?
+shared-slice-read-first c = search needs
 
--- src/lib.rt:34:35
 mul-first-2 : tie.Need-mul-first-2 Inv-loop μ-loop
-mul-first-2 c = ?
+mul-first-2 c = search needs
 
--- src/lib.rt:34:35
 shared-slice-read-first-2 : tie.Need-shared-slice-read-first-2 Inv-loop μ-loop
-shared-slice-read-first-2 c = ?
+shared-slice-read-first-2 c = search needs
 
--- src/lib.rt:34:21
 sub-first : tie.Need-sub-first Inv-loop μ-loop
-sub-first c = ?
+sub-first c =
+    let j = c .before .before .before .loop .j in
+    omega (arith, c .before .before .before .before .pre .0 .jitter-to j (omega arith))
 
--- src/lib.rt:35:20
 div-nexts : tie.Need-div-nexts Inv-loop μ-loop
-div-nexts c = ?
+div-nexts c = search needs
 
--- src/lib.rt:35:9
 mul-nexts : tie.Need-mul-nexts Inv-loop μ-loop
-mul-nexts c = ?
+mul-nexts c = search needs
 
--- src/lib.rt:35:9
 slice-write-nexts : tie.Need-slice-write-nexts Inv-loop μ-loop
-slice-write-nexts c = ?
+slice-write-nexts c = search needs
 
--- src/lib.rt:36:20
 rem-rests : tie.Need-rem-rests Inv-loop μ-loop
-rem-rests c = ?
+rem-rests c = search needs
 
--- src/lib.rt:36:9
 mul-rests : tie.Need-mul-rests Inv-loop μ-loop
-mul-rests c = ?
+mul-rests c = search needs
 
--- src/lib.rt:36:9
 slice-write-rests : tie.Need-slice-write-rests Inv-loop μ-loop
-slice-write-rests c = ?
+slice-write-rests c = search needs
 
--- src/lib.rt:37:9
 add-j : tie.Need-add-j Inv-loop μ-loop
-add-j c = ?
+add-j c = search needs
 
--- src/lib.rt:33:5
 loop-less : tie.Need-loop-less Inv-loop μ-loop
-loop-less c = ?
+loop-less c = search needs
 
--- src/lib.rt:33:5
 loop-again : tie.Need-loop-again Inv-loop μ-loop
-loop-again c = ?
+loop-again c =
+    let s = c .before .before .before .before in
+    let l = c .before .before .before .loop in
+    let T' = at (s .args .spacings .now) (l .j) in
+    let J' = at (s .args .jitters .now) (l .j) in
+    let x = (T' - J') / s .args .turn in
+    let y = (T' - J') % s .args .turn in
+    let asking = first (s .args .turn) T' J' (s .pre .0 .jitter-to (l .j) (omega arith)) (s .pre .0 .turn-from) (s .pre .0 .spacing-to (l .j) (omega arith)) in
+    (search needs, length-set (l .nexts) (l .j) x ∙ l .inv .1, length-set (l .rests) (l .j) y ∙ l .inv .2, due-more (l .inv .3) (omega arith) (omega arith) x y asking)
 
--- src/lib.rt:21:1
 same-length : tie.Need-same-length Inv-loop μ-loop
-same-length c = ?
+same-length c = search needs
 
--- src/lib.rt:21:1
 same-length-2 : tie.Need-same-length-2 Inv-loop μ-loop
-same-length-2 c = ?
+same-length-2 c = search needs
 
--- src/lib.rt:21:1
 returns : tie.Need-returns Inv-loop μ-loop
-returns c = ?
+returns c =
+    let l = c .before .loop in
+    due-all (c .before .before .args .k) (l .inv .3) (omega arith)
 
 pub set-out-spec : {M : Type 1} → statement M
 set-out-spec =
