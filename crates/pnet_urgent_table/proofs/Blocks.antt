@@ -16,7 +16,7 @@ use Rattle.pnet_urgent_table.proofs.Releases.{no-more-than-slots}
 -- ---- What is kept of each stream
 
 module _ {V' : ℕ} {Ts Js : List ℕ} {K a : ℕ} {nexts rests : List ℕ} where
-  pub due-at : Due V' Ts Js K a nexts rests → (j : ℕ) → j < K → Asking V' (at Ts j) (at Js j) a (at nexts j) (at rests j)
+  due-at : Due V' Ts Js K a nexts rests → (j : ℕ) → j < K → Asking V' (at Ts j) (at Js j) a (at nexts j) (at rests j)
   due-at due j l = record { from = due .from j l; to = due .to j l; rest-to = due .rest-to j l; asks = due .asks j l; still = due .still j l }
 
   due-each : K ≤ length nexts → K ≤ length rests → ((j : ℕ) → j < K → Asking V' (at Ts j) (at Js j) a (at nexts j) (at rests j)) → Due V' Ts Js K a nexts rests
@@ -75,6 +75,15 @@ module _ {V' : ℕ} {Ts Js : List ℕ} {K : ℕ} (slow : Slow V' Ts Js K) (n : �
   pub queued-small : (j : ℕ) → j ≤ K → queued V' Ts Js j n < 4294967295
   queued-small j h = omega (arith, queued-most j h, slow .few)
 
+-- ---- A block, cleared
+
+pub cleared-more : (table : List ℕ) (t : ℕ) → ((i : ℕ) → i < t → at table i ≡ 0) → t < length table → (i : ℕ) → i < t + 1 → at (set table t 0) i ≡ 0
+cleared-more table t done less i l = by (ℕ-discrete i t)
+  where
+    by : Dec (i ≡ t) → at (set table t 0) i ≡ 0
+    by (yes e) = rw e (getD-set-same table t 0 0 less)
+    by (no e) = getD-set-other table t i 0 0 e ∙ done i (omega (arith, e))
+
 -- ---- A block, stream by stream
 
 -- the first j streams are counted; of the others is kept what was
@@ -108,10 +117,10 @@ module _ {V' : ℕ} {Ts Js : List ℕ} {K a : ℕ} {firsts first-rests : List �
   pub going-next : Asking V' (at Ts j) (at Js j) a (at nexts j) (at rests j)
   going-next = rw (on .nexts-left j (omega arith), on .rests-left j (omega arith)) (due-at due j less)
 
-  pub next-inside : j < length nexts
+  next-inside : j < length nexts
   next-inside = omega (arith, on .nexts-long, due .nexts-long)
 
-  pub rest-inside : j < length rests
+  rest-inside : j < length rests
   rest-inside = omega (arith, on .rests-long, due .rests-long)
 
   -- it is counted
@@ -186,12 +195,3 @@ module _ {V' : ℕ} {Ts Js : List ℕ} {K a : ℕ} {table : List ℕ} (on : Rise
       holds t l =
           let e : a + (t + 1) ≡ a + t + 1 = omega arith in
           omega (arith, each t l, risen-sum (t + 1) (omega arith), ap (queued V' Ts Js K) e)
-
--- ---- A block, cleared
-
-pub cleared-more : (table : List ℕ) (t : ℕ) → ((i : ℕ) → i < t → at table i ≡ 0) → t < length table → (i : ℕ) → i < t + 1 → at (set table t 0) i ≡ 0
-cleared-more table t done less i l = by (ℕ-discrete i t)
-  where
-    by : Dec (i ≡ t) → at (set table t 0) i ≡ 0
-    by (yes e) = rw e (getD-set-same table t 0 0 less)
-    by (no e) = getD-set-other table t i 0 0 e ∙ done i (omega (arith, e))

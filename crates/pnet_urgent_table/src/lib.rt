@@ -31,7 +31,8 @@ pub fn set_out(
 {
     let mut j: usize = 0;
     while j < k {
-        let first = spacings[j] - jitters[j];
+        let jitter = jitters[j];
+        let first = spacings[j] - jitter;
         nexts[j] = first / turn;
         rests[j] = first % turn;
         j += 1;

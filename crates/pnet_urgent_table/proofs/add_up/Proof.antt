@@ -5,8 +5,6 @@ use borrow.Author.Needs.{needs}
 use Rattle.pnet_urgent_table.proofs.Blocks.{Adding, adding-none, adding-next, adding-more}
 use Rattle.pnet_urgent_table.proofs.add_up.Statement.{statement}
 use Rattle.pnet_urgent_table.proofs.add_up.Tie as tie
-use Rattle.pnet_urgent_table.proofs.add_up.Reads as reads
-use Rattle.pnet_urgent_table.proofs.add_up.Lts as lts
 
 abbrev Inv-loop : tie.InvT-loop
 Inv-loop base table₀ total₀ t₀ table total t = Adding base table₀ total t table

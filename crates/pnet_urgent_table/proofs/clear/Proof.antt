@@ -8,8 +8,6 @@ use Rattle.pnet_turn.specs.Turn.{at}
 use Rattle.pnet_urgent_table.proofs.Blocks.{cleared-more}
 use Rattle.pnet_urgent_table.proofs.clear.Statement.{statement}
 use Rattle.pnet_urgent_table.proofs.clear.Tie as tie
-use Rattle.pnet_urgent_table.proofs.clear.Reads as reads
-use Rattle.pnet_urgent_table.proofs.clear.Lts as lts
 
 abbrev Inv-loop : tie.InvT-loop
 Inv-loop table₀ t₀ table t = (t ≤ 512) × (length table ≡ 512) × ((i : ℕ) → i < t → at table i ≡ 0)

@@ -10,8 +10,6 @@ use Rattle.pnet_urgent_table.proofs.Releases.{first}
 use Rattle.pnet_urgent_table.proofs.Blocks.{due-none, due-more, due-all}
 use Rattle.pnet_urgent_table.proofs.set_out.Statement.{statement}
 use Rattle.pnet_urgent_table.proofs.set_out.Tie as tie
-use Rattle.pnet_urgent_table.proofs.set_out.Reads as reads
-use Rattle.pnet_urgent_table.proofs.set_out.Lts as lts
 
 abbrev Inv-loop : tie.InvT-loop
 Inv-loop turn spacings jitters k nexts₀ rests₀ j₀ nexts rests j =
@@ -25,17 +23,17 @@ loop-holds c =
     let a = c .args in
     (search needs, search needs, search needs, due-none (a .turn) (a .spacings .now) (a .jitters .now) 0 (a .nexts .now) (a .rests .now))
 
+mul-jitter : tie.Need-mul-jitter Inv-loop μ-loop
+mul-jitter c = search needs
+
+shared-slice-read-jitter : tie.Need-shared-slice-read-jitter Inv-loop μ-loop
+shared-slice-read-jitter c = search needs
+
 mul-first : tie.Need-mul-first Inv-loop μ-loop
 mul-first c = search needs
 
 shared-slice-read-first : tie.Need-shared-slice-read-first Inv-loop μ-loop
 shared-slice-read-first c = search needs
-
-mul-first-2 : tie.Need-mul-first-2 Inv-loop μ-loop
-mul-first-2 c = search needs
-
-shared-slice-read-first-2 : tie.Need-shared-slice-read-first-2 Inv-loop μ-loop
-shared-slice-read-first-2 c = search needs
 
 sub-first : tie.Need-sub-first Inv-loop μ-loop
 sub-first c =
@@ -95,10 +93,10 @@ set-out-spec =
     Inv-loop
     μ-loop
     loop-holds
+    mul-jitter
+    shared-slice-read-jitter
     mul-first
     shared-slice-read-first
-    mul-first-2
-    shared-slice-read-first-2
     sub-first
     div-nexts
     mul-nexts

@@ -7,8 +7,6 @@ use Rattle.pnet_urgent_table.proofs.Releases.{later, carried, further, 
 use Rattle.pnet_urgent_table.proofs.Tallies.{Tallying, tallying-none, tallying-more, tallied-asking, tallied}
 use Rattle.pnet_urgent_table.proofs.tally.Statement.{statement}
 use Rattle.pnet_urgent_table.proofs.tally.Tie as tie
-use Rattle.pnet_urgent_table.proofs.tally.Reads as reads
-use Rattle.pnet_urgent_table.proofs.tally.Lts as lts
 
 abbrev Inv-loop : tie.InvT-loop
 Inv-loop turn spacing a table₀ whole part end next₀ rest₀ table next rest = Tallying turn spacing a table₀ next₀ rest₀ next rest table

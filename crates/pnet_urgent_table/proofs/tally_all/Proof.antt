@@ -5,12 +5,9 @@ use native.Mathlib.Omega.{arith}
 use borrow.Author.Needs.{needs}
 use Rattle.pnet_turn.specs.Turn.{at}
 use Rattle.pnet_urgent_table.specs.Tally.{Asking}
-use Rattle.pnet_urgent_table.proofs.Blocks.{Going, going-none, going-next, next-inside, rest-inside, going-more, going-room, due-all, risen-all}
+use Rattle.pnet_urgent_table.proofs.Blocks.{Going, going-none, going-next, going-more, going-room, due-all, risen-all}
 use Rattle.pnet_urgent_table.proofs.tally_all.Statement.{statement}
 use Rattle.pnet_urgent_table.proofs.tally_all.Tie as tie
-use Rattle.pnet_urgent_table.proofs.tally_all.Reads as reads
-use Rattle.pnet_urgent_table.proofs.tally_all.Lts as lts
-use Rattle.pnet_urgent_table.proofs.tally.Reads as tally-reads
 
 abbrev Inv-loop : tie.InvT-loop
 Inv-loop turn spacings jitters k a nexts₀ rests₀ table₀ j₀ nexts rests table j = Going turn spacings jitters k a nexts₀ rests₀ j nexts rests table
@@ -18,11 +15,15 @@ Inv-loop turn spacings jitters k a nexts₀ rests₀ table₀ j₀ nexts rests t
 abbrev μ-loop : tie.MeasureT-loop
 μ-loop turn spacings jitters k a nexts₀ rests₀ table₀ j₀ nexts rests table j = k - j
 
+abbrev start : tie.In-loop Inv-loop μ-loop → tie.Start Inv-loop μ-loop
+start c = c .before .before .before .before .before .before .before
+
 -- what is kept of the next stream
 asking : (c : tie.In-loop Inv-loop μ-loop)
-    → Asking (c .before .before .before .before .before .before .before .args .turn) (at (c .before .before .before .before .before .before .before .args .spacings .now) (c .before .loop .j)) (at (c .before .before .before .before .before .before .before .args .jitters .now) (c .before .loop .j))
-    (c .before .before .before .before .before .before .before .args .a) (at (c .before .loop .nexts) (c .before .loop .j)) (at (c .before .loop .rests) (c .before .loop .j))
-asking c = going-next (c .before .loop .inv) (c .before .before .before .before .before .before .before .pre .0 .2) (omega arith)
+    → (let a = start c .args in
+    let l = c .before .loop in
+    Asking (a .turn) (at (a .spacings .now) (l .j)) (at (a .jitters .now) (l .j)) (a .a) (at (l .nexts) (l .j)) (at (l .rests) (l .j)))
+asking c = going-next (c .before .loop .inv) (start c .pre .0 .2) (omega arith)
 
 loop-holds : tie.Need-loop-holds Inv-loop μ-loop
 loop-holds c =
@@ -51,12 +52,13 @@ shared-slice-read-tally c = search needs
 tally-requires : tie.Need-tally-requires Inv-loop μ-loop
 tally-requires c κs =
     let d = c .before .before .before .before in
-    let s = d .before .before .before .before .before .before .before in
+    let s = start d in
     let l = d .before .loop in
     let slow = s .pre .0 .0 in
-    let on = asking d in
-    ((slow .turn-from, slow .turn-to, slow .longer (l .j) (omega arith), slow .spacing-to (l .j) (omega arith), s .pre .0 .1),
-    ((on .from, on .to, on .rest-to), (l .inv .long, going-room (l .inv) (s .pre .0 .2) (omega arith) slow (s .pre .0 .1))))
+    let on = asking d in (
+      (slow .turn-from, slow .turn-to, slow .longer (l .j) (omega arith), slow .spacing-to (l .j) (omega arith), s .pre .0 .1),
+      ((on .from, on .to, on .rest-to), (l .inv .long, going-room (l .inv) (s .pre .0 .2) (omega arith) slow (s .pre .0 .1))),
+    )
 
 mul-nexts : tie.Need-mul-nexts Inv-loop μ-loop
 mul-nexts c = search needs
@@ -82,7 +84,7 @@ loop-again c =
     let l = d .before .loop in
     let t = c .before .before .tally in
     let on = asking d in
-    going-more (l .inv) (d .before .before .before .before .before .before .before .pre .0 .2) (omega arith) (t .result .next) (t .result .rest) _ (t .ensures .0 _ on) (t .ensures .1 _ on) (t .kept .1 .1 .1 .1 .0 ∙ l .inv .long)
+    going-more (l .inv) (start d .pre .0 .2) (omega arith) (t .result .next) (t .result .rest) _ (t .ensures .0 _ on) (t .ensures .1 _ on) (t .kept .1 .1 .1 .1 .0 ∙ l .inv .long)
 
 same-length : tie.Need-same-length Inv-loop μ-loop
 same-length c = search needs
