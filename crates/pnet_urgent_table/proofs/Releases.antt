@@ -44,11 +44,7 @@ module _ (V' T J : ℕ) where
 
 -- ---- From one release to the next, T later: from slot p with the rest e to slot q with the rest f
 
--- that many whole slots later, before a whole slot of the rest is carried
-pub later : (V' T p e : ℕ) → V' * (p + T / V') + (e + T % V') ≡ V' * p + e + T
-later V' T p e = omega (arith, mul-add V' p (T / V'), div-add-mod T V')
-
--- as many whole slots are one or more, and not too many
+-- T has a whole slot or more, and not too many
 pub slots-some : (V' T : ℕ) → 48 ≤ V' → V' < T → 1 ≤ T / V'
 slots-some V' T long slow = le-div-iff-mul-le {k = V'} (omega arith) .1 (omega arith)
 
@@ -56,6 +52,10 @@ pub slots-few : (V' T : ℕ) → 48 ≤ V' → T ≤ 1000000000 → T / V' ≤ 2
 slots-few V' T long most =
     let a : 48 * (T / V') ≤ V' * (T / V') = mul-le-mul-right (T / V') long in
     omega (arith, div-add-mod T V')
+
+-- that many whole slots later, before a whole slot of the rest is carried
+pub later : (V' T p e : ℕ) → V' * (p + T / V') + (e + T % V') ≡ V' * p + e + T
+later V' T p e = omega (arith, mul-add V' p (T / V'), div-add-mod T V')
 
 -- and after
 pub carried : (V' p e x : ℕ) → V' ≤ e → V' * p + e ≡ x → V' * (p + 1) + (e - V') ≡ x
