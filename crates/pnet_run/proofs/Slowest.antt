@@ -23,7 +23,7 @@ use borrow.Author.Tests.{eq-eqb, ne-eqb}
 use Rattle.pnet_rules.specs.Segment.{Segment, owns}
 use Rattle.pnet_run.specs.Run.{Request, request, Answer, answer, Queues, put, join, Token, toward, Settled, on-way, next, Run, start, complete, arrive, serve}
 use Rattle.pnet_run.specs.Promise.{Apart, none, and, Spaced}
-use Rattle.pnet_run.proofs.Queues.{put-same, put-other}
+use Rattle.pnet_run.proofs.Keeping.{put-same, put-other}
 use Rattle.pnet_run.proofs.Picked.{picked}
 use Rattle.pnet_run.proofs.Spacing.{apart-spaced}
 
