@@ -95,7 +95,7 @@ spent-free S a (w ∷ went) = go (leb a (w .at)) (spent-free S a went)
     go true e = omega arith
     go false e = omega arith
 
-underWay-free : (y : Token) → underWay free y ≡ 0
+pub underWay-free : (y : Token) → underWay free y ≡ 0
 underWay-free (toward m d) = refl
 underWay-free (serving m c) = refl
 

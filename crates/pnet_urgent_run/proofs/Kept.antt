@@ -9,7 +9,7 @@ use Rattle.pnet_rules.specs.Segment.{Segment}
 use Rattle.pnet_run.specs.Run.{Request, Answer, Token, RunBy, start, complete, arrive, move, travel, work, serve, skip}
 use Rattle.pnet_run.proofs.Keeping.{Keeps, put-relates}
 use Rattle.pnet_run.proofs.Queues.{behind-last, behind-last-too}
-use Rattle.pnet_urgent_run.specs.Stack.{Held, held, Taken, here, further, HandsDown, Sends, stackOf, stacked}
+use Rattle.pnet_urgent_run.specs.Stack.{Held, held, Taken, here, further, HandsDown, Sends, stackOf, one, stacked}
 
 -- ---- What is taken out of a list, and what is left
 
@@ -81,9 +81,12 @@ stack-keeps size S U = record {
   serves = λ now after r s p. (send-in now after r s p, send-out now after r s p);
 }
 
+abbrev pub stacked-keeps : (S : Segment) (U : ℕ → Type 0) → Keeps (stacked S U)
+stacked-keeps = stack-keeps one
+
 -- ---- One request in the stack at most
 
-length-snoc : (l : List Request) (r : Request) → length (l ++ (r ∷ [])) ≡ suc (length l)
+pub length-snoc : (l : List Request) (r : Request) → length (l ++ (r ∷ [])) ≡ suc (length l)
 length-snoc l r = omega (arith, length-append l (r ∷ []))
 
 pub one-in-stack : {S : Segment} {U : ℕ → Type 0} {t : ℕ} {y : Token} {q : ℕ → Held} {came : List Request} {went : List Answer}

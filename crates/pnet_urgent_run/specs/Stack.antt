@@ -72,10 +72,13 @@ stackOf size S Urgent = record {
 }
 
 -- one, until its answer is complete
-abbrev pub stacked : Segment → (ℕ → Type 0) → Discipline
-stacked = stackOf (λ m y. 1)
+abbrev pub one : ℕ → Token → ℕ
+one m y = 1
 
--- the other reading: one beside the one that is under way
+abbrev pub stacked : Segment → (ℕ → Type 0) → Discipline
+stacked = stackOf one
+
+-- the other reading: one besides the one that is under way
 unfoldable pub besides : ℕ → Token → ℕ
 besides m (toward o d) = 1
 besides m (serving o c) = cond (eqb o m) 2 1
