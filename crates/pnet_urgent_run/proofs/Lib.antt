@@ -1,3 +1,4 @@
 pub mod Kept
 pub mod Heeded
 pub mod Busy
+pub mod Figures

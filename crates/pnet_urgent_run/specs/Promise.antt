@@ -7,8 +7,9 @@ use mathlib.Core.List.{List, List·Memᴰ}
 use Rattle.units.specs.declared.BitPeriods.{BitPeriods}
 use Rattle.pnet_rules.specs.Segment.{Segment}
 use Rattle.pnet_urgent_rules.specs.Urgent.{ahead}
-use Rattle.pnet_run.specs.Run.{Request, Answer, answer, Token}
+use Rattle.pnet_run.specs.Run.{Request, Answer, answer, Token, RunBy}
 use Rattle.pnet_run.specs.Promise.{Kept, Lasts}
+use Rattle.pnet_urgent_run.specs.Stack.{Held, stacked}
 
 -- stream j is stream i, or goes ahead of it
 abbrev pub UpTo : Segment → ℕ → ℕ → Type 0
@@ -23,3 +24,9 @@ SpacedUpTo S i came =
 pub record AnsweredOf (R : BitPeriods) (i t : ℕ) (y : Token) (came : List Request) (went : List Answer) : Type 0 where
   pub in-time : (a : Answer) → List·Memᴰ a went → a .to .of ≡ i → a .at ≤ a .to .since + R .0
   pub none-left : (r : Request) → List·Memᴰ r came → r .of ≡ i → Lasts t y (r .since + R .0) → (u : ℕ) × List·Memᴰ (answer r u) went
+
+-- no request of stream i takes longer than R, in any run in which its master hands down the most urgent request first and stream i and the streams ahead of it keep
+-- their spacing. `Urgent` says which masters hand down the most urgent first; the others do as they like
+pub record SafeFor (R : BitPeriods) (S : Segment) (i : ℕ) : Type 1 where
+  pub ever : {Urgent : ℕ → Type 0} {t : ℕ} {y : Token} {q : ℕ → Held} {came : List Request} {went : List Answer}
+      → Urgent (S .stream i .master) → RunBy (stacked S Urgent) S t y q came went → SpacedUpTo S i came → AnsweredOf R i t y came went
