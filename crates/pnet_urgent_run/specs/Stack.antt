@@ -60,6 +60,10 @@ pub record Nothing (now : Held) : Type 0 where
 
 -- ---- The disciplines
 
+-- page 02: 'above each master'
+abbrev pub Everyone : ℕ → Type 0
+Everyone m = Unit {0}
+
 -- where `size` tells how many the stack of master m may hold as the token stands, and `Urgent` which masters hand down the most urgent
 abbrev pub stackOf : (ℕ → Token → ℕ) → Segment → (ℕ → Type 0) → Discipline
 stackOf size S Urgent = record {
