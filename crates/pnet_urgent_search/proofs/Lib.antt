@@ -1,2 +1,4 @@
 pub mod Loads
 pub mod Alike
+pub mod Walks
+pub mod Carries
