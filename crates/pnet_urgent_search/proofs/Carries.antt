@@ -2,13 +2,14 @@
 use mathlib.Core.Path.{_≡_, refl, sym, _∙_}
 use mathlib.Core.List.{List}
 use Prim.Native.Nat.{ℕ, _+_, _*_, _/_, _≤_, _<_, max}
+use native.Mathlib.Nat.{div-lt-iff-lt-mul}
 use native.Mathlib.Decide.{ℕ-discrete}
 use native.Mathlib.Omega.{arith}
 use lib.ListN.{length, set, length-set}
 use lib.Seq.{getD-set-same, getD-set-other}
 use Rattle.pnet_turn.specs.Turn.{at}
 use Rattle.pnet_urgent_search.specs.Walks.{blockedAt}
-use Rattle.pnet_urgent_search.specs.Steps.{Shows, Walk, Starts, Apart, Started, Carried}
+use Rattle.pnet_urgent_search.specs.Steps.{Shows, Walk, Starts, Sound, Apart, Started, Carried}
 
 pub apart-none : (slots rounds : List ℕ) → Apart 0 slots rounds slots rounds
 apart-none slots rounds = record { slots-long = refl; rounds-long = refl; slots-kept = λ i l. refl; rounds-kept = λ i l. refl }
@@ -54,10 +55,21 @@ started-all on n e = rw e at on
 
 -- ---- They are carried through a block
 
+-- no D holds more slots
+pub most-small : (D V' : ℕ) → D ≤ 1000000000 → 48 ≤ V' → D / V' ≤ 20833333
+most-small D V' d v =
+    let l : D / V' < 20833334 = div-lt-iff-lt-mul {k = V'} {x = D} {y = 20833334} (omega arith) .1 (omega arith) in
+    omega arith
+
+-- a walk that is not carried yet is as it was
+pub apart-sound : {j most a : ℕ} {slots rounds slots' rounds' : List ℕ} → Apart j slots rounds slots' rounds' → Sound most a (at slots j) (at rounds j)
+    → Sound most a (at slots' j) (at rounds' j)
+apart-sound {j} on sound = rw (on .slots-kept j (omega arith), on .rounds-kept j (omega arith)) sound
+
 module _ (V' : ℕ) (Ds : List ℕ) (L : ℕ) (table : List ℕ) (a : ℕ) where
-  -- what is promised of the walk at place i, which was at n and m and is at x and y
-  abbrev pub Goes : ℕ → ℕ → ℕ → ℕ → ℕ → Type 0
-  Goes i n m x y = (f : ℕ → ℕ) → Shows f table a (1 + blockedAt L i + i) (at Ds i / V') → Walk f (at Ds i / V') a n m → Walk f (at Ds i / V') (a + 512) x y
+  -- what is promised of the walk at place i, which was at n and m and is at x and y, for a constant
+  abbrev Goes : ℕ → ℕ → ℕ → ℕ → ℕ → ℕ → Type 0
+  Goes i c n m x y = (f : ℕ → ℕ) → Shows f table a c (at Ds i / V') → Walk f (at Ds i / V') a n m → Walk f (at Ds i / V') (a + 512) x y
 
   pub carried-none : (slots rounds : List ℕ) → Carried V' Ds L table a 0 slots rounds slots rounds 0
   carried-none slots rounds =
@@ -68,13 +80,14 @@ module _ (V' : ℕ) (Ds : List ℕ) (L : ℕ) (table : List ℕ) (a : ℕ) where
         early = omega arith;
       }
 
-  pub carried-more : {j last : ℕ} {slots rounds slots' rounds' : List ℕ} (x y z : ℕ) → Carried V' Ds L table a j slots rounds slots' rounds' last
-      → j < length slots → j < length rounds → x ≤ 20833333 → z ≡ max last x → Goes j (at slots' j) (at rounds' j) x y
+  pub carried-more : {j last : ℕ} {slots rounds slots' rounds' : List ℕ} (c x y z : ℕ) → Carried V' Ds L table a j slots rounds slots' rounds' last
+      → j < length slots → j < length rounds → c ≡ 1 + blockedAt L j + j → x ≤ 20833333 → z ≡ max last x → Goes j c (at slots' j) (at rounds' j) x y
       → Carried V' Ds L table a (j + 1) slots rounds (set slots' j x) (set rounds' j y) z
-  carried-more {j} {last} {slots} {rounds} {slots'} {rounds'} x y z on s r small e new =
+  carried-more {j} {last} {slots} {rounds} {slots'} {rounds'} c x y z on s r own small e new =
+      let kept = rw (own, on .apart .slots-kept j (omega arith), on .apart .rounds-kept j (omega arith)) at new in
       record {
         apart = apart-more x y (on .apart);
-        walked = each-more x y (on .apart) (λ i n m. Goes i (at slots i) (at rounds i) n m) s r (on .walked) (rw (on .apart .slots-kept j (omega arith), on .apart .rounds-kept j (omega arith)) at new);
+        walked = each-more x y (on .apart) (λ i n m. Goes i (1 + blockedAt L i + i) (at slots i) (at rounds i) n m) s r (on .walked) kept;
         past-none = each-more x y (on .apart) (λ i n m. n ≤ z) s r (λ i l. omega (arith, on .past-none i l, e)) (omega (arith, e));
         early = omega (arith, e, on .early);
       }

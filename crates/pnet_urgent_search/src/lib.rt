@@ -72,7 +72,7 @@ fn start(turn: u32, deadlines: &[u32], walks: usize, slots: &mut [u32], rounds: 
 // What the right side of the stream at place i has beside the table: its own request, b, and one for each stream ahead.
 fn own(i: usize, count: usize) -> u32
     requires { ⌜ (i < count) × (count ≤ 80) ⌝ }
-    ensures { λ r. ⌜ r ≡ 1 + blockedAt count i + i ⌝ }
+    ensures { λ r. ⌜ (r ≡ 1 + blockedAt count i + i) × (r ≤ 81) ⌝ }
 {
     let place = i as u32;
     if i + 1 == count { 1 + place } else { 2 + place }

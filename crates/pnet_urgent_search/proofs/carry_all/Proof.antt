@@ -1,96 +1,93 @@
+-- `carry_all` meets its contract. The invariant: the first i walks are carried through the block, and the others are as they were. Assumes nothing.
+use mathlib.Core.Path.{_≡_, sym}
+use Prim.Native.Nat.{ℕ, _+_, _-_, _/_, _≤_}
+use native.Mathlib.Omega.{arith}
+use borrow.Author.Needs.{needs}
+use lib.ListN.{length}
+use Rattle.pnet_turn.specs.Turn.{at}
+use Rattle.pnet_urgent_search.specs.Steps.{Carried}
+use Rattle.pnet_urgent_search.proofs.Carries.{most-small, apart-sound, carried-none, carried-more, carried-all}
 use Rattle.pnet_urgent_search.proofs.carry_all.Statement.{statement}
 use Rattle.pnet_urgent_search.proofs.carry_all.Tie as tie
-use Rattle.pnet_urgent_search.proofs.carry_all.Reads as reads
-use Rattle.pnet_urgent_search.proofs.carry_all.Lts as lts
-use Rattle.pnet_urgent_search.proofs.carry.Reads as carry-reads
-use Rattle.pnet_urgent_search.proofs.larger.Reads as larger-reads
-use Rattle.pnet_urgent_search.proofs.own.Reads as own-reads
 
 abbrev Inv-loop : tie.InvT-loop
-Inv-loop turn deadlines walks table a slots₀ rounds₀ count last₀ i₀ slots rounds last i = ?
+Inv-loop turn deadlines walks table a slots₀ rounds₀ count last₀ i₀ slots rounds last i =
+    (i ≤ walks) × Carried turn deadlines (length deadlines) table a i slots₀ rounds₀ slots rounds last
 
 abbrev μ-loop : tie.MeasureT-loop
-μ-loop turn deadlines walks table a slots₀ rounds₀ count last₀ i₀ slots rounds last i = ?
+μ-loop turn deadlines walks table a slots₀ rounds₀ count last₀ i₀ slots rounds last i = walks - i
 
--- src/lib.rt:125:5
 loop-holds : tie.Need-loop-holds Inv-loop μ-loop
-loop-holds c = ?
+loop-holds c = (search needs, carried-none _ _ _ _ _ _ _)
 
--- src/lib.rt:126:13
 own-requires : tie.Need-own-requires Inv-loop μ-loop
-own-requires c κs = ?
+own-requires c κs = search needs
 
--- src/lib.rt:127:33
 mul-carry : tie.Need-mul-carry Inv-loop μ-loop
-mul-carry c = ?
+mul-carry c = search needs
 
--- src/lib.rt:127:33
 shared-slice-read-carry : tie.Need-shared-slice-read-carry Inv-loop μ-loop
-shared-slice-read-carry c = ?
+shared-slice-read-carry c = search needs
 
--- src/lib.rt:127:60
 mul-carry-2 : tie.Need-mul-carry-2 Inv-loop μ-loop
-mul-carry-2 c = ?
+mul-carry-2 c = search needs
 
--- src/lib.rt:127:60
 slice-read-carry : tie.Need-slice-read-carry Inv-loop μ-loop
-slice-read-carry c = ?
+slice-read-carry c = search needs
 
--- src/lib.rt:127:70
 mul-carry-3 : tie.Need-mul-carry-3 Inv-loop μ-loop
-mul-carry-3 c = ?
+mul-carry-3 c = search needs
 
--- src/lib.rt:127:70
 slice-read-carry-2 : tie.Need-slice-read-carry-2 Inv-loop μ-loop
-slice-read-carry-2 c = ?
+slice-read-carry-2 c = search needs
 
--- src/lib.rt:127:13
 carry-requires : tie.Need-carry-requires Inv-loop μ-loop
-carry-requires c κs = ?
+carry-requires c κs =
+    let p = c .before .before .before .before .before .before .before .before .before .before .pre in
+    let l = c .before .before .before .before .before .loop in
+    (omega arith, c .before .before .before .own .ensures .1, p .0 .5, apart-sound (l .inv .1 .apart) (p .1 (l .i) (omega arith) .1))
 
--- src/lib.rt:128:9
 mul-slots : tie.Need-mul-slots Inv-loop μ-loop
-mul-slots c = ?
+mul-slots c = search needs
 
--- src/lib.rt:128:9
 slice-write-slots : tie.Need-slice-write-slots Inv-loop μ-loop
-slice-write-slots c = ?
+slice-write-slots c = search needs
 
--- src/lib.rt:129:9
 mul-rounds : tie.Need-mul-rounds Inv-loop μ-loop
-mul-rounds c = ?
+mul-rounds c = search needs
 
--- src/lib.rt:129:9
 slice-write-rounds : tie.Need-slice-write-rounds Inv-loop μ-loop
-slice-write-rounds c = ?
+slice-write-rounds c = search needs
 
--- src/lib.rt:130:9
 larger-requires : tie.Need-larger-requires Inv-loop μ-loop
-larger-requires c κs = ?
+larger-requires c κs = search needs
 
--- src/lib.rt:131:9
 add-i : tie.Need-add-i Inv-loop μ-loop
-add-i c = ?
+add-i c = search needs
 
--- src/lib.rt:125:5
 loop-less : tie.Need-loop-less Inv-loop μ-loop
-loop-less c = ?
+loop-less c = search needs
 
--- src/lib.rt:125:5
 loop-again : tie.Need-loop-again Inv-loop μ-loop
-loop-again c = ?
+loop-again c =
+    let s = c .before .before .before .before .before .before .before .before .before .before .before .before in
+    let l = c .before .before .before .before .before .before .before .loop in
+    let f = c .before .carry in
+    let own = c .before .before .before .before .before .own in
+    let small = most-small (at (s .args .deadlines .now) (l .i)) (s .args .turn) (s .pre .1 (l .i) (omega arith) .0) (omega arith) in (
+      search needs,
+      carried-more _ _ _ _ _ (own .result) (f .result .slot) (f .result .rounds) (c .larger .result) (l .inv .1) (omega arith) (omega arith) (own .ensures .0)
+        (omega (arith, f .ensures .0)) (c .larger .ensures) (f .ensures .1),
+    )
 
--- src/lib.rt:109:1
 same-length : tie.Need-same-length Inv-loop μ-loop
-same-length c = ?
+same-length c = c .before .loop .inv .1 .apart .slots-long
 
--- src/lib.rt:109:1
 same-length-2 : tie.Need-same-length-2 Inv-loop μ-loop
-same-length-2 c = ?
+same-length-2 c = c .before .loop .inv .1 .apart .rounds-long
 
--- src/lib.rt:109:1
 returns : tie.Need-returns Inv-loop μ-loop
-returns c = ?
+returns c = carried-all _ _ _ _ _ (c .before .loop .inv .1) _ (omega arith)
 
 pub carry-all-spec : {M : Type 1} → statement M
 carry-all-spec =

@@ -19,10 +19,10 @@ add-result-2 : tie.Need-add-result-2
 add-result-2 c = search needs
 
 returns : tie.Need-returns
-returns c = simp (eq-eqb (c .before .args .i + 1) (c .before .args .count) (c .if1 .taken)) (omega arith)
+returns c = (simp (eq-eqb (c .before .args .i + 1) (c .before .args .count) (c .if1 .taken)) (omega arith), omega arith)
 
 returns-2 : tie.Need-returns-2
-returns-2 c = simp (ne-eqb (c .before .args .i + 1) (c .before .args .count) (c .if1 .left)) (omega arith)
+returns-2 c = (simp (ne-eqb (c .before .args .i + 1) (c .before .args .count) (c .if1 .left)) (omega arith), omega arith)
 
 pub own-spec : {M : Type 1} → statement M
 own-spec = tie.close (tie.spec cast-place add-if1 add-result add-result-2 returns returns-2)
