@@ -2,3 +2,4 @@ pub mod Loads
 pub mod Alike
 pub mod Walks
 pub mod Carries
+pub mod Blocks

@@ -82,6 +82,11 @@ walk-starts {f} {V'} {D} pos some never (short h e) z =
     done (omega (arith, e)) (none e (λ w s. omega (arith, q, some w, s)))
 walk-starts pos some never (behind h e) z = done (omega (arith, e)) (none e (λ w s. absurd (never h w s)))
 
+pub starts-none : {V' D walks i n : ℕ} → walks ≤ i → Starts V' D walks i n → n ≡ 0
+starts-none h (at-one l _ _) = absurd (omega arith)
+starts-none h (short _ e) = e
+starts-none h (behind _ e) = e
+
 -- ---- The code carries a walk
 
 -- a walk that stood at n after m rounds, in the block behind a, has come to slot k after j

@@ -7,7 +7,7 @@ use lib.ListN.{length}
 use Rattle.common.specs.Sums.{sum}
 use Rattle.pnet_rules.specs.Search.{valueFrom}
 use Rattle.pnet_turn.specs.Turn.{at}
-use Rattle.pnet_urgent_search.specs.Walks.{blockedAt, Found}
+use Rattle.pnet_urgent_search.specs.Walks.{blockedAt, slotsFor, Found}
 
 -- ---- The load
 
@@ -73,3 +73,13 @@ pub record Carried (V' : ℕ) (Ds : List ℕ) (L : ℕ) (table : List ℕ) (a j 
       → Walk f (at Ds i / V') a (at slots i) (at rounds i) → Walk f (at Ds i / V') (a + 512) (at slots' i) (at rounds' i)
   pub past-none : (i : ℕ) → i < j → at slots' i ≤ last
   pub early : last ≤ 20833333
+
+-- ---- All of them, of L streams
+
+-- once the slots up to a are passed, the first `walks` are on their way or done
+pub record Walking (V' : ℕ) (Ts Js Ds : List ℕ) (L walks a : ℕ) (slots rounds : List ℕ) : Type 0 where
+  pub each : (i : ℕ) → i < walks → Walk (slotsFor V' Ts Js L i) (at Ds i / V') a (at slots i) (at rounds i)
+
+-- each of the first j is done
+pub record Ended (V' : ℕ) (Ts Js Ds : List ℕ) (L j : ℕ) (slots rounds : List ℕ) : Type 0 where
+  pub each : (i : ℕ) → i < j → Found (slotsFor V' Ts Js L i) (at Ds i / V') (at slots i) (at rounds i)
