@@ -95,3 +95,8 @@ module _ (V' : ℕ) (Ds : List ℕ) (L : ℕ) (table : List ℕ) (a : ℕ) where
   pub carried-all : {j last : ℕ} {slots rounds slots' rounds' : List ℕ} → Carried V' Ds L table a j slots rounds slots' rounds' last → (n : ℕ) → j ≡ n
       → Carried V' Ds L table a n slots rounds slots' rounds' last
   carried-all on n e = rw e at on
+
+-- as many streams as there are D
+pub carried-of : {V' a j last : ℕ} {Ds table slots rounds slots' rounds' : List ℕ} → Carried V' Ds (length Ds) table a j slots rounds slots' rounds' last
+    → (L : ℕ) → length Ds ≡ L → Carried V' Ds L table a j slots rounds slots' rounds' last
+carried-of on L e = rw e at on

@@ -1,14 +1,18 @@
 // The search for x of one master's streams, page 02 'Ask 11', in slots: x is V·n, n slots. The values of all the searches are read off one table, which is laid out a block of
 // slots at a time.
+use pnet_urgent_table::{lay, set_out};
 ghost use mathlib.Core.Path.{_≡_};
-ghost use Prim.Native.Nat.{ℕ, _+_, _/_, _≤_, _<_, max};
+ghost use Prim.Native.Nat.{ℕ, _+_, _/_, _≤_, _<_, min, max};
 ghost use lib.ListN.{length};
 ghost use Rattle.pnet_turn.specs.Turn.{at};
-ghost use Rattle.pnet_urgent_search.specs.Walks.{blockedAt};
-ghost use Rattle.pnet_urgent_search.specs.Steps.{Loaded, Shows, Walk, Starts, Block, Sound, Started, Carried};
+ghost use Rattle.pnet_urgent_search.specs.Walks.{blockedAt, slotsFor, Urgency, Found};
+ghost use Rattle.pnet_urgent_search.specs.Steps.{Loaded, Shows, Walk, Starts, Block, Sound, Apart, Started, Carried, Walking, Ended};
 
 // The whole bus, in parts that a stream's load is rounded down to.
 const WHOLE: u64 = 1099511627776;
+
+// The slots that the longest D holds.
+const LONGEST: u32 = 20833333;
 
 // Where a walk stands: its slot, 0 where no slot up to its D is a solution, and its rounds.
 struct Stood {
@@ -39,6 +43,13 @@ fn loaded(turn: u32, spacings: &[u32]) -> usize
         j += 1;
     }
     j
+}
+
+// How many streams of `count` have a walk: those with at most k ahead.
+fn walks_of(k: usize, count: usize) -> usize
+    ensures { λ r. ⌜ r ≡ min (k + 1) count ⌝ }
+{
+    if k < count { k + 1 } else { count }
 }
 
 // The slot at which the walk of the stream at place i starts. One that is not among the first `walks` has no solution; nor has one into whose D no slot fits, since every
@@ -131,4 +142,54 @@ fn carry_all(
         i += 1;
     }
     last
+}
+
+// Carries the first walks through one block after the other, until none is behind the slots passed. The first k streams are laid out.
+fn walk(
+    turn: u32,
+    spacings: &[u32],
+    jitters: &[u32],
+    deadlines: &[u32],
+    k: usize,
+    walks: usize,
+    slots: &mut [u32],
+    rounds: &mut [u32],
+)
+    requires { ⌜ Urgency turn (now spacings) (now jitters) (now deadlines) (length (now spacings)) × Loaded turn (now spacings) (length (now spacings)) k × (walks ≡ min (k + 1) (length (now spacings))) ⌝ }
+    requires { ⌜ (walks ≤ length (now slots)) × (walks ≤ length (now rounds)) × Walking turn (now spacings) (now jitters) (now deadlines) (length (now spacings)) walks 0 (now slots) (now rounds) ⌝ }
+    ensures { λ _. ⌜ Apart walks (now (slots .entry)) (now (rounds .entry)) (now (slots .exit)) (now (rounds .exit)) × Ended turn (now (spacings .entry)) (now (jitters .entry)) (now (deadlines .entry)) (length (now (spacings .entry))) walks (now (slots .exit)) (now (rounds .exit)) ⌝ }
+{
+    let mut nexts = [0u32; 80];
+    let mut rests = [0u32; 80];
+    let mut table = [0u32; 512];
+    set_out(turn, spacings, jitters, k, &mut nexts, &mut rests);
+    let mut base: u32 = 0;
+    let mut last = LONGEST;
+    let mut a: u32 = 0;
+    while a < last {
+        lay(turn, spacings, jitters, k, a, base, &mut nexts, &mut rests, &mut table);
+        last = carry_all(turn, deadlines, walks, &table, a, slots, rounds);
+        base = table[511];
+        a += 512;
+    }
+}
+
+// x, in slots, and the rounds of each stream of one master: T, J and D stand in three runs, the most urgent first; turn is V. A stream without a solution that fits into its D
+// has 0 for its slots. Only the planner calls it: what it asks for holds once the streams are put in order.
+pub fn search(
+    turn: u32,
+    spacings: &[u32],
+    jitters: &[u32],
+    deadlines: &[u32],
+    slots: &mut [u32],
+    rounds: &mut [u32],
+)
+    requires { ⌜ Urgency turn (now spacings) (now jitters) (now deadlines) (length (now spacings)) × (length (now spacings) ≤ length (now slots)) × (length (now spacings) ≤ length (now rounds)) ⌝ }
+    ensures { λ _. ⌜ ((i : ℕ) → i < length (now (spacings .entry)) → Found (slotsFor turn (now (spacings .entry)) (now (jitters .entry)) (length (now (spacings .entry))) i) (at (now (deadlines .entry)) i / turn) (at (now (slots .exit)) i) (at (now (rounds .exit)) i)) ⌝ }
+    ensures { λ _. ⌜ Apart (length (now (spacings .entry))) (now (slots .entry)) (now (rounds .entry)) (now (slots .exit)) (now (rounds .exit)) ⌝ }
+{
+    let k = loaded(turn, spacings);
+    let walks = walks_of(k, spacings.len());
+    start(turn, deadlines, walks, slots, rounds);
+    walk(turn, spacings, jitters, deadlines, k, walks, slots, rounds);
 }
