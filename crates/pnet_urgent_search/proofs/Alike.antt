@@ -21,7 +21,7 @@ module _ (V' : ℕ) (Ts Js : List ℕ) (L i : ℕ) where
   unfolding slotsFor
   slots-rise x y l =
       let a = sum-rises (λ j. up (V' * x + at Js j) (at Ts j)) (λ j. up (V' * y + at Js j) (at Ts j)) i
-        (λ j _. up-rises (V' * x + at Js j) (V' * y + at Js j) (at Ts j) (omega (arith, mul-le-mul-left V' l))) in
+      (λ j _. up-rises (V' * x + at Js j) (V' * y + at Js j) (at Ts j) (omega (arith, mul-le-mul-left V' l))) in
       omega arith
 
   pub slots-some : (x : ℕ) → 1 ≤ slotsFor V' Ts Js L i x

@@ -84,9 +84,9 @@ module _ {V' L K : ℕ} {Ts Js Ds : List ℕ} (u : Urgency V' Ts Js Ds L) (loade
     pub walking-sound : {a : ℕ} {slots rounds : List ℕ} → Walking V' Ts Js Ds L walks a slots rounds
         → (i : ℕ) → i < walks → (at Ds i ≤ 1000000000) × Sound (at Ds i / V') a (at slots i) (at rounds i)
     walking-sound walking i l = (
-        (let h : i < L = omega (arith, walks-few) in omega (arith, u .deadline-to i h, u .spacing-to i h)),
-        walk-sound (slots-rise V' Ts Js L i) (slots-some V' Ts Js L i) (walking .each i l),
-      )
+      (let h : i < L = omega (arith, walks-few) in omega (arith, u .deadline-to i h, u .spacing-to i h)),
+      walk-sound (slots-rise V' Ts Js L i) (slots-some V' Ts Js L i) (walking .each i l),
+    )
 
     module _ {a : ℕ} {table : List ℕ} (laid : Laid V' Ts Js K a table) where
       pub laid-block : a ≤ 20833333 → Block table a
@@ -104,8 +104,8 @@ module _ {V' L K : ℕ} {Ts Js Ds : List ℕ} (u : Urgency V' Ts Js Ds L) (loade
             rises = slots-rise V' Ts Js L i;
             some = slots-some V' Ts Js L i;
             right = λ t h fits.
-              ap (λ (q : ℕ). 1 + blockedAt L i + i + q) (laid .holds t h)
-              ∙ alike u (a + t + 1) (omega arith) i K (omega (arith, walks-few)) (loaded .to) fits;
+                ap (λ (q : ℕ). 1 + blockedAt L i + i + q) (laid .holds t h)
+                ∙ alike u (a + t + 1) (omega arith) i K (omega (arith, walks-few)) (loaded .to) fits;
           }
 
       pub passing-more : {slots₀ rounds₀ nexts rests old slots rounds nexts' rests' slots' rounds' : List ℕ} {base last : ℕ} (base' last' : ℕ)
@@ -135,8 +135,8 @@ module _ {V' L K : ℕ} {Ts Js Ds : List ℕ} (u : Urgency V' Ts Js Ds L) (loade
           base-is = queued-none slow;
           table-long = long;
           past-none = λ i l.
-            let s = walking-sound walking i l in
-            omega (arith, s .1 .fits, most-small (at Ds i) V' (s .0) (u .turn-from));
+              let s = walking-sound walking i l in
+              omega (arith, s .1 .fits, most-small (at Ds i) V' (s .0) (u .turn-from));
           early = omega arith;
         }
 

@@ -39,13 +39,13 @@ pub started-none : (V' : ℕ) (Ds : List ℕ) (walks : ℕ) (slots rounds : List
 started-none V' Ds walks slots rounds =
     record { apart = apart-none slots rounds; starts = λ i l. absurd (omega arith); none = λ i l. absurd (omega arith) }
 
-pub started-more : {V' walks j : ℕ} {Ds slots rounds slots' rounds' : List ℕ} (x : ℕ) → Started V' Ds walks j slots rounds slots' rounds'
-    → j < length slots → j < length rounds → Starts V' (at Ds j) walks j x → Started V' Ds walks (j + 1) slots rounds (set slots' j x) (set rounds' j 0)
-started-more {V'} {walks} {Ds = Ds} x on s r new =
+pub started-more : {V' walks j : ℕ} {Ds slots rounds slots' rounds' : List ℕ} (x y : ℕ) → Started V' Ds walks j slots rounds slots' rounds'
+    → j < length slots → j < length rounds → Starts V' (at Ds j) walks j x → y ≡ 0 → Started V' Ds walks (j + 1) slots rounds (set slots' j x) (set rounds' j y)
+started-more {V'} {walks} {Ds = Ds} x y on s r new zero =
     record {
-      apart = apart-more x 0 (on .apart);
-      starts = each-more x 0 (on .apart) (λ i n m. Starts V' (at Ds i) walks i n) s r (on .starts) new;
-      none = each-more x 0 (on .apart) (λ i n m. m ≡ 0) s r (on .none) refl;
+      apart = apart-more x y (on .apart);
+      starts = each-more x y (on .apart) (λ i n m. Starts V' (at Ds i) walks i n) s r (on .starts) new;
+      none = each-more x y (on .apart) (λ i n m. m ≡ 0) s r (on .none) zero;
     }
 
 -- the loop's count is that of all

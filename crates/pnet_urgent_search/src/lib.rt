@@ -1,6 +1,7 @@
 // The search for x of one master's streams, page 02 'Ask 11', in slots: x is V·n, n slots. The values of all the searches are read off one table, which is laid out a block of
 // slots at a time.
-use pnet_urgent_table::{lay, set_out};
+use pnet_urgent_table::lay;
+use pnet_urgent_table::set_out;
 ghost use mathlib.Core.Path.{_≡_};
 ghost use Prim.Native.Nat.{ℕ, _+_, _/_, _≤_, _<_, min, max};
 ghost use lib.ListN.{length};
@@ -167,7 +168,17 @@ fn walk(
     let mut last = LONGEST;
     let mut a: u32 = 0;
     while a < last {
-        lay(turn, spacings, jitters, k, a, base, &mut nexts, &mut rests, &mut table);
+        lay(
+            turn,
+            spacings,
+            jitters,
+            k,
+            a,
+            base,
+            &mut nexts,
+            &mut rests,
+            &mut table,
+        );
         last = carry_all(turn, deadlines, walks, &table, a, slots, rounds);
         base = table[511];
         a += 512;

@@ -41,7 +41,7 @@ shared-slice-read-next : tie.Need-shared-slice-read-next Inv-loop μ-loop
 shared-slice-read-next c = omega arith
 
 add-next : tie.Need-add-next Inv-loop μ-loop
-add-next c = 
+add-next c =
     let s = c .before .before .before .before in
     omega (arith, s .pre .2 .small (c .before .before .loop .slot - s .args .a - 1) (omega arith))
 

@@ -77,7 +77,7 @@ loop-again c =
     let small = most-small (at (s .args .deadlines .now) (l .i)) (s .args .turn) (s .pre .1 (l .i) (omega arith) .0) (omega arith) in (
       search needs,
       carried-more _ _ _ _ _ (own .result) (f .result .slot) (f .result .rounds) (c .larger .result) (l .inv .1) (omega arith) (omega arith) (own .ensures .0)
-        (omega (arith, f .ensures .0)) (c .larger .ensures) (f .ensures .1),
+          (omega (arith, f .ensures .0)) (c .larger .ensures) (f .ensures .1),
     )
 
 same-length : tie.Need-same-length Inv-loop μ-loop

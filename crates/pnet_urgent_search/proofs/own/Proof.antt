@@ -1,10 +1,10 @@
 -- `own` meets its contract. Assumes nothing.
+use Prim.Native.Nat.{_+_}
 use native.Mathlib.Omega.{arith}
 use borrow.Author.Needs.{needs}
 use borrow.Author.Tests.{eq-eqb, ne-eqb}
 use Rattle.pnet_urgent_search.proofs.own.Statement.{statement}
 use Rattle.pnet_urgent_search.proofs.own.Tie as tie
-use Prim.Native.Nat.{_+_}
 
 cast-place : tie.Need-cast-place
 cast-place c = search needs

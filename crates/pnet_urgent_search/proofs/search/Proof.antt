@@ -1,40 +1,49 @@
+-- `search` meets its contract: a stream that has no walk was done at the start, and the others are when the walks are. Assumes nothing.
+use Prim.Native.Nat.{_≤_}
+use lib.ListN.{length}
+use native.Mathlib.Omega.{arith}
 use borrow.Author.Needs.{needs}
+use Rattle.pnet_urgent_search.specs.Steps.{Started}
+use Rattle.pnet_urgent_search.proofs.Carries.{started-all}
+use Rattle.pnet_urgent_search.proofs.Blocks.{apart-twice, walking-none, ended-all}
 use Rattle.pnet_urgent_search.proofs.search.Statement.{statement}
 use Rattle.pnet_urgent_search.proofs.search.Tie as tie
-use Rattle.pnet_urgent_search.proofs.search.Reads as reads
-use Rattle.pnet_urgent_search.proofs.search.Lts as lts
-use Rattle.pnet_urgent_search.proofs.loaded.Reads as loaded-reads
-use Rattle.pnet_urgent_search.proofs.start.Reads as start-reads
-use Rattle.pnet_urgent_search.proofs.walk.Reads as walk-reads
-use Rattle.pnet_urgent_search.proofs.walks_of.Reads as walks-of-reads
 
--- src/lib.rt:191:9
 loaded-requires : tie.Need-loaded-requires
-loaded-requires c κs = search needs
+loaded-requires c κs = let u = c .before .before .before .before .before .pre .0 in (u .turn-to, u .spacing-from)
 
--- src/lib.rt:192:9
 walks-of-requires : tie.Need-walks-of-requires
 walks-of-requires c κs = search needs
 
--- src/lib.rt:193:5
 start-requires : tie.Need-start-requires
-start-requires c κs = search needs
+start-requires c κs =
+    let p = c .before .before .before .before .before .before .before .before .before .pre in
+    (omega (arith, p .0 .deadlines, p .1), omega (arith, p .0 .deadlines, p .2))
 
--- src/lib.rt:194:5
 walk-requires : tie.Need-walk-requires
-walk-requires c κs = ?
+walk-requires c κs =
+    let p = c .before .before .before .before .before .before .before .before .before .before .before .before .before .before .before .before .pre in
+    let loaded = c .before .before .before .before .before .before .before .before .before .before .loaded .ensures in
+    let walks = c .before .before .before .before .before .before .before .before .before .walks-of .ensures in
+    let started = started-all (c .before .before .before .before .before .before .start .ensures) _ (p .0 .deadlines) in (
+      (p .0, loaded, walks),
+      (omega (arith, p .1, started .apart .slots-long, walks), omega (arith, p .2, started .apart .rounds-long, walks), walking-none (p .0) loaded walks started),
+    )
 
--- src/lib.rt:179:1
 same-length : tie.Need-same-length
 same-length c = search needs
 
--- src/lib.rt:179:1
 same-length-2 : tie.Need-same-length-2
 same-length-2 c = search needs
 
--- src/lib.rt:179:1
 returns : tie.Need-returns
-returns c = ?
+returns c =
+    let p = c .before .before .before .before .before .before .before .before .before .before .before .before .before .before .before .before .before .before .before .before .before .pre in
+    let loaded = c .before .before .before .before .before .before .before .before .before .before .before .before .before .before .before .loaded .ensures in
+    let walks = c .before .before .before .before .before .before .before .before .before .before .before .before .before .before .walks-of .ensures in
+    let started = started-all (c .before .before .before .before .before .before .before .before .before .before .before .start .ensures) _ (p .0 .deadlines) in
+    let f = c .before .before .before .before .walk .ensures in
+    (ended-all (p .0) loaded walks started (f .0) (f .1) .each, apart-twice _ (started .apart) (f .0) (omega arith) (omega (arith, walks)))
 
 pub search-spec : {M : Type 1} → statement M
 search-spec =

@@ -45,7 +45,7 @@ loop-less : tie.Need-loop-less Inv-loop μ-loop
 loop-less c = search needs
 
 loop-again : tie.Need-loop-again Inv-loop μ-loop
-loop-again c = (search needs, started-more (c .first-slot .result) (c .before .before .before .loop .inv .1) (omega arith) (omega arith) (c .first-slot .ensures))
+loop-again c = (search needs, started-more (c .first-slot .result) _ (c .before .before .before .loop .inv .1) (omega arith) (omega arith) (c .first-slot .ensures) (omega arith))
 
 same-length : tie.Need-same-length Inv-loop μ-loop
 same-length c = c .before .loop .inv .1 .apart .slots-long

@@ -8,11 +8,6 @@ use Rattle.pnet_urgent_search.proofs.Carries.{carried-of}
 use Rattle.pnet_urgent_search.proofs.Blocks.{Passing, passing-none, passing-more, passing-done, slow, laid-block, walking-sound}
 use Rattle.pnet_urgent_search.proofs.walk.Statement.{statement}
 use Rattle.pnet_urgent_search.proofs.walk.Tie as tie
-use Rattle.pnet_urgent_search.proofs.walk.Reads as reads
-use Rattle.pnet_urgent_search.proofs.walk.Lts as lts
-use Rattle.pnet_urgent_search.proofs.carry_all.Reads as carry-all-reads
-use Rattle.pnet_urgent_table.proofs.lay.Reads as lay-reads
-use Rattle.pnet_urgent_table.proofs.set_out.Reads as set-out-reads
 
 abbrev Inv-loop : tie.InvT-loop
 Inv-loop turn spacings jitters deadlines k walks slots₀ rounds₀ nexts₀ rests₀ table₀ base₀ last₀ a₀ slots rounds nexts rests table base last a =
