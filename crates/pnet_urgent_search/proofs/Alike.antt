@@ -1,8 +1,8 @@
 -- One function of the slot serves every stream of a master: within D of a stream those behind it ask just once, so each right side is a constant of its own and what all that
 -- are laid out ask beyond once. Assumes nothing.
-use mathlib.Core.Path.{_≡_, refl, sym, ap, _∙_}
+use mathlib.Core.Path.{_≡_, refl, sym, ap}
 use mathlib.Core.List.{List}
-use Prim.Native.Nat.{ℕ, zero, suc, _+_, _-_, _*_, _/_, _≤_, _<_, zero-le}
+use Prim.Native.Nat.{ℕ, zero, suc, _+_, _*_, _/_, _≤_, _<_, zero-le}
 use native.Mathlib.Nat.{mul-comm, mul-zero, mul-le-mul, mul-le-mul-left, add-mul, le-div-iff-mul-le}
 use native.Mathlib.Decide.{ℕ-discrete}
 use native.Mathlib.Omega.{arith}

@@ -1,18 +1,18 @@
 -- Laws of the search over the blocks: the table shows the right side of each walk, so every walk is its stream's search from block to block. Assumes nothing.
-use mathlib.Core.Path.{_≡_, refl, sym, ap, _∙_}
+use mathlib.Core.Path.{_≡_, ap, _∙_}
 use mathlib.Core.List.{List}
-use Prim.Native.Nat.{ℕ, suc, _+_, _-_, _*_, _/_, _≤_, _<_, min}
+use Prim.Native.Nat.{ℕ, _+_, _/_, _≤_, _<_, min}
 use native.Mathlib.Decide.{decLe}
 use native.Mathlib.Omega.{arith}
 use lib.ListN.{length}
 use Rattle.pnet_turn.specs.Turn.{at}
 use Rattle.pnet_urgent_table.specs.Table.{queued, Slow, Due, Laid}
 use Rattle.pnet_urgent_search.specs.Walks.{blockedAt, slotsFor, Urgency, Found}
-use Rattle.pnet_urgent_search.specs.Steps.{load, Loaded, Shows, Walk, Block, Sound, Apart, Started, Carried, Walking, Ended}
+use Rattle.pnet_urgent_search.specs.Steps.{Loaded, Shows, Walk, Block, Sound, Apart, Started, Carried, Walking, Ended}
 use Rattle.pnet_urgent_search.proofs.Loads.{loaded-none, load-part, loaded-slow}
 use Rattle.pnet_urgent_search.proofs.Alike.{slots-rise, slots-some, queued-none, queued-small, alike}
 use Rattle.pnet_urgent_search.proofs.Walks.{walk-sound, walk-found, walk-starts, starts-none}
-use Rattle.pnet_urgent_search.proofs.Carries.{most-small}
+use Rattle.pnet_urgent_search.proofs.Carries.{apart-none, most-small}
 
 -- two changes of the runs, one after the other
 pub apart-twice : {i j : ℕ} {slots rounds slots' rounds' slots'' rounds'' : List ℕ} (n : ℕ) → Apart i slots rounds slots' rounds' → Apart j slots' rounds' slots'' rounds''
@@ -48,7 +48,7 @@ module _ {V' L K : ℕ} {Ts Js Ds : List ℕ} (u : Urgency V' Ts Js Ds L) (loade
         few = omega (arith, u .few, loaded .to);
         spacings = omega (arith, u .spacings, loaded .to);
         jitters = omega (arith, u .jitters, loaded .to);
-        longer = λ j l. loaded-slow V' Ts Js turn-some K (loaded .below) j l (u .spacing-from j (omega (arith, loaded .to)));
+        longer = λ j l. loaded-slow V' Ts K (loaded .below) j l (u .spacing-from j (omega (arith, loaded .to)));
         spacing-to = λ j l. u .spacing-to j (omega (arith, loaded .to));
         jitter-to = λ j l. u .jitter-to j (omega (arith, loaded .to));
       }
@@ -57,7 +57,7 @@ module _ {V' L K : ℕ} {Ts Js Ds : List ℕ} (u : Urgency V' Ts Js Ds L) (loade
   pub behind-none : (i : ℕ) → K < i → i < L → (w : ℕ) → w ≡ slotsFor V' Ts Js L i w → ⊥
   behind-none i l h =
       loaded-none V' Ts Js turn-some L i (λ j k. u .spacing-from j (omega arith))
-      (omega (arith, loaded .full (omega arith), load-part V' Ts Js turn-some (K + 1) i (omega arith)))
+      (omega (arith, loaded .full (omega arith), load-part V' Ts (K + 1) i (omega arith)))
 
   module _ {walks : ℕ} (walks-few : walks ≡ min (K + 1) L) where
     -- ---- The start
@@ -130,7 +130,7 @@ module _ {V' L K : ℕ} {Ts Js Ds : List ℕ} (u : Urgency V' Ts Js Ds L) (loade
     passing-none {slots = slots} {rounds} walking due long =
         record {
           walking = walking;
-          apart = record { slots-long = refl; rounds-long = refl; slots-kept = λ i l. refl; rounds-kept = λ i l. refl };
+          apart = apart-none walks slots rounds;
           due = due;
           base-is = queued-none slow;
           table-long = long;

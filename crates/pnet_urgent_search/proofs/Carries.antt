@@ -1,7 +1,7 @@
 -- Laws of the runs in which the walks are kept: places are written one after the other, and those behind keep what they had. Assumes nothing.
-use mathlib.Core.Path.{_≡_, refl, sym, _∙_}
+use mathlib.Core.Path.{_≡_, refl, _∙_}
 use mathlib.Core.List.{List}
-use Prim.Native.Nat.{ℕ, _+_, _*_, _/_, _≤_, _<_, max}
+use Prim.Native.Nat.{ℕ, _+_, _/_, _≤_, _<_, max}
 use native.Mathlib.Nat.{div-lt-iff-lt-mul}
 use native.Mathlib.Decide.{ℕ-discrete}
 use native.Mathlib.Omega.{arith}
@@ -11,8 +11,8 @@ use Rattle.pnet_turn.specs.Turn.{at}
 use Rattle.pnet_urgent_search.specs.Walks.{blockedAt}
 use Rattle.pnet_urgent_search.specs.Steps.{Shows, Walk, Starts, Sound, Apart, Started, Carried}
 
-pub apart-none : (slots rounds : List ℕ) → Apart 0 slots rounds slots rounds
-apart-none slots rounds = record { slots-long = refl; rounds-long = refl; slots-kept = λ i l. refl; rounds-kept = λ i l. refl }
+pub apart-none : (j : ℕ) (slots rounds : List ℕ) → Apart j slots rounds slots rounds
+apart-none j slots rounds = record { slots-long = refl; rounds-long = refl; slots-kept = λ i l. refl; rounds-kept = λ i l. refl }
 
 module _ {j : ℕ} {slots rounds slots' rounds' : List ℕ} (x y : ℕ) (on : Apart j slots rounds slots' rounds') where
   apart-more : Apart (j + 1) slots rounds (set slots' j x) (set rounds' j y)
@@ -37,7 +37,7 @@ module _ {j : ℕ} {slots rounds slots' rounds' : List ℕ} (x y : ℕ) (on : Ap
 
 pub started-none : (V' : ℕ) (Ds : List ℕ) (walks : ℕ) (slots rounds : List ℕ) → Started V' Ds walks 0 slots rounds slots rounds
 started-none V' Ds walks slots rounds =
-    record { apart = apart-none slots rounds; starts = λ i l. absurd (omega arith); none = λ i l. absurd (omega arith) }
+    record { apart = apart-none 0 slots rounds; starts = λ i l. absurd (omega arith); none = λ i l. absurd (omega arith) }
 
 pub started-more : {V' walks j : ℕ} {Ds slots rounds slots' rounds' : List ℕ} (x y : ℕ) → Started V' Ds walks j slots rounds slots' rounds'
     → j < length slots → j < length rounds → Starts V' (at Ds j) walks j x → y ≡ 0 → Started V' Ds walks (j + 1) slots rounds (set slots' j x) (set rounds' j y)
@@ -74,7 +74,7 @@ module _ (V' : ℕ) (Ds : List ℕ) (L : ℕ) (table : List ℕ) (a : ℕ) where
   pub carried-none : (slots rounds : List ℕ) → Carried V' Ds L table a 0 slots rounds slots rounds 0
   carried-none slots rounds =
       record {
-        apart = apart-none slots rounds;
+        apart = apart-none 0 slots rounds;
         walked = λ i l. absurd (omega arith);
         past-none = λ i l. absurd (omega arith);
         early = omega arith;

@@ -2,7 +2,7 @@
 use mathlib.Core.Path.{_≡_, refl, ap, _∙_}
 use mathlib.Core.List.{List}
 use Prim.Native.Nat.{ℕ, zero, suc, _+_, _*_, _/_, _≤_, _<_, zero-le}
-use native.Mathlib.Nat.{mul-zero, zero-mul, mul-comm, mul-add, add-mul, mul-left-comm, mul-le-mul-left, mul-le-mul-right, le-of-mul-le-mul-left, div-mul-le-self, div-lt-iff-lt-mul}
+use native.Mathlib.Nat.{zero-mul, mul-comm, add-mul, mul-left-comm, mul-le-mul-left, mul-le-mul-right, le-of-mul-le-mul-left, div-mul-le-self, div-lt-iff-lt-mul}
 use native.Mathlib.Decide.{ℕ-discrete}
 use native.Mathlib.Numerals.{add-one}
 use native.Mathlib.Omega.{arith}
@@ -10,7 +10,7 @@ use Rattle.common.specs.Sums.{sum, up}
 use Rattle.common.proofs.Sums.{up-covers}
 use Rattle.pnet_turn.specs.Turn.{at}
 use Rattle.pnet_urgent_search.specs.Walks.{slotsFor}
-use Rattle.pnet_urgent_search.specs.Steps.{load, Loaded}
+use Rattle.pnet_urgent_search.specs.Steps.{load}
 
 -- ---- Sums from 0
 
@@ -48,6 +48,10 @@ pub load-more : (V' : ℕ) (Ts : List ℕ) (j : ℕ) → load V' Ts (j + 1) ≡ 
 unfolding load
 load-more V' Ts j = sum-more (λ i. V' * 1099511627776 / at Ts i) j
 
+pub load-part : (V' : ℕ) (Ts : List ℕ) (i n : ℕ) → i ≤ n → load V' Ts i ≤ load V' Ts n
+unfolding load
+load-part V' Ts i n h = sum-part (λ j. V' * 1099511627776 / at Ts j) i n h
+
 -- q of E parts are V/T rounded down, and u times T covers V·w: then u is at least those parts of w
 part-asks : (V' E T q w u : ℕ) → 0 < V' → q * T ≤ V' * E → V' * w ≤ u * T → q * w ≤ E * u
 part-asks V' E T q w u pos parts covers =
@@ -78,14 +82,10 @@ module _ (V' : ℕ) (Ts Js : List ℕ) (pos : 0 < V') where
       let b : 1099511627776 * w ≤ load V' Ts i * w = mul-le-mul-right w full in
       omega arith
 
-  pub load-part : (i n : ℕ) → i ≤ n → load V' Ts i ≤ load V' Ts n
-  unfolding load
-  load-part i n h = sum-part (λ j. V' * 1099511627776 / at Ts j) i n h
-
-  -- it is not: each T is above V
-  pub loaded-slow : (K : ℕ) → load V' Ts K < 1099511627776 → (j : ℕ) → j < K → 0 < at Ts j → V' < at Ts j
-  unfolding load
-  loaded-slow K below j l some =
-      let a = sum-term (λ i. V' * 1099511627776 / at Ts i) j K l in
-      let b : V' * 1099511627776 < 1099511627776 * at Ts j = div-lt-iff-lt-mul some .0 (omega arith) in
-      omega arith
+-- it is not: each T is above V
+pub loaded-slow : (V' : ℕ) (Ts : List ℕ) (K : ℕ) → load V' Ts K < 1099511627776 → (j : ℕ) → j < K → 0 < at Ts j → V' < at Ts j
+unfolding load
+loaded-slow V' Ts K below j l some =
+    let a = sum-term (λ i. V' * 1099511627776 / at Ts i) j K l in
+    let b : V' * 1099511627776 < 1099511627776 * at Ts j = div-lt-iff-lt-mul some .0 (omega arith) in
+    omega arith

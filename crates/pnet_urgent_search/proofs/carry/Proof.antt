@@ -1,8 +1,7 @@
 -- `carry` meets its contract. The invariant: the walk has come to `slot` after `rounds`, whatever right side the table shows. Assumes nothing.
-use Prim.Native.Nat.{_+_, _-_, _/_, _≤_, _<_}
+use Prim.Native.Nat.{_+_, _-_}
 use native.Mathlib.Omega.{arith}
 use borrow.Author.Needs.{needs}
-use Rattle.pnet_urgent_search.specs.Steps.{Block}
 use Rattle.pnet_urgent_search.proofs.Walks.{walk-stays, Carrying, carrying-none, carrying-through, carrying-more, carrying-ends, carrying-refused}
 use Rattle.pnet_urgent_search.proofs.carry.Statement.{statement}
 use Rattle.pnet_urgent_search.proofs.carry.Tie as tie

@@ -1,9 +1,6 @@
 -- `search` meets its contract: a stream that has no walk was done at the start, and the others are when the walks are. Assumes nothing.
-use Prim.Native.Nat.{_≤_}
-use lib.ListN.{length}
 use native.Mathlib.Omega.{arith}
 use borrow.Author.Needs.{needs}
-use Rattle.pnet_urgent_search.specs.Steps.{Started}
 use Rattle.pnet_urgent_search.proofs.Carries.{started-all}
 use Rattle.pnet_urgent_search.proofs.Blocks.{apart-twice, walking-none, ended-all}
 use Rattle.pnet_urgent_search.proofs.search.Statement.{statement}

@@ -1,8 +1,7 @@
 -- `walk` meets its contract. The invariant: before each block every walk is its stream's search, and what is kept of the streams laid out is due behind slot a. Assumes nothing.
 use mathlib.Core.Path.{_≡_, refl, sym, _∙_}
-use Prim.Native.Nat.{_+_, _-_, _≤_}
+use Prim.Native.Nat.{_-_}
 use native.Mathlib.Omega.{arith}
-use borrow.Author.Needs.{needs}
 use lib.ListN.{length}
 use Rattle.pnet_urgent_search.proofs.Carries.{carried-of}
 use Rattle.pnet_urgent_search.proofs.Blocks.{Passing, passing-none, passing-more, passing-done, slow, laid-block, walking-sound}
@@ -86,7 +85,7 @@ loop-again c =
     let g = c .before .before .before .before .carry-all in (
       f .kept .1 .1 .1 .1 .1 .1 .0 ∙ l .inv .0,
       f .kept .1 .1 .1 .1 .1 .1 .1 .0 ∙ l .inv .1,
-      passing-more (p .0 .0) (p .0 .1) (p .0 .2) (f .ensures .1) _ _ (l .inv .2) (f .ensures .0) (carried-of (g .ensures) _ (p .0 .0 .deadlines)) refl,
+      passing-more (p .0 .0) (p .0 .1) (p .0 .2) (f .ensures .1) _ _ (l .inv .2) (f .ensures .0) (carried-of (g .ensures) _ (p .0 .0 .deadlines)) (omega arith),
     )
 
 same-length : tie.Need-same-length Inv-loop μ-loop
