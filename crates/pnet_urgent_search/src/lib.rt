@@ -61,10 +61,7 @@ fn first_slot(turn: u32, deadline: u32, walks: usize, i: usize) -> u32
     if walks <= i {
         return 0;
     }
-    if deadline < turn {
-        return 0;
-    }
-    1
+    if deadline < turn { 0 } else { 1 }
 }
 
 // Starts the walk of each stream.

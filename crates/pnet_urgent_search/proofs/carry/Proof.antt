@@ -57,7 +57,7 @@ loop-less : tie.Need-loop-less Inv-loop μ-loop
 loop-less c = omega arith
 
 loop-again : tie.Need-loop-again Inv-loop μ-loop
-loop-again c = carrying-more (c .before .before .before .before .loop .inv) _ (omega arith) (omega arith) (c .before .if2 .left) (c .if3 .left)
+loop-again c = carrying-more (c .before .before .before .before .loop .inv) _ (omega arith) (omega arith) (c .before .if2 .left) (omega arith)
 
 returns-4 : tie.Need-returns-4 Inv-loop μ-loop
 returns-4 c = let l = c .before .loop in (l .inv .fits, carrying-through (l .inv) (omega arith))
