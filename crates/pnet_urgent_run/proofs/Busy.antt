@@ -170,13 +170,15 @@ module _ (S : Segment) (declared : Declared S) (h : ℕ → ℕ) (cover : Covers
   served-own {now = now} {rest = rest} {r = r} I p = record {
     token = omega (arith, next-in S h free k 1≤k k≤n k≤n);
     busy = λ some.
-        let b = I .busy (omega (arith, same-waiting, ap (tally counts) (p .sent), tally-first counts r (rest .stack))) in
-        (b .0, record {
-          begun = b .1 .begun;
-          over = omega (arith, b .1 .over, gap-lap h (S .masters) k 1≤k k≤n, ap (λ (n : ℕ). n * lap) fewer);
-          counted = b .1 .counted;
-          since = λ u j. b .1 .since u (send-out now rest r p u (inr j));
-        });
+        let b = I .busy (omega (arith, same-waiting, ap (tally counts) (p .sent), tally-first counts r (rest .stack))) in (
+          b .0,
+          record {
+            begun = b .1 .begun;
+            over = omega (arith, b .1 .over, gap-lap h (S .masters) k 1≤k k≤n, ap (λ (n : ℕ). n * lap) fewer);
+            counted = b .1 .counted;
+            since = λ u j. b .1 .since u (send-out now rest r p u (inr j));
+          },
+        );
   }
     where
       same-waiting : tally counts (rest .waiting) ≡ tally counts (now .waiting)
@@ -220,13 +222,15 @@ module _ (S : Segment) (declared : Declared S) (h : ℕ → ℕ) (cover : Covers
       busy = λ some.
           let were : 1 ≤ urgentIn now = omega (arith, out, into, tally-behind counts (now .stack) (down .handed)) in
           let b = I .busy were in
-          let as-many = same-many (handed-urgent were) in
-          (b .0, record {
-            begun = b .1 .begun;
-            over = omega (arith, b .1 .over, ap (λ (n : ℕ). n * lap) as-many);
-            counted = b .1 .counted;
-            since = λ u j. b .1 .since u (down-in now after down u j);
-          });
+          let as-many = same-many (handed-urgent were) in (
+            b .0,
+            record {
+              begun = b .1 .begun;
+              over = omega (arith, b .1 .over, ap (λ (n : ℕ). n * lap) as-many);
+              counted = b .1 .counted;
+              since = λ u j. b .1 .since u (down-in now after down u j);
+            },
+          );
     }
       where
         out : tally counts (now .waiting) ≡ when (counts (down .handed .of)) 1 + tally counts (after .waiting)
@@ -271,13 +275,15 @@ module _ (S : Segment) (declared : Declared S) (h : ℕ → ℕ) (cover : Covers
       token = I .token;
       busy = λ some.
           let b = I .busy (omega arith) in
-          let none : cameIn (b .0) (new ∷ came) ≡ cameIn (b .0) came = omega (arith, rw e at (more (b .0))) in
-          (b .0, record {
-            begun = b .1 .begun;
-            over = omega (arith, b .1 .over, ap (λ (n : ℕ). n * lap) same-many, ap (λ (n : ℕ). n * lap) none);
-            counted = omega (arith, b .1 .counted);
-            since = λ p c f. b .1 .since p (was p c f) f;
-          });
+          let none : cameIn (b .0) (new ∷ came) ≡ cameIn (b .0) came = omega (arith, rw e at (more (b .0))) in (
+            b .0,
+            record {
+              begun = b .1 .begun;
+              over = omega (arith, b .1 .over, ap (λ (n : ℕ). n * lap) same-many, ap (λ (n : ℕ). n * lap) none);
+              counted = omega (arith, b .1 .counted);
+              since = λ p c f. b .1 .since p (was p c f) f;
+            },
+          );
     }
 
     -- of one that counts
