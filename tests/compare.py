@@ -308,7 +308,7 @@ def never_worse(given):
     if isinstance(data, Refusal):
         return True
     bounds, figures = second_opinion.first_come(data), urgent_first(data)
-    return isinstance(bounds, Refusal) or all(x <= bound for x, bound in zip(figures, bounds, strict=True))
+    return isinstance(bounds, Refusal) or (not isinstance(figures, Refusal) and all(x <= bound for x, bound in zip(figures, bounds)))
 
 
 def compare_urgent(task):

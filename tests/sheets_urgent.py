@@ -3,6 +3,8 @@
 A search on them takes some thousand rounds at most, so that the page's own sequence is soon at its end.
 """
 
+import random
+
 from second_opinion import urgent_figure
 from sheet_records import BILLION
 from sheets_pnet import pnet_edition, pnet_holds, pnet_sheet
@@ -204,3 +206,18 @@ def wide():
         yield "three of T %d, V 48" % t, pnet_sheet(1, [(1, 1, 90_000, 90_000)] + [(1, 1, t, t)] * 3)
     for t in (47, 48, 49, 50):
         yield "T %d, V 48" % t, pnet_sheet(1, [(1, 1, 90_000, 90_000)] + [(1, 1, t, t)])
+
+
+def sheets(seed, count):
+    """Yield `count` pairs of a name and a sheet's bytes: the edges, then the families in turn."""
+    made = 0
+    for one in edges():
+        if made == count:
+            return
+        yield one
+        made += 1
+    rng = random.Random("urgent sheets %d" % seed)
+    while made < count:
+        family = FAMILIES[made % len(FAMILIES)]
+        yield "%s %d" % (family.__name__, made), family(rng)
+        made += 1
