@@ -208,6 +208,26 @@ def wide():
         yield "T %d, V 48" % t, pnet_sheet(1, [(1, 1, 90_000, 90_000)] + [(1, 1, t, t)])
 
 
+def longest():
+    """The sheets with the longest searches that were found, each with the sum of its figures and of its rounds, or with what it is refused with.
+
+    The page's own sequence gives the same, but has to divide some thousand million times for each.
+    """
+    masters = range(1, 11)
+
+    def of_each(*spacings):
+        return [(y, 1, t, t) for t in spacings for y in masters]
+
+    halves = of_each(*[480 * 2**k for k in range(1, 16)], *[BILLION] * 63)
+    yield "15 halves", pnet_sheet(10, halves), (327_155_702_400, 34_076_680)
+    closer = of_each(960, 1920, 3840, 7680, 15360, 30721, 61443, 122890, 245764, 491997, 983094, 1967365, 3956194, 15776160)
+    late = [(y, 1, 7_931_095, 7_874_730, 56_365) for y in masters]
+    yield "few slots at a time", pnet_sheet(10, closer + late + of_each(*[BILLION] * 65)), (334_298_409_600, 41_083_900)
+    one = [(1, 1, t, t) for t in [BILLION] * 77 + [49, 2_353, 9_737_785]]
+    yield "refused, one master", pnet_sheet(1, one), "refused 21 at stream 78\n"
+    yield "refused, ten masters", pnet_sheet(10, of_each(*[BILLION] * 78, 481, 235_115)), "refused 21 at stream 781\n"
+
+
 def sheets(seed, count):
     """Yield `count` pairs of a name and a sheet's bytes: the edges, then the families in turn."""
     made = 0
