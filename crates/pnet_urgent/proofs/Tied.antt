@@ -72,9 +72,6 @@ module _ {S : Segment} (d : Declared S) {ends keys spacings jitters : List ℕ} 
             omega (arith, ranked q (omega arith) .rank-is, ranked r h .rank-is, ap (λ (x : ℕ). rank S (suc x)) e);
       }
 
-  pub keys-small : (r : ℕ) → r < count S y → at keys (startOf S y + r) < 1024 * 1000000001
-  keys-small r l = omega (arith, deadline-is r l, in-range r l .deadline-to, in-range r l .spacing-to)
-
   pub ranged : (V' : ℕ) → V' ≡ turn S → Ranged keys spacings jitters (startOf S y) (count S y) V'
   ranged V' e =
       record {

@@ -8,6 +8,8 @@ ghost use lib.Dec.{eqb};
 ghost use lib.ListN.{length};
 ghost use Rattle.common.specs.Runs.{filled};
 ghost use Rattle.common.specs.Sums.{firstOf};
+ghost use Rattle.sheet_record.specs.Kinds.{pnet};
+ghost use Rattle.sheet_read.specs.Steps.{Ready};
 ghost use Rattle.pnet_turn.specs.Turn.{at};
 ghost use Rattle.pnet_plan.specs.Arrays.{segmentIn, Sheeted};
 ghost use Rattle.pnet_plan.specs.Planned.{planOf};
@@ -79,6 +81,119 @@ fn spread(
     }
 }
 
+// The search for one master's n streams, in slots and rounds.
+fn search(
+    keys: &[u64],
+    start: usize,
+    n: usize,
+    spacings: &[u32],
+    jitters: &[u32],
+    turn: u32,
+    slots: &mut [u32],
+    turns: &mut [u32],
+)
+    requires { ⌜ Keyed (now keys) start n (min (length (now spacings)) (length (now jitters))) × Ranged (now keys) (now spacings) (now jitters) start n turn ⌝ }
+    requires { ⌜ (n ≤ length (now slots)) × (n ≤ length (now turns)) ⌝ }
+    ensures { λ _. ⌜ Searched (now (keys .entry)) (now (spacings .entry)) (now (jitters .entry)) start n turn (now (slots .exit)) (now (turns .exit)) ⌝ }
+{
+    let mut ts = [0u32; OWN];
+    let mut js = [0u32; OWN];
+    let mut ds = [0u32; OWN];
+    gather(keys, start, n, spacings, jitters, &mut ts, &mut js, &mut ds);
+    pnet_urgent_search::search(turn, &ts[..n], &js[..n], &ds[..n], slots, turns);
+}
+
+// The figures of one master's n streams, the first key at `start`: each stream's place in order, x and rounds, to its place in the runs.
+fn serve(
+    keys: &[u64],
+    start: usize,
+    n: usize,
+    spacings: &[u32],
+    jitters: &[u32],
+    turn: u32,
+    places: &mut [u32],
+    figures: &mut [u32],
+    rounds: &mut [u32],
+)
+    requires { ⌜ Keyed (now keys) start n (min (length (now spacings)) (length (now jitters))) × Ranged (now keys) (now spacings) (now jitters) start n turn ⌝ }
+    requires { ⌜ Keyed (now keys) start n (min (length (now places)) (min (length (now figures)) (length (now rounds)))) ⌝ }
+    ensures { λ _. ⌜ Served (now (keys .entry)) (now (spacings .entry)) (now (jitters .entry)) start n turn (now (places .entry)) (now (figures .entry)) (now (rounds .entry)) (now (places .exit)) (now (figures .exit)) (now (rounds .exit)) ⌝ }
+{
+    let mut slots = [0u32; OWN];
+    let mut turns = [0u32; OWN];
+    search(
+        keys,
+        start,
+        n,
+        spacings,
+        jitters,
+        turn,
+        &mut slots,
+        &mut turns,
+    );
+    spread(
+        keys,
+        start,
+        n,
+        turn,
+        &slots,
+        &turns,
+        places,
+        figures,
+        rounds,
+    );
+}
+
+// The figures of all streams of a P-NET sheet of N masters and n streams, master by master; x is 0 where a stream is not accepted.
+fn solve(
+    s: &[u8],
+    all: usize,
+    first: usize,
+    n: usize,
+    counts: &[u8; 33],
+    turn: u32,
+    places: &mut [u32],
+    figures: &mut [u32],
+    rounds: &mut [u32],
+)
+    requires { ⌜ Ready (now s) pnet first n × (all ≡ Segment.Segment.masters (segmentIn (now s))) × ((y : ℕ) → y ≤ 32 → at (now counts) y ≡ Segment.count (segmentIn (now s)) y) ⌝ }
+    requires { ⌜ (turn ≡ Segment.turn (segmentIn (now s))) × (n ≤ length (now places)) × (n ≤ length (now figures)) × (n ≤ length (now rounds)) ⌝ }
+    ensures { λ _. ⌜ Solved (segmentIn (now (s .entry))) all (now (places .exit)) (now (figures .exit)) (now (rounds .exit)) ⌝ }
+{
+    let mut ends = [0u32; 33];
+    let mut keys = [0u64; MOST];
+    let mut spacings = [0u32; MOST];
+    let mut jitters = [0u32; MOST];
+    pnet_urgent_order::order(
+        s,
+        first,
+        n,
+        counts,
+        all,
+        &mut ends,
+        &mut keys,
+        &mut spacings,
+        &mut jitters,
+    );
+    let mut y: usize = 0;
+    while y < all {
+        y += 1;
+        let own = counts[y] as usize;
+        let start = ends[y] as usize - own;
+        serve(
+            &keys,
+            start,
+            own,
+            &spacings,
+            &jitters,
+            turn,
+            places,
+            figures,
+            rounds,
+        );
+    }
+}
+
 // The first of n streams whose x is 0, and n + 1 where there is none.
 fn first_unmet(figures: &[u32], n: usize) -> usize
     requires { ⌜ n ≤ length (now figures) ⌝ }
@@ -103,5 +218,101 @@ fn copy(from: &[u32], n: usize, to: &mut [u32])
     while i < n {
         to[i] = from[i];
         i += 1;
+    }
+}
+
+// The plan of a P-NET sheet of N masters and n streams, where the runs are long enough, unless 21 is given.
+fn plan_segment(
+    s: &[u8],
+    all: usize,
+    first: usize,
+    n: usize,
+    counts: &[u8; 33],
+    longests: &[u32; 33],
+    places: &mut [u32],
+    figure: &mut [u32],
+    rounds: &mut [u32],
+) -> Plan
+    requires { ⌜ Sheeted (now s) all n first (now counts) (now longests) ⌝ }
+    requires { ⌜ (n ≤ length (now places)) × (n ≤ length (now figure)) × (n ≤ length (now rounds)) ⌝ }
+    ensures { λ r.
+        let outcome = urgently (now (s .entry)) (min (length (now (places .entry))) (min (length (now (figure .entry))) (length (now (rounds .entry))))) in
+        ⌜ (r ≡ planOf outcome)
+        × (now (places .exit) ≡ streamRun outcome Urgent.place (now (places .entry)))
+        × (now (figure .exit) ≡ streamRun outcome Urgent.figure (now (figure .entry)))
+        × (now (rounds .exit) ≡ streamRun outcome Urgent.rounds (now (rounds .entry))) ⌝ }
+{
+    let mut ranks = [0u32; MOST];
+    let mut figures = [0u32; MOST];
+    let mut turns = [0u32; MOST];
+    let edition = sheet_read::edition(s);
+    let turn = pnet_turn::turn_of(counts, longests, all, edition).0;
+    solve(
+        s,
+        all,
+        first,
+        n,
+        counts,
+        turn,
+        &mut ranks,
+        &mut figures,
+        &mut turns,
+    );
+    let unmet = first_unmet(&figures, n);
+    if unmet <= n {
+        return Plan::Refused {
+            no: 21,
+            place: unmet,
+        };
+    }
+    copy(&ranks, n, places);
+    copy(&figures, n, figure);
+    copy(&turns, n, rounds);
+    Plan::Accepted {
+        masters: all,
+        streams: n,
+    }
+}
+
+// The plan of a sheet: the place in its master's order, x and rounds of streams 1..n into the first n places of the three runs, which keep what they had on a refusal.
+pub fn plan(s: &[u8], places: &mut [u32], figure: &mut [u32], rounds: &mut [u32]) -> Plan
+    ensures { λ r.
+        let outcome = urgently (now (s .entry)) (min (length (now (places .entry))) (min (length (now (figure .entry))) (length (now (rounds .entry))))) in
+        ⌜ (r ≡ planOf outcome)
+        × (now (places .exit) ≡ streamRun outcome Urgent.place (now (places .entry)))
+        × (now (figure .exit) ≡ streamRun outcome Urgent.figure (now (figure .entry)))
+        × (now (rounds .exit) ≡ streamRun outcome Urgent.rounds (now (rounds .entry))) ⌝ }
+{
+    let mut counts: [u8; 33] = [0; 33];
+    let mut longests: [u32; 33] = [0; 33];
+    let read = sheet_read::read_gathering(s, &mut counts, &mut longests);
+    match read {
+        Reading::Refused { no, place } => Plan::Refused { no, place },
+        Reading::Accepted {
+            head,
+            streams,
+            first,
+        } => {
+            if sheet_record::bus_of(head.kind) != 1 {
+                return Plan::Refused { no: 3, place: 0 };
+            }
+            if places.len() < streams || figure.len() < streams || rounds.len() < streams {
+                return Plan::Refused {
+                    no: 13,
+                    place: streams,
+                };
+            }
+            plan_segment(
+                s,
+                head.a as usize,
+                first,
+                streams,
+                &counts,
+                &longests,
+                places,
+                figure,
+                rounds,
+            )
+        }
     }
 }
