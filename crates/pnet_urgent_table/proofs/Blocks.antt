@@ -77,12 +77,12 @@ module _ {V' : ℕ} {Ts Js : List ℕ} {K : ℕ} (slow : Slow V' Ts Js K) (n : �
 
 -- ---- A block, cleared
 
-pub cleared-more : (table : List ℕ) (t : ℕ) → ((i : ℕ) → i < t → at table i ≡ 0) → t < length table → (i : ℕ) → i < t + 1 → at (set table t 0) i ≡ 0
-cleared-more table t done less i l = by (ℕ-discrete i t)
+pub cleared-more : (table : List ℕ) (t x : ℕ) → ((i : ℕ) → i < t → at table i ≡ 0) → t < length table → x ≡ 0 → (i : ℕ) → i < t + 1 → at (set table t x) i ≡ 0
+cleared-more table t x done less e i l = by (ℕ-discrete i t)
   where
-    by : Dec (i ≡ t) → at (set table t 0) i ≡ 0
-    by (yes e) = rw e (getD-set-same table t 0 0 less)
-    by (no e) = getD-set-other table t i 0 0 e ∙ done i (omega (arith, e))
+    by : Dec (i ≡ t) → at (set table t x) i ≡ 0
+    by (yes q) = rw q (getD-set-same table t x 0 less ∙ e)
+    by (no q) = getD-set-other table t i x 0 q ∙ done i (omega (arith, q))
 
 -- ---- A block, stream by stream
 
@@ -156,9 +156,9 @@ pub record Adding (base : ℕ) (old : List ℕ) (total t : ℕ) (table : List �
   pub done : (i : ℕ) → i < t → at table i ≡ base + sum (at old) (i + 1)
   pub ahead : (i : ℕ) → t ≤ i → at table i ≡ at old i
 
-pub adding-none : (base : ℕ) (old : List ℕ) → length old ≡ 512 → Adding base old base 0 old
+pub adding-none : (base total : ℕ) (old : List ℕ) → total ≡ base → length old ≡ 512 → Adding base old total 0 old
 unfolding sum
-adding-none base old long = record { inside = zero-le; total-is = omega arith; long = long; done = λ i l. absurd (omega arith); ahead = λ i h. refl }
+adding-none base total old e long = record { inside = zero-le; total-is = omega arith; long = long; done = λ i l. absurd (omega arith); ahead = λ i h. refl }
 
 module _ {base : ℕ} {old : List ℕ} {total t : ℕ} {table : List ℕ} (on : Adding base old total t table) where
   -- the total with the next place

@@ -1,7 +1,7 @@
 -- How often one stream asks in so many slots, and at which slot it asks once more. Pure numbers; g is `beyondOnce`. Assumes nothing.
 use mathlib.Core.Path.{_≡_, ap, _∙_}
 use Prim.Native.Nat.{ℕ, suc, _+_, _-_, _*_, _/_, _%_, _≤_, _<_}
-use native.Mathlib.Nat.{mul-comm, mul-le-mul-left, mul-le-mul-right, mul-add, mul-zero, suc-mul, div-add-mod, mod-lt, le-div-iff-mul-le}
+use native.Mathlib.Nat.{mul-comm, mul-le-mul-left, mul-le-mul-right, mul-add, mul-zero, suc-mul, div-add-mod, le-div-iff-mul-le}
 use native.Mathlib.Decide.{decLe}
 use native.Mathlib.Numerals.{add-one}
 use native.Mathlib.Omega.{arith}
@@ -44,10 +44,20 @@ module _ (V' T J : ℕ) where
 
 -- ---- From one release to the next, T later: from slot p with the rest e to slot q with the rest f
 
+-- T has a whole slot or more, and not too many
+pub slots-some : (V' T : ℕ) → 48 ≤ V' → V' < T → 1 ≤ T / V'
+slots-some V' T long slow = le-div-iff-mul-le {k = V'} (omega arith) .1 (omega arith)
+
+pub slots-few : (V' T : ℕ) → 48 ≤ V' → T ≤ 1000000000 → T / V' ≤ 20833333
+slots-few V' T long most =
+    let a : 48 * (T / V') ≤ V' * (T / V') = mul-le-mul-right (T / V') long in
+    omega (arith, div-add-mod T V')
+
 -- that many whole slots later, before a whole slot of the rest is carried
 pub later : (V' T p e : ℕ) → V' * (p + T / V') + (e + T % V') ≡ V' * p + e + T
 later V' T p e = omega (arith, mul-add V' p (T / V'), div-add-mod T V')
 
+-- and after
 pub carried : (V' p e x : ℕ) → V' ≤ e → V' * p + e ≡ x → V' * (p + 1) + (e - V') ≡ x
 carried V' p e x l h = omega (arith, mul-add V' p 1)
 
@@ -82,25 +92,19 @@ module _ (V' T p e q f : ℕ) (slow : V' < T) (step : V' * q + f ≡ V' * p + e 
 
 -- ---- The first release
 
--- a spacing has no more turns than that
-pub quotient : (V' x : ℕ) → 48 ≤ V' → x ≤ 1000000000 → x / V' ≤ 20833333
-quotient V' x long most =
-    let a : 48 * (x / V') ≤ V' * (x / V') = mul-le-mul-right (x / V') long in
-    omega (arith, div-add-mod x V')
-
 module _ (V' T J : ℕ) (less : J < T) where
   -- until T - J has passed it asks no more than once
   first-none : (n : ℕ) → V' * n ≤ T - J → beyondOnce V' T J n ≡ 0
   first-none n h = omega (arith, at-most V' T J (omega arith) n 0 (omega arith))
 
-  pub first : 48 ≤ V' → T ≤ 1000000000 → Asking V' T J 0 ((T - J) / V') ((T - J) % V')
-  first long most =
-      let d = div-add-mod (T - J) V' in
-      let z = first-none ((T - J) / V') (omega (arith, d)) in
+  pub first : 48 ≤ V' → T ≤ 1000000000 → (next rest : ℕ) → rest < V' → V' * next + rest + J ≡ T → Asking V' T J 0 next rest
+  first long most next rest small at-T =
+      let a : 48 * next ≤ V' * next = mul-le-mul-right next long in
+      let z = first-none next (omega arith) in
       record {
         from = omega arith;
-        to = omega (arith, quotient V' (T - J) long (omega arith));
-        rest-to = mod-lt (T - J) (omega arith);
-        asks = omega (arith, d, ap (λ (m : ℕ). (m + 1) * T) z);
+        to = omega arith;
+        rest-to = small;
+        asks = omega (arith, ap (λ (m : ℕ). (m + 1) * T) z);
         still = omega (arith, z, first-none 0 (omega (arith, mul-zero V')));
       }

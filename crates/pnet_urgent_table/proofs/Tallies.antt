@@ -9,7 +9,7 @@ use lib.Seq.{getD-set-same, getD-set-other}
 use Rattle.pnet_turn.specs.Turn.{at}
 use Rattle.pnet_urgent_table.specs.Table.{beyondOnce}
 use Rattle.pnet_urgent_table.specs.Tally.{Asking, Tallied}
-use Rattle.pnet_urgent_table.proofs.Releases.{level, quotient, further, between, asks-again}
+use Rattle.pnet_urgent_table.proofs.Releases.{level, slots-few, further, between, asks-again}
 
 -- with the jitter J: the stream is counted at each slot in front of `next`
 pub record Counting (V' T J a : ℕ) (old : List ℕ) (next rest : ℕ) (table : List ℕ) : Type 0 where
@@ -81,7 +81,7 @@ module _ {V' T a first first-rest next rest : ℕ} {old table : List ℕ} (on : 
   tallying-more long most near =
       record {
         from = omega (arith, on-to, on .from);
-        to = omega (arith, quotient V' T long most);
+        to = omega (arith, slots-few V' T long most);
         rest-to = small;
         long = length-set table (next - a) (at table (next - a) + 1) ∙ on .long;
         ahead = λ t h. other t (λ e. omega (arith, on-to, on .from)) ∙ on .ahead t (omega (arith, on-to));

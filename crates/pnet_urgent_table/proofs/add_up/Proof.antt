@@ -13,7 +13,7 @@ abbrev μ-loop : tie.MeasureT-loop
 μ-loop base table₀ total₀ t₀ table total t = 512 - t
 
 loop-holds : tie.Need-loop-holds Inv-loop μ-loop
-loop-holds c = adding-none (c .args .base) (c .args .table .now) (c .pre .0)
+loop-holds c = adding-none (c .args .base) _ (c .args .table .now) (omega arith) (c .pre .0)
 
 mul-total : tie.Need-mul-total Inv-loop μ-loop
 mul-total c = search needs

@@ -1,5 +1,5 @@
 -- `clear` meets its contract. The invariant: the first t places are cleared. Assumes nothing.
-use mathlib.Core.Path.{_≡_, _∙_}
+use mathlib.Core.Path.{_≡_}
 use Prim.Native.Nat.{ℕ, _-_, _≤_, _<_}
 use native.Mathlib.Omega.{arith}
 use borrow.Author.Needs.{needs}
@@ -34,7 +34,7 @@ loop-less c = search needs
 loop-again : tie.Need-loop-again Inv-loop μ-loop
 loop-again c =
     let l = c .before .loop in
-    (search needs, length-set (l .table) (l .t) 0 ∙ l .inv .1, cleared-more (l .table) (l .t) (l .inv .2) (omega arith))
+    (search needs, simp length-set (l .inv .1), cleared-more (l .table) (l .t) _ (l .inv .2) (omega arith) (omega arith))
 
 same-length : tie.Need-same-length Inv-loop μ-loop
 same-length c = search needs

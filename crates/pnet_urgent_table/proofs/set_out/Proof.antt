@@ -1,6 +1,7 @@
 -- `set_out` meets its contract. The invariant: the first j streams are set out. Assumes nothing.
-use mathlib.Core.Path.{_≡_, _∙_}
-use Prim.Native.Nat.{_-_, _/_, _%_, _≤_}
+use mathlib.Core.Path.{_≡_}
+use Prim.Native.Nat.{_-_, _≤_}
+use native.Mathlib.Nat.{div-add-mod, mod-lt}
 use native.Mathlib.Omega.{arith}
 use borrow.Author.Needs.{needs}
 use lib.ListN.{length, length-set}
@@ -70,10 +71,13 @@ loop-again c =
     let l = c .before .before .before .loop in
     let T' = at (s .args .spacings .now) (l .j) in
     let J' = at (s .args .jitters .now) (l .j) in
-    let x = (T' - J') / s .args .turn in
-    let y = (T' - J') % s .args .turn in
-    let asking = first (s .args .turn) T' J' (s .pre .0 .jitter-to (l .j) (omega arith)) (s .pre .0 .turn-from) (s .pre .0 .spacing-to (l .j) (omega arith)) in
-    (search needs, length-set (l .nexts) (l .j) x ∙ l .inv .1, length-set (l .rests) (l .j) y ∙ l .inv .2, due-more (l .inv .3) (omega arith) (omega arith) x y asking)
+    let V' = s .args .turn in
+    let asking = first V' T' J' (s .pre .0 .jitter-to (l .j) (omega arith)) (s .pre .0 .turn-from) (s .pre .0 .spacing-to (l .j) (omega arith)) in (
+      search needs,
+      simp length-set (l .inv .1),
+      simp length-set (l .inv .2),
+      due-more (l .inv .3) (omega arith) (omega arith) _ _ (asking _ _ (mod-lt _ (omega arith)) (omega (arith, div-add-mod (T' - J') V', s .pre .0 .jitter-to (l .j) (omega arith)))),
+    )
 
 same-length : tie.Need-same-length Inv-loop μ-loop
 same-length c = search needs

@@ -3,7 +3,7 @@ use Prim.Native.Nat.{_+_, _-_, _/_, _%_, _≤_, _<_}
 use native.Mathlib.Nat.{mod-lt}
 use native.Mathlib.Omega.{arith}
 use borrow.Author.Needs.{needs}
-use Rattle.pnet_urgent_table.proofs.Releases.{later, carried, further, quotient}
+use Rattle.pnet_urgent_table.proofs.Releases.{later, carried, slots-some, slots-few}
 use Rattle.pnet_urgent_table.proofs.Tallies.{Tallying, tallying-none, tallying-more, tallied-asking, tallied}
 use Rattle.pnet_urgent_table.proofs.tally.Statement.{statement}
 use Rattle.pnet_urgent_table.proofs.tally.Tie as tie
@@ -25,7 +25,10 @@ add-end c = search needs
 
 -- T in whole slots, and what is left
 few : (c : tie.Start Inv-loop μ-loop) → c .args .spacing / c .args .turn ≤ 20833333
-few c = quotient (c .args .turn) (c .args .spacing) (c .pre .0 .0) (c .pre .0 .3)
+few c = slots-few (c .args .turn) (c .args .spacing) (c .pre .0 .0) (c .pre .0 .3)
+
+some : (c : tie.Start Inv-loop μ-loop) → 1 ≤ c .args .spacing / c .args .turn
+some c = slots-some (c .args .turn) (c .args .spacing) (c .pre .0 .0) (c .pre .0 .2)
 
 part-small : (c : tie.Start Inv-loop μ-loop) → c .args .spacing % c .args .turn < c .args .turn
 part-small c = mod-lt (c .args .spacing) (omega arith)
@@ -75,24 +78,18 @@ loop-again c =
     let l = c .before .before .before .loop in
     let V' = s .args .turn in
     let T' = s .args .spacing in
-    tallying-more (l .inv) (s .pre .0 .2) (omega arith) (l .next + T' / V' + 1) (l .rest + T' % V' - V') (omega (arith, part-small s))
-    (carried V' (l .next + T' / V') (l .rest + T' % V') _ (omega arith) (later V' T' (l .next) (l .rest))) (s .pre .0 .0) (s .pre .0 .3) (omega arith)
+    let step = carried V' (l .next + T' / V') (l .rest + T' % V') _ (omega arith) (later V' T' (l .next) (l .rest)) in
+    tallying-more (l .inv) (s .pre .0 .2) (omega arith) _ _ (omega (arith, part-small s)) (omega (arith, step)) (s .pre .0 .0) (s .pre .0 .3) (omega arith)
 
 loop-less-2 : tie.Need-loop-less-2 Inv-loop μ-loop
-loop-less-2 c =
-    let s = c .before .before .before .before in
-    let l = c .before .before .before .loop in
-    let q = s .args .spacing / s .args .turn in
-    let r = s .args .spacing % s .args .turn in
-    omega (arith, further (s .args .turn) (s .args .spacing) (l .next) (l .rest) (l .next + q) (l .rest + r) (s .pre .0 .2) (later (s .args .turn) (s .args .spacing) (l .next) (l .rest)) (omega arith))
+loop-less-2 c = omega (arith, some (c .before .before .before .before))
 
 loop-again-2 : tie.Need-loop-again-2 Inv-loop μ-loop
 loop-again-2 c =
     let s = c .before .before .before .before in
     let l = c .before .before .before .loop in
-    let V' = s .args .turn in
-    let T' = s .args .spacing in
-    tallying-more (l .inv) (s .pre .0 .2) (omega arith) (l .next + T' / V') (l .rest + T' % V') (omega arith) (later V' T' (l .next) (l .rest)) (s .pre .0 .0) (s .pre .0 .3) (omega arith)
+    let step = later (s .args .turn) (s .args .spacing) (l .next) (l .rest) in
+    tallying-more (l .inv) (s .pre .0 .2) (omega arith) _ _ (omega arith) (omega (arith, step)) (s .pre .0 .0) (s .pre .0 .3) (omega arith)
 
 same-length : tie.Need-same-length Inv-loop μ-loop
 same-length c = search needs
