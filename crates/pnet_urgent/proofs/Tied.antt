@@ -35,7 +35,7 @@ pub record Listed (S : Segment) (spacings jitters : List ℕ) : Type 0 where
 module _ {S : Segment} (d : Declared S) {ends keys spacings jitters : List ℕ} (o : Ordered S (S .number) ends keys) (listed : Listed S spacings jitters)
     (y : ℕ) (lo : 1 ≤ y) (hi : y ≤ S .masters) where
   run : Run S y (startOf S y) keys
-  run = run-of d o y lo hi
+  run = run-of d refl o y lo hi
 
   -- the stream at a place of the master's order
   abbrev streamAt : ℕ → ℕ

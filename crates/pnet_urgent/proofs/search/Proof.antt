@@ -43,7 +43,7 @@ search-requires c κs =
     let p = c .before .before .before .before .before .before .before .before .before .before .before .before .before .before .before .before .before .pre in
     let g = c .before .before .before .before .before .before .before .before .gather in
     let few = p .0 .0 .few in
-    ((urgency (p .0 .1) (g .ensures) few (omega arith) (omega arith) (omega arith), front-fits _ _ _ (omega arith) (p .1 .0), front-fits _ _ _ (omega arith) (p .1 .1)), ?)
+    (urgency (p .0 .1) (g .ensures) few (omega arith) (omega arith) (omega arith), front-fits _ _ _ (omega arith) (p .1 .0), front-fits _ _ _ (omega arith) (p .1 .1))
 
 same-length : tie.Need-same-length
 same-length c = search needs
@@ -55,7 +55,7 @@ returns : tie.Need-returns
 returns c =
     let p = c .before .before .before .before .before .before .before .before .before .before .before .before .before .before .before .before .before .before .before .before .before .before .pre in
     let g = c .before .before .before .before .before .before .before .before .before .before .before .before .before .gather in
-    searched (p .0 .1) (g .ensures) (p .0 .0 .few) (omega arith) (omega arith) (omega arith) _ _ (c .before .before .before .before .search .ensures)
+    searched (p .0 .1) (g .ensures) (p .0 .0 .few) (omega arith) (omega arith) (omega arith) _ _ (c .before .before .before .before .search .ensures .0)
 
 pub search-spec : {M : Type 1} → statement M
 search-spec =

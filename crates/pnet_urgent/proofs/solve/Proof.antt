@@ -33,7 +33,7 @@ order-requires : tie.Need-order-requires Inv-loop μ-loop
 order-requires c κs =
     let p = c .before .before .before .before .before .before .before .before .pre in
     let few = streams-few (p .0 .0) in
-    ((p .0 .0, p .0 .1, p .0 .2), ((omega arith, omega arith, omega arith, omega arith), ?))
+    ((p .0 .0, p .0 .1, p .0 .2), (omega arith, omega arith, omega arith, omega arith))
 
 -- the streams are in order
 line : (c : tie.After-jitters2 Inv-loop μ-loop)
