@@ -9,8 +9,8 @@ use Rattle.sheet_read.specs.Whole.Outcome.{Read, Not}
 use Rattle.pnet_rules.specs.Segment.{Segment, segmentOf}
 use Rattle.pnet_plan.specs.Planned.{firstLate}
 use Rattle.pnet_bounds.specs.Bounded.{boundOf}
-use Rattle.pnet_urgent_streams.specs.declared.Listed.{Listed}
-use Rattle.pnet_urgent_streams.specs.declared.Listed.the-variants as answer
+use Rattle.pnet_urgent_streams.specs.declared.answer.Listed.{Listed}
+use Rattle.pnet_urgent_streams.specs.declared.answer.Listed.the-variants as answer
 
 -- D of stream i
 abbrev pub deadlineOf : Segment → ℕ → ℕ
