@@ -73,6 +73,16 @@ each-request-is-answered-within-its-figure sheet declared i from to accepted =
 
 -- ---- A whole sheet
 
+-- a master that keeps its spacing keeps it up to each of its streams
+pub spaced-up-to : (S : Segment) {k i : ℕ} {came : List Request} → Belongs S k i → Spaced S k came → SpacedUpTo S i came
+spaced-up-to S {i = i} own spaced j u a b =
+    spaced j
+    (record {
+      from-one = a;
+      to-last = b;
+      own = ⊎-elim (λ (e : j ≡ i). ap (λ (n : ℕ). S .stream n .master) e ∙ own .own) (λ (e : ahead S i j ≡ true). ahead-then S i j e .one-master ∙ own .own) u;
+    })
+
 -- Where every stream of the sheet is accepted and master k, which hands down the most urgent first, keeps its spacing, each of its requests is answered within its
 -- stream's figure, whatever the other masters do
 
@@ -81,21 +91,9 @@ pub all-requests-are-answered-within-their-figures : (sheet : Sheet) → Declare
     → (Urgent : ℕ → Type 0) (k : ℕ) → Urgent k → {t : ℕ} {y : Token} {q : ℕ → Held} {came : List Request} {went : List Answer}
     → RunBy (stacked (segmentOf sheet) Urgent) (segmentOf sheet) t y q came went → Spaced (segmentOf sheet) k came
     → (i : ℕ) → Belongs (segmentOf sheet) k i → AnsweredOf (bp (figure (segmentOf sheet) i)) i t y came went
-all-requests-are-answered-within-their-figures sheet declared accepted Urgent k urgent {came = came} run spaced i own =
+all-requests-are-answered-within-their-figures sheet declared accepted Urgent k urgent run spaced i own =
     each-request-is-answered-within-its-figure sheet declared i (own .from-one) (own .to-last) (accepted i (own .from-one) (own .to-last)) .ever (rw (own .own) urgent)
-    run kept
-  where
-    S : Segment
-    S = segmentOf sheet
-
-    kept : SpacedUpTo S i came
-    kept j u a b =
-        spaced j
-        (record {
-          from-one = a;
-          to-last = b;
-          own = ⊎-elim (λ (e : j ≡ i). ap (λ (n : ℕ). S .stream n .master) e ∙ own .own) (λ (e : ahead S i j ≡ true). ahead-then S i j e .one-master ∙ own .own) u;
-        })
+    run (spaced-up-to (segmentOf sheet) own spaced)
 
 -- ---- And so by its deadline
 

@@ -2,4 +2,6 @@ pub mod Kept
 pub mod Heeded
 pub mod Busy
 pub mod Figures
+pub mod Three
 pub mod Early
+pub mod Exact
