@@ -2,7 +2,7 @@
 -- stream 3's request meanwhile, stream 1 waits for both, 709 bp: so its figure, 500, is no promise there. By one that takes its next when the answer is complete, it
 -- waits for one: 459 bp. Assumes nothing.
 use Prim.Native.Nat.{ℕ, _+_, _≤_}
-use mathlib.Core.Path.{_≡_, refl}
+use mathlib.Core.Path.{refl}
 use mathlib.Core.List.{List, [], _∷_, List·Memᴰ·head, List·Memᴰ·not-nil}
 use native.Mathlib.Omega.{arith}
 use Rattle.units.specs.Units.{bp}
@@ -62,22 +62,22 @@ early-run =
     let from : RunBy (early three Everyone) three 0 (toward 1 0) (λ y. held [] []) [] [] = start {m = 1} {d = 0} (omega arith) (omega arith) (omega arith) in
     let asking : RunBy (early three Everyone) three 0 (toward 1 0) _ _ [] = arrive (arrive from on-way stream-2) on-way stream-3 in
     let second : RunBy (early three Everyone) three 0 (toward 1 0) _ _ [] =
-        move {m = 1} {left = held (request 2 0 ∷ []) (request 3 0 ∷ [])} asking on-way
-        (omega arith, record { handed = request 2 0; out = here; into = refl; picked = λ u. second-first }) in
+    move {m = 1} {left = held (request 2 0 ∷ []) (request 3 0 ∷ [])} asking on-way
+    (omega arith, record { handed = request 2 0; out = here; into = refl; picked = λ u. second-first }) in
     let at-1 : RunBy (early three Everyone) three 1 (serving 1 209) _ _ [] =
-        serve {m = 1} {r = request 2 0} {rest = held [] (request 3 0 ∷ [])} 1 7 203 second (record { sent = refl; others = refl })
-        (omega arith) (omega arith) (omega arith) (omega arith) (omega arith) refl in
+    serve {m = 1} {r = request 2 0} {rest = held [] (request 3 0 ∷ [])} 1 7 203 second (record { sent = refl; others = refl })
+    (omega arith) (omega arith) (omega arith) (omega arith) (omega arith) refl in
     let third : RunBy (early three Everyone) three 1 (serving 1 209) _ _ [] =
-        move {m = 1} {left = held (request 2 0 ∷ request 3 0 ∷ []) []} at-1 at-work
-        (omega arith, record { handed = request 3 0; out = here; into = refl; picked = λ u. alone (request 3 0) refl }) in
+    move {m = 1} {left = held (request 2 0 ∷ request 3 0 ∷ []) []} at-1 at-work
+    (omega arith, record { handed = request 3 0; out = here; into = refl; picked = λ u. alone (request 3 0) refl }) in
     let too-late : RunBy (early three Everyone) three 1 (serving 1 209) _ came [] = arrive third at-work stream-1 in
     let at-210 : RunBy (early three Everyone) three 210 (toward 1 40) _ came _ =
-        complete {rest = held (request 3 0 ∷ []) (request 1 1 ∷ [])} (work {c = 0} 209 too-late) (record { sent = refl; others = refl }) in
+    complete {rest = held (request 3 0 ∷ []) (request 1 1 ∷ [])} (work {c = 0} 209 too-late) (record { sent = refl; others = refl }) in
     let at-460 : RunBy (early three Everyone) three 460 (toward 1 40) _ came _ =
-        slowest {rest = held [] (request 1 1 ∷ [])} (travel {d = 0} 40 at-210) (record { sent = refl; others = refl }) (omega arith) in
+    slowest {rest = held [] (request 1 1 ∷ [])} (travel {d = 0} 40 at-210) (record { sent = refl; others = refl }) (omega arith) in
     let first : RunBy (early three Everyone) three 460 (toward 1 40) _ came _ =
-        move {m = 1} {left = held (request 1 1 ∷ []) []} at-460 on-way
-        (omega arith, record { handed = request 1 1; out = here; into = refl; picked = λ u. alone (request 1 1) refl }) in
+    move {m = 1} {left = held (request 1 1 ∷ []) []} at-460 on-way
+    (omega arith, record { handed = request 1 1; out = here; into = refl; picked = λ u. alone (request 1 1) refl }) in
     (_, slowest {rest = held [] []} (travel {d = 0} 40 first) (record { sent = refl; others = refl }) (omega arith))
 
 -- ---- The same arrivals by a stack that is free once its answer is complete
@@ -91,17 +91,17 @@ stacked-run =
     let from : RunBy (stacked three Everyone) three 0 (toward 1 0) (λ y. held [] []) [] [] = start {m = 1} {d = 0} (omega arith) (omega arith) (omega arith) in
     let asking : RunBy (stacked three Everyone) three 0 (toward 1 0) _ _ [] = arrive (arrive from on-way stream-2) on-way stream-3 in
     let second : RunBy (stacked three Everyone) three 0 (toward 1 0) _ _ [] =
-        move {m = 1} {left = held (request 2 0 ∷ []) (request 3 0 ∷ [])} asking on-way
-        (omega arith, record { handed = request 2 0; out = here; into = refl; picked = λ u. second-first }) in
+    move {m = 1} {left = held (request 2 0 ∷ []) (request 3 0 ∷ [])} asking on-way
+    (omega arith, record { handed = request 2 0; out = here; into = refl; picked = λ u. second-first }) in
     let at-1 : RunBy (stacked three Everyone) three 1 (serving 1 209) _ _ [] =
-        serve {m = 1} {r = request 2 0} {rest = held [] (request 3 0 ∷ [])} 1 7 203 second (record { sent = refl; others = refl })
-        (omega arith) (omega arith) (omega arith) (omega arith) (omega arith) refl in
+    serve {m = 1} {r = request 2 0} {rest = held [] (request 3 0 ∷ [])} 1 7 203 second (record { sent = refl; others = refl })
+    (omega arith) (omega arith) (omega arith) (omega arith) (omega arith) refl in
     let in-time : RunBy (stacked three Everyone) three 1 (serving 1 209) _ came [] = arrive at-1 at-work stream-1 in
     let at-210 : RunBy (stacked three Everyone) three 210 (toward 1 40) _ came _ =
-        complete {rest = held [] (request 3 0 ∷ request 1 1 ∷ [])} (work {c = 0} 209 in-time) (record { sent = refl; others = refl }) in
+    complete {rest = held [] (request 3 0 ∷ request 1 1 ∷ [])} (work {c = 0} 209 in-time) (record { sent = refl; others = refl }) in
     let first : RunBy (stacked three Everyone) three 210 (toward 1 40) _ came _ =
-        move {m = 1} {left = held (request 1 1 ∷ []) (request 3 0 ∷ [])} at-210 on-way
-        (omega arith, record { handed = request 1 1; out = further here; into = refl; picked = λ u. first-first }) in
+    move {m = 1} {left = held (request 1 1 ∷ []) (request 3 0 ∷ [])} at-210 on-way
+    (omega arith, record { handed = request 1 1; out = further here; into = refl; picked = λ u. first-first }) in
     (_, slowest {rest = held [] (request 3 0 ∷ [])} (travel {d = 0} 40 first) (record { sent = refl; others = refl }) (omega arith))
 
 -- ---- Every stream keeps its spacing: each asks once

@@ -10,14 +10,14 @@ use native.Mathlib.Omega.{arith}
 use Rattle.units.specs.declared.BitPeriods.{BitPeriods}
 use Rattle.units.specs.Units.{bp}
 use Rattle.pnet_rules.specs.Segment.{Segment, segmentOf}
-use Rattle.pnet_urgent_rules.specs.Urgent.{ahead, figure}
+use Rattle.pnet_urgent_rules.specs.Urgent.{ahead}
 use Rattle.pnet_run.specs.Run.{Belongs, Request, request, Answer, answer, put, toward, on-way, next, RunBy, start, arrive, move, travel}
 use Rattle.pnet_run.specs.Promise.{Kept, quiet, other, asks, Spaced}
 use Rattle.pnet_run.proofs.Few.{each}
 use Rattle.pnet_run.proofs.Slowest.{slowest}
 use Rattle.pnet_urgent_run.specs.Stack.{Held, held, here, further, MostUrgent, Everyone, stacked}
-use Rattle.pnet_urgent_run.specs.Promise.{SpacedUpTo, SafeFor, ReachedFor}
-use Rattle.pnet_urgent_run.proofs.Three.{three, figures-are, stream-1, stream-2, stream-3, most-none, most-and, alone}
+use Rattle.pnet_urgent_run.specs.Promise.{SafeFor, ReachedFor}
+use Rattle.pnet_urgent_run.proofs.Three.{three, stream-1, stream-2, stream-3, most-none, most-and, alone}
 use Rattle.pnet_urgent_run.proofs.Figures.{spaced-up-to}
 
 -- ---- Who is handed down
@@ -56,23 +56,23 @@ unfolding segmentOf ahead put next
 blocked-run =
     let from : By 0 40 (λ y. held [] []) [] [] = start {m = 1} {d = 40} (omega arith) (omega arith) (omega arith) in
     let third : By 0 40 _ _ [] =
-        move {m = 1} {left = held (request 3 0 ∷ []) []} (arrive from on-way stream-3) on-way
-        (omega arith, record { handed = request 3 0; out = here; into = refl; picked = λ u. alone (request 3 0) refl }) in
+    move {m = 1} {left = held (request 3 0 ∷ []) []} (arrive from on-way stream-3) on-way
+    (omega arith, record { handed = request 3 0; out = here; into = refl; picked = λ u. alone (request 3 0) refl }) in
     let at-250 : By 250 40 _ _ _ =
-        slowest {rest = held [] (request 1 0 ∷ request 2 0 ∷ [])} (travel {d = 0} 40 (arrive (arrive third on-way stream-1) on-way stream-2))
-        (record { sent = refl; others = refl }) (omega arith) in
+    slowest {rest = held [] (request 1 0 ∷ request 2 0 ∷ [])} (travel {d = 0} 40 (arrive (arrive third on-way stream-1) on-way stream-2))
+    (record { sent = refl; others = refl }) (omega arith) in
     let first : By 250 40 _ _ _ =
-        move {m = 1} {left = held (request 1 0 ∷ []) (request 2 0 ∷ [])} at-250 on-way
-        (omega arith, record { handed = request 1 0; out = here; into = refl; picked = λ u. first-of-two }) in
+    move {m = 1} {left = held (request 1 0 ∷ []) (request 2 0 ∷ [])} at-250 on-way
+    (omega arith, record { handed = request 1 0; out = here; into = refl; picked = λ u. first-of-two }) in
     let at-500 : By 500 40 _ _ _ = slowest {rest = held [] (request 2 0 ∷ [])} (travel {d = 0} 40 first) (record { sent = refl; others = refl }) (omega arith) in
     let first-again : By 500 40 _ blocked-came _ =
-        move {m = 1} {left = held (request 1 500 ∷ []) (request 2 0 ∷ [])} (arrive at-500 on-way stream-1) on-way
-        (omega arith, record { handed = request 1 500; out = further here; into = refl; picked = λ u. again 2 refl }) in
+    move {m = 1} {left = held (request 1 500 ∷ []) (request 2 0 ∷ [])} (arrive at-500 on-way stream-1) on-way
+    (omega arith, record { handed = request 1 500; out = further here; into = refl; picked = λ u. again 2 refl }) in
     let at-750 : By 750 40 _ blocked-came _ =
-        slowest {rest = held [] (request 2 0 ∷ [])} (travel {d = 0} 40 first-again) (record { sent = refl; others = refl }) (omega arith) in
+    slowest {rest = held [] (request 2 0 ∷ [])} (travel {d = 0} 40 first-again) (record { sent = refl; others = refl }) (omega arith) in
     let second : By 750 40 _ blocked-came _ =
-        move {m = 1} {left = held (request 2 0 ∷ []) []} at-750 on-way
-        (omega arith, record { handed = request 2 0; out = here; into = refl; picked = λ u. alone (request 2 0) refl }) in
+    move {m = 1} {left = held (request 2 0 ∷ []) []} at-750 on-way
+    (omega arith, record { handed = request 2 0; out = here; into = refl; picked = λ u. alone (request 2 0) refl }) in
     (_, slowest {rest = held [] []} (travel {d = 0} 40 second) (record { sent = refl; others = refl }) (omega arith))
 
 -- ---- Stream 3 waits behind all others
@@ -88,22 +88,22 @@ unfolding segmentOf ahead put next
 last-run =
     let from : By 0 40 (λ y. held [] []) [] [] = start {m = 1} {d = 40} (omega arith) (omega arith) (omega arith) in
     let first : By 0 40 _ _ [] =
-        move {m = 1} {left = held (request 1 0 ∷ []) (request 2 0 ∷ request 3 0 ∷ [])} (arrive (arrive (arrive from on-way stream-1) on-way stream-2) on-way stream-3) on-way
-        (omega arith, record { handed = request 1 0; out = here; into = refl; picked = λ u. first-of-three }) in
+    move {m = 1} {left = held (request 1 0 ∷ []) (request 2 0 ∷ request 3 0 ∷ [])} (arrive (arrive (arrive from on-way stream-1) on-way stream-2) on-way stream-3) on-way
+    (omega arith, record { handed = request 1 0; out = here; into = refl; picked = λ u. first-of-three }) in
     let at-250 : By 250 40 _ _ _ =
-        slowest {rest = held [] (request 2 0 ∷ request 3 0 ∷ [])} (travel {d = 0} 40 first) (record { sent = refl; others = refl }) (omega arith) in
+    slowest {rest = held [] (request 2 0 ∷ request 3 0 ∷ [])} (travel {d = 0} 40 first) (record { sent = refl; others = refl }) (omega arith) in
     let second : By 250 40 _ _ _ =
-        move {m = 1} {left = held (request 2 0 ∷ []) (request 3 0 ∷ [])} at-250 on-way
-        (omega arith, record { handed = request 2 0; out = here; into = refl; picked = λ u. second-of-two }) in
+    move {m = 1} {left = held (request 2 0 ∷ []) (request 3 0 ∷ [])} at-250 on-way
+    (omega arith, record { handed = request 2 0; out = here; into = refl; picked = λ u. second-of-two }) in
     let at-500 : By 500 40 _ _ _ = slowest {rest = held [] (request 3 0 ∷ [])} (travel {d = 0} 40 second) (record { sent = refl; others = refl }) (omega arith) in
     let first-again : By 500 40 _ last-came _ =
-        move {m = 1} {left = held (request 1 500 ∷ []) (request 3 0 ∷ [])} (arrive at-500 on-way stream-1) on-way
-        (omega arith, record { handed = request 1 500; out = further here; into = refl; picked = λ u. again 3 refl }) in
+    move {m = 1} {left = held (request 1 500 ∷ []) (request 3 0 ∷ [])} (arrive at-500 on-way stream-1) on-way
+    (omega arith, record { handed = request 1 500; out = further here; into = refl; picked = λ u. again 3 refl }) in
     let at-750 : By 750 40 _ last-came _ =
-        slowest {rest = held [] (request 3 0 ∷ [])} (travel {d = 0} 40 first-again) (record { sent = refl; others = refl }) (omega arith) in
+    slowest {rest = held [] (request 3 0 ∷ [])} (travel {d = 0} 40 first-again) (record { sent = refl; others = refl }) (omega arith) in
     let third : By 750 40 _ last-came _ =
-        move {m = 1} {left = held (request 3 0 ∷ []) []} at-750 on-way
-        (omega arith, record { handed = request 3 0; out = here; into = refl; picked = λ u. alone (request 3 0) refl }) in
+    move {m = 1} {left = held (request 3 0 ∷ []) []} at-750 on-way
+    (omega arith, record { handed = request 3 0; out = here; into = refl; picked = λ u. alone (request 3 0) refl }) in
     (_, slowest {rest = held [] []} (travel {d = 0} 40 third) (record { sent = refl; others = refl }) (omega arith))
 
 -- ---- Every stream keeps its spacing

@@ -14,7 +14,7 @@ use Rattle.pnet_rules.specs.Segment.{Segment, streamOf, segmentOf, bound, late}
 use Rattle.pnet_rules.specs.Limits.{Ranged, Declared}
 use Rattle.pnet_rules.proofs.Declares.{stream-ranged}
 use Rattle.pnet_urgent_rules.specs.Urgent.{ahead, figure, unmet}
-use Rattle.pnet_run.specs.Run.{Belongs, Request, request}
+use Rattle.pnet_run.specs.Run.{Belongs, Request}
 use Rattle.pnet_run.proofs.Few.{each, limits, declared-if-few}
 use Rattle.pnet_urgent_run.specs.Stack.{MostUrgent}
 use Rattle.pnet_urgent_run.specs.Promise.{SafeFor}
