@@ -8,101 +8,74 @@ use native.Mathlib.Omega.{arith}
 use Rattle.units.specs.Units.{bp}
 use Rattle.pnet_rules.specs.Segment.{segmentOf}
 use Rattle.pnet_urgent_rules.specs.Urgent.{ahead, figure}
-use Rattle.pnet_run.specs.Run.{
-  Request,
-  request,
-  Answer,
-  answer,
-  put,
-  Token,
-  toward,
-  serving,
-  on-way,
-  at-work,
-  next,
-  RunBy,
-  start,
-  complete,
-  arrive,
-  move,
-  travel,
-  work,
-  serve,
-}
+use Rattle.pnet_run.specs.Run.{Request, request, Answer, answer, put, Token, toward, serving, on-way, at-work, next, RunBy, complete, arrive, work, serve}
 use Rattle.pnet_run.specs.Promise.{Kept, quiet, other, asks, Spaced}
 use Rattle.pnet_run.proofs.Few.{each}
-use Rattle.pnet_run.proofs.Slowest.{slowest}
-use Rattle.pnet_urgent_run.specs.Stack.{Held, held, here, further, MostUrgent, Everyone, besides, stacked, early}
+use Rattle.pnet_urgent_run.specs.Stack.{Held, held, here, further, MostUrgent, Sends, besides, one, early, Everyone}
 use Rattle.pnet_urgent_run.specs.Promise.{AnsweredOf}
 use Rattle.pnet_urgent_run.proofs.Three.{three, figures-are, stream-1, stream-2, stream-3, most-none, most-and, alone}
+use Rattle.pnet_urgent_run.proofs.Steps.{By, starts, down, lap, served}
 
 -- ---- Who is most urgent
 
 -- stream 2 before stream 3, by sheet order; stream 1 before stream 3, by D
 second-first : MostUrgent three (request 2 0) (request 2 0 ∷ request 3 0 ∷ [])
 unfolding segmentOf ahead
-second-first = most-and (request 2 0) refl (most-and (request 2 0) refl (most-none (request 2 0)))
+second-first = most-and three (request 2 0) refl (most-and three (request 2 0) refl (most-none three (request 2 0)))
 
 first-first : MostUrgent three (request 1 1) (request 3 0 ∷ request 1 1 ∷ [])
 unfolding segmentOf ahead
-first-first = most-and (request 1 1) refl (most-and (request 1 1) refl (most-none (request 1 1)))
+first-first = most-and three (request 1 1) refl (most-and three (request 1 1) refl (most-none three (request 1 1)))
 
--- ---- A stack that takes the next request while one is under way
+-- ---- Stream 2's request is under way at 1
 
 abbrev pub came : List Request
 came = request 1 1 ∷ request 3 0 ∷ request 2 0 ∷ []
 
--- the token is at the master at 0; every reaction is 7 bp, every message 203
+-- both have come, and stream 2's was handed down
+abbrev kept-at-1 : ℕ → Held
+kept-at-1 =
+    put (put (put (λ y. held [] []) 1 (held [] (request 2 0 ∷ []))) 1 (held [] (request 2 0 ∷ request 3 0 ∷ []))) 1 (held (request 2 0 ∷ []) (request 3 0 ∷ []))
+
+-- the token is at the master at 0
+under-way : (size : ℕ → Token → ℕ) → 1 ≤ size 1 (toward 1 0) → By size 500 0 1 (serving 1 209) kept-at-1 (request 3 0 ∷ request 2 0 ∷ []) []
+unfolding segmentOf put
+under-way size fits =
+    let asking : By size 500 0 0 (toward 1 0) _ _ [] = arrive (arrive (starts size 500 0 {d = 0} (omega arith)) on-way (stream-2 500 0)) on-way (stream-3 500 0) in
+    let second : By size 500 0 0 (toward 1 0) kept-at-1 _ [] = down size 500 0 [] (request 2 0) (request 3 0 ∷ []) asking on-way fits refl here second-first in
+    let sent : Sends (kept-at-1 1) (request 2 0) (held [] (request 3 0 ∷ [])) = record { sent = refl; others = refl } in
+    serve {c = 209} 1 7 203 second sent (omega arith) (omega arith) (omega arith) (omega arith) (omega arith) (omega arith)
+
+-- ---- A stack that takes the next request while one is under way
+
 abbrev pub went-early : List Answer
 went-early = answer (request 1 1) 710 ∷ answer (request 3 0) 460 ∷ answer (request 2 0) 210 ∷ []
 
-early-run : (q : ℕ → Held) × RunBy (early three Everyone) three 710 (toward 1 40) q came went-early
-unfolding segmentOf ahead put next besides
+early-run : (q : ℕ → Held) × By besides 500 0 710 (toward 1 40) q came went-early
+unfolding segmentOf put next besides
 early-run =
-    let from : RunBy (early three Everyone) three 0 (toward 1 0) (λ y. held [] []) [] [] = start {m = 1} {d = 0} (omega arith) (omega arith) (omega arith) in
-    let asking : RunBy (early three Everyone) three 0 (toward 1 0) _ _ [] = arrive (arrive from on-way stream-2) on-way stream-3 in
-    let second : RunBy (early three Everyone) three 0 (toward 1 0) _ _ [] =
-    move {m = 1} {left = held (request 2 0 ∷ []) (request 3 0 ∷ [])} asking on-way
-    (omega arith, record { handed = request 2 0; out = here; into = refl; picked = λ u. second-first }) in
-    let at-1 : RunBy (early three Everyone) three 1 (serving 1 209) _ _ [] =
-    serve {m = 1} {r = request 2 0} {rest = held [] (request 3 0 ∷ [])} 1 7 203 second (record { sent = refl; others = refl })
-    (omega arith) (omega arith) (omega arith) (omega arith) (omega arith) refl in
-    let third : RunBy (early three Everyone) three 1 (serving 1 209) _ _ [] =
-    move {m = 1} {left = held (request 2 0 ∷ request 3 0 ∷ []) []} at-1 at-work
-    (omega arith, record { handed = request 3 0; out = here; into = refl; picked = λ u. alone (request 3 0) refl }) in
-    let too-late : RunBy (early three Everyone) three 1 (serving 1 209) _ came [] = arrive third at-work stream-1 in
-    let at-210 : RunBy (early three Everyone) three 210 (toward 1 40) _ came _ =
-    complete {rest = held (request 3 0 ∷ []) (request 1 1 ∷ [])} (work {c = 0} 209 too-late) (record { sent = refl; others = refl }) in
-    let at-460 : RunBy (early three Everyone) three 460 (toward 1 40) _ came _ =
-    slowest {rest = held [] (request 1 1 ∷ [])} (travel {d = 0} 40 at-210) (record { sent = refl; others = refl }) (omega arith) in
-    let first : RunBy (early three Everyone) three 460 (toward 1 40) _ came _ =
-    move {m = 1} {left = held (request 1 1 ∷ []) []} at-460 on-way
-    (omega arith, record { handed = request 1 1; out = here; into = refl; picked = λ u. alone (request 1 1) refl }) in
-    (_, slowest {rest = held [] []} (travel {d = 0} 40 first) (record { sent = refl; others = refl }) (omega arith))
+    let at-1 : By besides 500 0 1 (serving 1 209) kept-at-1 _ [] = under-way besides (omega arith) in
+    let third : By besides 500 0 1 (serving 1 209) _ _ [] =
+    down besides 500 0 (request 2 0 ∷ []) (request 3 0) [] at-1 at-work (omega arith) refl here (alone three (request 3 0)) in
+    let too-late : By besides 500 0 1 (serving 1 209) _ came [] = arrive third at-work (stream-1 500 0) in
+    let sent : Sends (held (request 2 0 ∷ request 3 0 ∷ []) (request 1 1 ∷ [])) (request 2 0) (held (request 3 0 ∷ []) (request 1 1 ∷ [])) = record { sent = refl; others = refl } in
+    let at-210 : By besides 500 0 210 (toward 1 40) _ came _ = complete (work {c = 0} 209 too-late) sent in
+    let at-460 : By besides 500 0 460 (toward 1 40) _ came _ = lap besides 500 0 (request 3 0) [] (request 1 1 ∷ []) at-210 refl refl in
+    (_, served besides 500 0 (request 1 1) [] at-460 (omega arith) refl here (alone three (request 1 1)) refl)
 
 -- ---- The same arrivals by a stack that is free once its answer is complete
 
 abbrev pub went-stacked : List Answer
 went-stacked = answer (request 1 1) 460 ∷ answer (request 2 0) 210 ∷ []
 
-pub stacked-run : (q : ℕ → Held) × RunBy (stacked three Everyone) three 460 (toward 1 40) q came went-stacked
-unfolding segmentOf ahead put next
+pub stacked-run : (q : ℕ → Held) × By one 500 0 460 (toward 1 40) q came went-stacked
+unfolding segmentOf put next
 stacked-run =
-    let from : RunBy (stacked three Everyone) three 0 (toward 1 0) (λ y. held [] []) [] [] = start {m = 1} {d = 0} (omega arith) (omega arith) (omega arith) in
-    let asking : RunBy (stacked three Everyone) three 0 (toward 1 0) _ _ [] = arrive (arrive from on-way stream-2) on-way stream-3 in
-    let second : RunBy (stacked three Everyone) three 0 (toward 1 0) _ _ [] =
-    move {m = 1} {left = held (request 2 0 ∷ []) (request 3 0 ∷ [])} asking on-way
-    (omega arith, record { handed = request 2 0; out = here; into = refl; picked = λ u. second-first }) in
-    let at-1 : RunBy (stacked three Everyone) three 1 (serving 1 209) _ _ [] =
-    serve {m = 1} {r = request 2 0} {rest = held [] (request 3 0 ∷ [])} 1 7 203 second (record { sent = refl; others = refl })
-    (omega arith) (omega arith) (omega arith) (omega arith) (omega arith) refl in
-    let in-time : RunBy (stacked three Everyone) three 1 (serving 1 209) _ came [] = arrive at-1 at-work stream-1 in
-    let at-210 : RunBy (stacked three Everyone) three 210 (toward 1 40) _ came _ =
-    complete {rest = held [] (request 3 0 ∷ request 1 1 ∷ [])} (work {c = 0} 209 in-time) (record { sent = refl; others = refl }) in
-    let first : RunBy (stacked three Everyone) three 210 (toward 1 40) _ came _ =
-    move {m = 1} {left = held (request 1 1 ∷ []) (request 3 0 ∷ [])} at-210 on-way
-    (omega arith, record { handed = request 1 1; out = further here; into = refl; picked = λ u. first-first }) in
-    (_, slowest {rest = held [] (request 3 0 ∷ [])} (travel {d = 0} 40 first) (record { sent = refl; others = refl }) (omega arith))
+    let at-1 : By one 500 0 1 (serving 1 209) kept-at-1 _ [] = under-way one (omega arith) in
+    let asked : By one 500 0 1 (serving 1 209) _ came [] = arrive at-1 at-work (stream-1 500 0) in
+    let sent : Sends (held (request 2 0 ∷ []) (request 3 0 ∷ request 1 1 ∷ [])) (request 2 0) (held [] (request 3 0 ∷ request 1 1 ∷ [])) = record { sent = refl; others = refl } in
+    let at-210 : By one 500 0 210 (toward 1 40) _ came _ = complete (work {c = 0} 209 asked) sent in
+    (_, served one 500 0 (request 1 1) (request 3 0 ∷ []) at-210 (omega arith) refl (further here) first-first refl)
 
 -- ---- Every stream keeps its spacing: each asks once
 

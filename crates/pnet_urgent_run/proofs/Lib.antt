@@ -4,5 +4,7 @@ pub mod Busy
 pub mod Figures
 pub mod Progress
 pub mod Three
+pub mod Steps
 pub mod Early
+pub mod Laps
 pub mod Exact
