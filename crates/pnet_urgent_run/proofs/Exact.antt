@@ -15,7 +15,7 @@ use Rattle.pnet_run.proofs.Few.{each}
 use Rattle.pnet_urgent_run.specs.Stack.{Everyone}
 use Rattle.pnet_urgent_run.specs.Promise.{SafeFor, ReachedFor}
 use Rattle.pnet_urgent_run.proofs.Three.{three}
-use Rattle.pnet_urgent_run.proofs.Laps.{blocked-came, blocked-went, blocked-run, last-came, last-went, last-run}
+use Rattle.pnet_urgent_run.proofs.Laps.{blocked-came, blocked-went, blocked-run, last-came, last-went, last-run, second-keeps, third-keeps}
 use Rattle.pnet_urgent_run.proofs.Figures.{spaced-up-to}
 
 -- ---- Every stream keeps its spacing
@@ -52,8 +52,8 @@ blocked-spaced k i b =
 pub last-spaced : (k : ℕ) → Spaced three k last-came
 unfolding segmentOf
 last-spaced k i b =
-    each (λ n. (due : List ℕ) × Kept (three .stream n .spacing) (three .stream n .jitter) n last-came due) (500 ∷ 0 ∷ [], first) (0 ∷ [], second) (0 ∷ [], third) i (b .from-one)
-    (b .to-last)
+    each (λ n. (due : List ℕ) × Kept (three .stream n .spacing) (three .stream n .jitter) n last-came due) (500 ∷ 0 ∷ [], first) (0 ∷ [], second-keeps) (0 ∷ [], third-keeps) i
+    (b .from-one) (b .to-last)
   where
     first : Kept 500 0 1 last-came (500 ∷ 0 ∷ [])
     first =
@@ -61,18 +61,6 @@ last-spaced k i b =
         (other {r = request 3 0} (λ e. omega arith)
         (other {r = request 2 0} (λ e. omega arith)
         (asks {r = request 1 0} 0 refl (omega arith) (omega arith) (λ v j. absurd (List·Memᴰ·not-nil j)) quiet)))
-
-    second : Kept 100000 0 2 last-came (0 ∷ [])
-    second =
-        other {r = request 1 500} (λ e. omega arith)
-        (other {r = request 3 0} (λ e. omega arith)
-        (asks {r = request 2 0} 0 refl (omega arith) (omega arith) (λ v j. absurd (List·Memᴰ·not-nil j)) (other {r = request 1 0} (λ e. omega arith) quiet)))
-
-    third : Kept 100000 0 3 last-came (0 ∷ [])
-    third =
-        other {r = request 1 500} (λ e. omega arith)
-        (asks {r = request 3 0} 0 refl (omega arith) (omega arith) (λ v j. absurd (List·Memᴰ·not-nil j))
-        (other {r = request 2 0} (λ e. omega arith) (other {r = request 1 0} (λ e. omega arith) quiet)))
 
 -- ---- Each figure is taken
 

@@ -4,11 +4,12 @@
 use Prim.Native.Nat.{ℕ, _+_}
 use mathlib.Core.Path.{_≡_, refl}
 use mathlib.Core.Bool.{false}
-use mathlib.Core.List.{List, [], _∷_}
+use mathlib.Core.List.{List, [], _∷_, List·Memᴰ·not-nil}
 use native.Mathlib.Omega.{arith}
 use Rattle.pnet_rules.specs.Segment.{Segment, segmentOf}
 use Rattle.pnet_urgent_rules.specs.Urgent.{ahead}
 use Rattle.pnet_run.specs.Run.{Request, request, Answer, answer, put, toward, on-way, RunBy, arrive}
+use Rattle.pnet_run.specs.Promise.{Kept, quiet, other, asks}
 use Rattle.pnet_urgent_run.specs.Stack.{Held, held, Taken, here, further, MostUrgent, Everyone, one, stacked}
 use Rattle.pnet_urgent_run.proofs.Three.{threeOf, stream-1, stream-2, stream-3, most-none, most-and, alone}
 use Rattle.pnet_urgent_run.proofs.Steps.{starts, down, lap, served}
@@ -86,3 +87,18 @@ module _ (T J : ℕ) where
       let once-more : By 500 _ last-came _ = arrive at-500 on-way (stream-1 T J) in
       let at-750 : By 750 _ last-came _ = goes (request 1 500) (request 3 0 ∷ []) once-more refl (further here) (again 3 refl) refl in
       (_, goes (request 3 0) [] at-750 refl here (alone S (request 3 0)) refl)
+
+-- ---- The spacing of what asks once
+
+-- in the second run streams 2 and 3 keep their spacing, since they ask once
+pub second-keeps : Kept 100000 0 2 last-came (0 ∷ [])
+second-keeps =
+    other {r = request 1 500} (λ e. omega arith)
+    (other {r = request 3 0} (λ e. omega arith)
+    (asks {r = request 2 0} 0 refl (omega arith) (omega arith) (λ v j. absurd (List·Memᴰ·not-nil j)) (other {r = request 1 0} (λ e. omega arith) quiet)))
+
+pub third-keeps : Kept 100000 0 3 last-came (0 ∷ [])
+third-keeps =
+    other {r = request 1 500} (λ e. omega arith)
+    (asks {r = request 3 0} 0 refl (omega arith) (omega arith) (λ v j. absurd (List·Memᴰ·not-nil j))
+    (other {r = request 2 0} (λ e. omega arith) (other {r = request 1 0} (λ e. omega arith) quiet)))

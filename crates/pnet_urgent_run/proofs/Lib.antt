@@ -8,3 +8,4 @@ pub mod Steps
 pub mod Early
 pub mod Laps
 pub mod Exact
+pub mod Needs
