@@ -3,6 +3,7 @@ pub mod Heeded
 pub mod Busy
 pub mod Figures
 pub mod Progress
+pub mod Oldest
 pub mod Three
 pub mod Steps
 pub mod Early

@@ -75,7 +75,7 @@ pick S r (s ∷ l) = better (pick S s l)
 
 -- ---- A master that serves has a request in its stack
 
-abbrev Full : Token → (ℕ → Held) → Type 0
+abbrev pub Full : Token → (ℕ → Held) → Type 0
 Full (toward m d) q = Unit {0}
 Full (serving m c) q = 1 ≤ length (q m .stack)
 
@@ -85,7 +85,7 @@ still-full (serving m c) q o l more f =
     put-relates (λ z a b. 1 ≤ length (a .stack) → 1 ≤ length (b .stack)) q o l (λ s. omega arith) (λ z a s. s) m f
 
 module _ (S : Segment) (U : ℕ → Type 0) where
-  full : {t : ℕ} {y : Token} {q : ℕ → Held} {came : List Request} {went : List Answer} → RunBy (stacked S U) S t y q came went → Full y q
+  pub full : {t : ℕ} {y : Token} {q : ℕ → Held} {came : List Request} {went : List Answer} → RunBy (stacked S U) S t y q came went → Full y q
   full (start a b c) = tt
   full (complete z p) = tt
   full (arrive {m = m} {y = y} {q = q} z o d) = still-full y q m _ (omega arith) (full z)
