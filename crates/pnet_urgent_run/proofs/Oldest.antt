@@ -13,10 +13,8 @@ use Rattle.pnet_run.specs.Run.{
   Answer,
   Queues,
   put,
-  join,
   Token,
   toward,
-  serving,
   on-way,
   RunBy,
   Run,
@@ -30,7 +28,7 @@ use Rattle.pnet_run.specs.Run.{
   skip,
 }
 use Rattle.pnet_run.proofs.Keeping.{put-same, put-other}
-use Rattle.pnet_urgent_run.specs.Stack.{Held, held, here, Sends, Nothing, stacked}
+use Rattle.pnet_urgent_run.specs.Stack.{Held, held, here, Sends, stacked}
 use Rattle.pnet_urgent_run.proofs.Kept.{one-in-stack}
 use Rattle.pnet_urgent_run.proofs.Progress.{full}
 
