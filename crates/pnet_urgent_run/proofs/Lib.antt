@@ -10,3 +10,4 @@ pub mod Early
 pub mod Laps
 pub mod Exact
 pub mod Needs
+pub mod Turns
