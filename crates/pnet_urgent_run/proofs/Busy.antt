@@ -12,7 +12,7 @@
 use Prim.Native.Nat.{ℕ, suc, _+_, _*_, _≤_, _<_}
 use mathlib.Core.Path.{_≡_, refl, sym, ap, _∙_}
 use mathlib.Core.Bool.{Bool, true, false, _&&_, false≢true}
-use mathlib.Core.Logic.{_≢_, _⊎_, inl, inr, ⊎-elim}
+use mathlib.Core.Logic.{inl, inr, ⊎-elim}
 use mathlib.Core.List.{List, [], _∷_, _++_, List·Memᴰ, List·Memᴰ·head}
 use native.Mathlib.Nat.{mul-le-mul-right}
 use native.Mathlib.Decide.{ℕ-discrete, decLe}
@@ -24,7 +24,7 @@ use Rattle.common.specs.Sums.{when}
 use Rattle.common.proofs.Sums.{upto-term}
 use Rattle.pnet_rules.specs.Segment.{Segment, turnBy}
 use Rattle.pnet_rules.specs.Limits.{Declared}
-use Rattle.pnet_urgent_rules.specs.Urgent.{ahead, blocked, aheadIn}
+use Rattle.pnet_urgent_rules.specs.Urgent.{blocked, aheadIn}
 use Rattle.pnet_run.specs.Run.{
   Belongs,
   Request,
@@ -48,16 +48,15 @@ use Rattle.pnet_run.specs.Run.{
 }
 use Rattle.pnet_run.proofs.Charges.{Covers, free, in-ring}
 use Rattle.pnet_run.proofs.Keeping.{put-same, put-other, came-past, owned-by, sent-kept}
-use Rattle.pnet_run.proofs.Ring.{gap-own, gap-next, gap-lap}
-use Rattle.pnet_run.proofs.Spacing.{InOrder, kept-before, came-in-order}
+use Rattle.pnet_run.proofs.Ring.{gap-next, gap-lap}
+use Rattle.pnet_run.proofs.Spacing.{kept-before, came-in-order}
 use Rattle.pnet_run.proofs.Answering.{NotLate}
-use Rattle.pnet_run.proofs.Bound.{toGo, toll, Sane, next-in, underWay-free, toll-most, toll-some, toll-settled}
+use Rattle.pnet_run.proofs.Bound.{toll, Sane, next-in, underWay-free, toll-most, toll-some, toll-settled}
 use Rattle.pnet_urgent_run.specs.Stack.{Held, held, HandsDown, Sends, Nothing, stacked}
-use Rattle.pnet_urgent_run.specs.Promise.{UpTo, SpacedUpTo}
+use Rattle.pnet_urgent_run.specs.Promise.{SpacedUpTo}
 use Rattle.pnet_urgent_run.proofs.Kept.{InHeld, stacked-keeps, taken-was, length-snoc, one-in-stack, join-in, down-in, send-out}
 use Rattle.pnet_urgent_run.proofs.Heeded.{
   heeded,
-  heeded-then,
   heeded-master,
   behind-all,
   then-blocked,
