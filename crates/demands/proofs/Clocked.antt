@@ -15,7 +15,8 @@ use Rattle.pnet_rules.specs.Segment.{Segment, bound}
 use Rattle.pnet_rules.specs.Limits.{Declared}
 use Rattle.pnet_run.specs.Run.{Belongs, Request, request, Answer, Queues, Token, Settled, Run, start, complete, arrive, travel, work, serve, skip}
 use Rattle.pnet_run.specs.Promise.{Kept, quiet, other as another, asks, Spaced, Accepted}
-use Rattle.pnet_run.proofs.Past.{came-past, queue-came}
+use Rattle.pnet_run.proofs.Keeping.{came-past}
+use Rattle.pnet_run.proofs.Queues.{queue-came}
 use Rattle.pnet_run.proofs.Bound.{apart-latest}
 use Rattle.pnet_run.proofs.Spacing.{spaced-before, came-in-order, due-apart}
 use Rattle.capture_log.specs.declared.Event.{Event}

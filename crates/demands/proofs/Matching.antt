@@ -50,7 +50,8 @@ use Rattle.pnet_run.specs.Run.{
 }
 use Rattle.pnet_run.specs.Promise.{Spaced, Answered, Accepted}
 use Rattle.pnet_run.proofs.Charges.{Covers, free, in-ring, charged-covers-visits}
-use Rattle.pnet_run.proofs.Queues.{put-same, put-other, owned}
+use Rattle.pnet_run.proofs.Keeping.{put-same, put-other}
+use Rattle.pnet_run.proofs.Queues.{owned}
 use Rattle.pnet_run.proofs.Answering.{NotLate}
 use Rattle.pnet_run.proofs.Bound.{waits-in-time, answered-by, first-differs, none-waits}
 use Rattle.pnet_run.proofs.Spacing.{spaced-before, spaced-apart}

@@ -31,7 +31,8 @@ use Rattle.pnet_run.specs.Run.{
   skip,
 }
 use Rattle.pnet_run.proofs.Counts.{cameSince, answeredSince, spent}
-use Rattle.pnet_run.proofs.Queues.{put-same, put-other, owned}
+use Rattle.pnet_run.proofs.Keeping.{put-same, put-other}
+use Rattle.pnet_run.proofs.Queues.{owned}
 
 -- ---- What came is what waits and what was answered
 

@@ -52,8 +52,8 @@ use Rattle.pnet_run.specs.Run.{
 use Rattle.pnet_run.specs.Promise.{Apart, and, Answered}
 use Rattle.pnet_run.proofs.Charges.{Covers, free}
 use Rattle.pnet_run.proofs.Counts.{spent, underWay}
-use Rattle.pnet_run.proofs.Queues.{put-same, put-other, owned}
-use Rattle.pnet_run.proofs.Past.{queue-came, queue-past}
+use Rattle.pnet_run.proofs.Keeping.{put-same, put-other}
+use Rattle.pnet_run.proofs.Queues.{owned, queue-came, queue-past}
 use Rattle.pnet_run.proofs.Answering.{NotLate, answered-in-time}
 use Rattle.pnet_run.proofs.Ring.{next-in-ring, gap, gap-next, gap-lap, gap-most, gap-least}
 use Rattle.pnet_run.proofs.Waiting.{
@@ -95,7 +95,7 @@ spent-free S a (w ∷ went) = go (leb a (w .at)) (spent-free S a went)
     go true e = omega arith
     go false e = omega arith
 
-underWay-free : (y : Token) → underWay free y ≡ 0
+pub underWay-free : (y : Token) → underWay free y ≡ 0
 underWay-free (toward m d) = refl
 underWay-free (serving m c) = refl
 
@@ -119,15 +119,15 @@ module _ (S : Segment) (k : ℕ) where
 -- ---- A charge h and a surcharge x
 
 module _ (S : Segment) (h x : ℕ → ℕ) (k : ℕ) (1≤k : 1 ≤ k) (k≤n : k ≤ S .masters) where
-  abbrev toGo : ℕ → ℕ
+  abbrev pub toGo : ℕ → ℕ
   toGo m = gap h (S .masters) k m
 
   -- the longest time until k has answered its next request and passed the token on, if no further surcharge is spent
-  abbrev toll : Token → ℕ
+  abbrev pub toll : Token → ℕ
   toll (toward m d) = d + (h m + toGo m)
   toll (serving m c) = c + (40 + toGo m)
 
-  abbrev Sane : Token → Type 0
+  abbrev pub Sane : Token → Type 0
   Sane (toward m d) = (1 ≤ m) × (m ≤ S .masters) × (d ≤ 40)
   Sane (serving m c) = (1 ≤ m) × (m ≤ S .masters) × (c + 40 ≤ h m + x m)
 
@@ -143,7 +143,7 @@ module _ (S : Segment) (h x : ℕ → ℕ) (k : ℕ) (1≤k : 1 ≤ k) (k≤n : 
     token : Sane y
     queue : Queue t y (q k) went
 
-  next-in : {m : ℕ} → m ≤ S .masters → (1 ≤ next (S .masters) m) × (next (S .masters) m ≤ S .masters)
+  pub next-in : {m : ℕ} → m ≤ S .masters → (1 ≤ next (S .masters) m) × (next (S .masters) m ≤ S .masters)
   next-in {m} l = next-in-ring (S .masters) m (omega arith) l
 
   module _ (cover : Covers h x S) where
@@ -194,7 +194,7 @@ module _ (S : Segment) (h x : ℕ → ℕ) (k : ℕ) (1≤k : 1 ≤ k) (k≤n : 
 
     -- ---- An arrival
 
-    toll-most : (y : Token) → Sane y → toll y ≤ turnBy h S + 40 + underWay x y
+    pub toll-most : (y : Token) → Sane y → toll y ≤ turnBy h S + 40 + underWay x y
     unfolding turnBy
     toll-most (toward m d) o = omega (arith, gap-most h (S .masters) k 1≤k k≤n m (o .0) (o .1))
     toll-most (serving m c) o = omega (arith, gap-most h (S .masters) k 1≤k k≤n m (o .0) (o .1))
@@ -227,11 +227,11 @@ module _ (S : Segment) (h x : ℕ → ℕ) (k : ℕ) (1≤k : 1 ≤ k) (k≤n : 
 
     -- ---- What waits is not late
 
-    toll-some : (y : Token) → Sane y → 40 < h k → 40 ≤ toll y
+    pub toll-some : (y : Token) → Sane y → 40 < h k → 40 ≤ toll y
     toll-some (toward m d) o b = omega (arith, gap-least h (S .masters) k 1≤k k≤n m (o .1))
     toll-some (serving m c) o b = omega arith
 
-    toll-settled : {y : Token} → Sane y → Settled y → 40 < h k → 40 < toll y
+    pub toll-settled : {y : Token} → Sane y → Settled y → 40 < h k → 40 < toll y
     toll-settled o (on-way {m = m}) b = omega (arith, gap-least h (S .masters) k 1≤k k≤n m (o .1))
     toll-settled o at-work b = omega arith
 

@@ -33,7 +33,8 @@ use Rattle.pnet_run.specs.Run.{
   skip,
 }
 use Rattle.pnet_run.specs.Promise.{Reached, Even}
-use Rattle.pnet_run.proofs.Queues.{put-same, put-other, put-rest, owned}
+use Rattle.pnet_run.proofs.Keeping.{put-same, put-other}
+use Rattle.pnet_run.proofs.Queues.{put-rest, owned}
 use Rattle.pnet_run.proofs.Ring.{next-in-ring, gap, gap-own, gap-next, gap-lap, gap-most, gap-apart}
 use Rattle.pnet_run.proofs.Charges.{some-cycle, hold-alike}
 use Rattle.pnet_run.proofs.Picked.{picked, length-picked}

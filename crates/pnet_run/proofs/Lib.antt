@@ -1,5 +1,5 @@
+pub mod Keeping
 pub mod Queues
-pub mod Past
 pub mod Answering
 pub mod Ring
 pub mod Charges

@@ -6,7 +6,8 @@ use native.Mathlib.Decide.{ℕ-discrete}
 use native.Mathlib.Omega.{arith}
 use Rattle.pnet_rules.specs.Segment.{Segment}
 use Rattle.pnet_run.specs.Run.{Belongs, Request, request, Answer, Queues, join, Token, toward, serving, Run, start, complete, arrive, travel, work, serve, skip}
-use Rattle.pnet_run.proofs.Queues.{put-same, put-other, owned}
+use Rattle.pnet_run.proofs.Keeping.{put-same, put-other}
+use Rattle.pnet_run.proofs.Queues.{owned}
 
 -- ---- A master that serves has a request to serve
 

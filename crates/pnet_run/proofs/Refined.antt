@@ -53,8 +53,8 @@ use Rattle.pnet_run.specs.Run.{
 use Rattle.pnet_run.specs.Promise.{Spaced, Apart, Answered}
 use Rattle.pnet_run.proofs.Charges.{Covers, free, in-ring}
 use Rattle.pnet_run.proofs.Counts.{cameSince, answeredSince, spent, underWay}
-use Rattle.pnet_run.proofs.Queues.{put-rest, join-cases, owned}
-use Rattle.pnet_run.proofs.Past.{came-past, queue-past, went-own}
+use Rattle.pnet_run.proofs.Queues.{put-rest, join-cases, owned, queue-past, went-own}
+use Rattle.pnet_run.proofs.Keeping.{came-past}
 use Rattle.pnet_run.proofs.Answering.{NotLate, answered-in-time}
 use Rattle.pnet_run.proofs.Spacing.{spaced-before, came-in-order, spaced-apart}
 use Rattle.pnet_run.proofs.Bound.{waits-in-time, answered-by, credit-by}

@@ -21,9 +21,9 @@ use native.Mathlib.Decide.{ℕ-discrete}
 use native.Mathlib.Omega.{arith}
 use borrow.Author.Tests.{eq-eqb, ne-eqb}
 use Rattle.pnet_rules.specs.Segment.{Segment, owns}
-use Rattle.pnet_run.specs.Run.{Request, request, Answer, answer, Queues, put, join, Token, toward, Settled, on-way, next, Run, start, complete, arrive, serve}
+use Rattle.pnet_run.specs.Run.{Request, request, Answer, answer, Queues, put, join, Token, toward, Settled, on-way, next, Discipline, RunBy, Run, start, complete, arrive, serve}
 use Rattle.pnet_run.specs.Promise.{Apart, none, and, Spaced}
-use Rattle.pnet_run.proofs.Queues.{put-same, put-other}
+use Rattle.pnet_run.proofs.Keeping.{put-same, put-other}
 use Rattle.pnet_run.proofs.Picked.{picked}
 use Rattle.pnet_run.proofs.Spacing.{apart-spaced}
 
@@ -98,9 +98,10 @@ asked-spaced S k = apart-spaced {S = S} (λ i d. asked-apart (S .stream i .spaci
 
 -- ---- The longest service
 
-pub slowest : {S : Segment} {t m : ℕ} {q : Queues} {r : Request} {rest came : List Request} {went : List Answer}
-    → Run S t (toward m 0) q came went → q m ≡ r ∷ rest → 1 ≤ S .stream (r .of) .cycle
-    → Run S (t + (7 + S .stream (r .of) .cycle)) (toward (next (S .masters) m) 40) (put q m rest) came (answer r (t + (7 + S .stream (r .of) .cycle)) ∷ went)
+-- by any discipline
+pub slowest : {D : Discipline} {S : Segment} {t m : ℕ} {q : ℕ → D .State} {r : Request} {rest : D .State} {came : List Request} {went : List Answer}
+    → RunBy D S t (toward m 0) q came went → D .Serves (q m) r rest → 1 ≤ S .stream (r .of) .cycle
+    → RunBy D S (t + (7 + S .stream (r .of) .cycle)) (toward (next (S .masters) m) 40) (put q m rest) came (answer r (t + (7 + S .stream (r .of) .cycle)) ∷ went)
 slowest {S} {r = r} z p some =
     let C = S .stream (r .of) .cycle in
     complete (serve {c = 0} (7 + C) 7 C z p (omega arith) (omega arith) (omega arith) (omega arith) (omega arith) (omega arith)) p

@@ -21,9 +21,9 @@ use native.Mathlib.Decide.{ℕ-discrete}
 use native.Mathlib.Omega.{arith}
 use Rattle.pnet_rules.specs.Segment.{Segment}
 use Rattle.pnet_rules.specs.Limits.{Declared}
-use Rattle.pnet_run.specs.Run.{Belongs, Request, request, Answer, Queues, Token, Run, start, complete, arrive, travel, work, serve, skip}
+use Rattle.pnet_run.specs.Run.{Belongs, Request, request, Answer, Queues, Token, Discipline, RunBy, Run, start, complete, arrive, move, travel, work, serve, skip}
 use Rattle.pnet_run.specs.Promise.{Kept, quiet, other, asks, Spaced, Apart, none, and}
-use Rattle.pnet_run.proofs.Past.{came-past}
+use Rattle.pnet_run.proofs.Keeping.{came-past}
 
 -- ---- Each request and the instant J behind its nominal time
 
@@ -75,10 +75,12 @@ pub data InOrder : List Request → Type 0 where
   nothing : InOrder []
   later : {r : Request} {came : List Request} → ((s : Request) → List·Memᴰ s came → s .since ≤ r .since) → InOrder came → InOrder (r ∷ came)
 
-pub came-in-order : {S : Segment} {t : ℕ} {y : Token} {q : Queues} {came : List Request} {went : List Answer} → Run S t y q came went → InOrder came
+pub came-in-order : {D : Discipline} {S : Segment} {t : ℕ} {y : Token} {q : ℕ → D .State} {came : List Request} {went : List Answer}
+    → RunBy D S t y q came went → InOrder came
 came-in-order (start a b c) = nothing
 came-in-order (complete z p) = came-in-order z
 came-in-order (arrive z o d) = later (came-past z) (came-in-order z)
+came-in-order (move z o p) = came-in-order z
 came-in-order (travel e z) = came-in-order z
 came-in-order (work e z) = came-in-order z
 came-in-order (serve e x c z p a b d f g o) = came-in-order z

@@ -10,8 +10,8 @@
 --   can arrive behind the token at the same instant. (proofs/Literal tells an instant phase by phase; the runs are the same.)
 -- * 'If the master's queue holds a request, its oldest is served: 2 to 7 bp reaction, a message of 1 to C bp of its stream,
 --   completion, 40 bp to the next master.' See `serve` and `complete`. A queue's oldest is its first; it stays there until its
---   completion, and an arrival goes behind the last. The token counts the bp left to the completion, reaction and message in
---   one: a run shows no more of them than when they end.
+--   completion, and an arrival goes behind the last (`firstCome`). The token counts the bp left to the completion, reaction and
+--   message in one: a run shows no more of them than when they end.
 -- * 'Else 10 bp to the next. After N comes 1.' See `skip` and `next`.
 -- * 'Every request belongs to a declared stream of its master, so a silent master has none.' See `arrive`.
 -- * 'A run may be cut at any instant.' What follows is built up step by step, each step may last any part of the time that it
@@ -19,6 +19,10 @@
 --
 -- Left free: which master the token is first on its way to and how far it is, which stream asks when and how often, each
 -- reaction, and the length of each message. A run knows no spacing and no bound: see Promise.
+--
+-- Left to a `Discipline`, since page 02's Ask 11 has another than page 01: how a master keeps what waits, what it may do with that by itself
+-- (`move`, at an instant at which no completion is due), which request it sends, and when it has none to send. The page's runs are `Run`,
+-- those by `firstCome`, where no master does anything by itself; all else above holds of every discipline.
 use Prim.Native.Nat.{ℕ, suc, _+_, _≤_}
 use mathlib.Core.Path.{_≡_}
 use mathlib.Core.Bool.{cond}
@@ -56,13 +60,9 @@ answer r t = record { to = r; at = t }
 abbrev pub Queues : Type 0
 Queues = ℕ → List Request
 
--- master m's queue becomes l, the others stay
-unfoldable pub put : Queues → ℕ → List Request → Queues
+-- what master m keeps becomes l, the others' stays
+unfoldable pub put : {A : Type 0} → (ℕ → A) → ℕ → A → ℕ → A
 put q m l y = cond (eqb y m) l (q y)
-
--- r goes behind the last in master m's queue
-abbrev pub join : Queues → ℕ → Request → Queues
-join q m r = put q m (q m ++ (r ∷ []))
 
 -- ---- The token
 
@@ -80,27 +80,62 @@ pub data Settled : Token → Type 0 where
 unfoldable pub next : ℕ → ℕ → ℕ
 next n m = cond (eqb m n) 1 (suc m)
 
+-- ---- How a master picks what it sends
+
+pub record Discipline : Type 1 where
+  -- what a master keeps of what waits, at a run's start, and once a request has arrived
+  pub State : Type 0
+  pub empty : State
+  pub joined : State → Request → State
+  -- what master m may do with it by itself, as the token stands
+  pub Moves : ℕ → Token → State → State → Type 0
+  -- the request that is sent, and what is kept once it is answered
+  pub Serves : State → Request → State → Type 0
+  -- there is nothing to send
+  pub Idle : State → Type 0
+
+-- page 01's: the oldest is sent, and nothing is done to a queue between arrivals and completions
+abbrev pub firstCome : Discipline
+firstCome = record {
+  State = List Request;
+  empty = [];
+  joined = λ l r. l ++ (r ∷ []);
+  Moves = λ m y l left. ⊥;
+  Serves = λ l r rest. l ≡ r ∷ rest;
+  Idle = λ l. l ≡ [];
+}
+
+-- r goes behind the last in master m's queue
+abbrev pub join : Queues → ℕ → Request → Queues
+join q m r = put q m (firstCome .joined (q m) r)
+
 -- ---- Runs
 
--- a run of the segment S: the instant it has come to, the token and the queues then, and what arrived and what was answered
--- so far, both latest first
-pub data Run (S : Segment) : ℕ → Token → Queues → List Request → List Answer → Type 0 where
-  start : {m d : ℕ} → 1 ≤ m → m ≤ S .masters → d ≤ 40 → Run S 0 (toward m d) (λ y. []) [] []
-  -- at one instant: a completion, an arrival
-  complete : {t m : ℕ} {q : Queues} {r : Request} {rest came : List Request} {went : List Answer}
-      → Run S t (serving m 0) q came went → q m ≡ r ∷ rest
-      → Run S t (toward (next (S .masters) m) 40) (put q m rest) came (answer r t ∷ went)
-  arrive : {t m i : ℕ} {y : Token} {q : Queues} {came : List Request} {went : List Answer}
-      → Run S t y q came went → Settled y → Belongs S m i → Run S t y (join q m (request i t)) (request i t ∷ came) went
+-- a run of the segment S by the discipline D: the instant it has come to, the token then and what each master keeps, and what arrived and
+-- what was answered so far, both latest first
+pub data RunBy (D : Discipline) (S : Segment) : ℕ → Token → (ℕ → D .State) → List Request → List Answer → Type 0 where
+  start : {m d : ℕ} → 1 ≤ m → m ≤ S .masters → d ≤ 40 → RunBy D S 0 (toward m d) (λ y. D .empty) [] []
+  -- at one instant: a completion, an arrival, what a master does by itself
+  complete : {t m : ℕ} {q : ℕ → D .State} {r : Request} {rest : D .State} {came : List Request} {went : List Answer}
+      → RunBy D S t (serving m 0) q came went → D .Serves (q m) r rest
+      → RunBy D S t (toward (next (S .masters) m) 40) (put q m rest) came (answer r t ∷ went)
+  arrive : {t m i : ℕ} {y : Token} {q : ℕ → D .State} {came : List Request} {went : List Answer}
+      → RunBy D S t y q came went → Settled y → Belongs S m i → RunBy D S t y (put q m (D .joined (q m) (request i t))) (request i t ∷ came) went
+  move : {t m : ℕ} {y : Token} {q : ℕ → D .State} {left : D .State} {came : List Request} {went : List Answer}
+      → RunBy D S t y q came went → Settled y → D .Moves m y (q m) left → RunBy D S t y (put q m left) came went
   -- e bp pass: the token goes on, or the service does
-  travel : {t m d : ℕ} {q : Queues} {came : List Request} {went : List Answer} (e : ℕ)
-      → Run S t (toward m (e + d)) q came went → Run S (t + e) (toward m d) q came went
-  work : {t m c : ℕ} {q : Queues} {came : List Request} {went : List Answer} (e : ℕ)
-      → Run S t (serving m (e + c)) q came went → Run S (t + e) (serving m c) q came went
-  -- the token arrives, and the first e bp behind that pass: in the service of the oldest request, or on the way to the next master
-  serve : {t m c : ℕ} {q : Queues} {r : Request} {rest came : List Request} {went : List Answer} (e reaction message : ℕ)
-      → Run S t (toward m 0) q came went → q m ≡ r ∷ rest
+  travel : {t m d : ℕ} {q : ℕ → D .State} {came : List Request} {went : List Answer} (e : ℕ)
+      → RunBy D S t (toward m (e + d)) q came went → RunBy D S (t + e) (toward m d) q came went
+  work : {t m c : ℕ} {q : ℕ → D .State} {came : List Request} {went : List Answer} (e : ℕ)
+      → RunBy D S t (serving m (e + c)) q came went → RunBy D S (t + e) (serving m c) q came went
+  -- the token arrives, and the first e bp behind that pass: in the service of a request, or on the way to the next master
+  serve : {t m c : ℕ} {q : ℕ → D .State} {r : Request} {rest : D .State} {came : List Request} {went : List Answer} (e reaction message : ℕ)
+      → RunBy D S t (toward m 0) q came went → D .Serves (q m) r rest
       → 2 ≤ reaction → reaction ≤ 7 → 1 ≤ message → message ≤ S .stream (r .of) .cycle → 1 ≤ e → e + c ≡ reaction + message
-      → Run S (t + e) (serving m c) q came went
-  skip : {t m d : ℕ} {q : Queues} {came : List Request} {went : List Answer} (e : ℕ)
-      → Run S t (toward m 0) q came went → q m ≡ [] → 1 ≤ e → e + d ≡ 10 → Run S (t + e) (toward (next (S .masters) m) d) q came went
+      → RunBy D S (t + e) (serving m c) q came went
+  skip : {t m d : ℕ} {q : ℕ → D .State} {came : List Request} {went : List Answer} (e : ℕ)
+      → RunBy D S t (toward m 0) q came went → D .Idle (q m) → 1 ≤ e → e + d ≡ 10 → RunBy D S (t + e) (toward (next (S .masters) m) d) q came went
+
+-- page 01's runs, which serve the oldest first
+abbrev pub Run : Segment → ℕ → Token → Queues → List Request → List Answer → Type 0
+Run = RunBy firstCome

@@ -16,7 +16,7 @@ use Rattle.common.proofs.Firsts.{First, first-is}
 use Rattle.common.proofs.Runs.{filled-at, length-filled}
 use Rattle.pnet_rules.specs.Segment.{Segment, owns}
 use Rattle.pnet_run.specs.Run.{Answer, answer, Queues, put, toward, next, Run, travel, skip}
-use Rattle.pnet_run.proofs.Queues.{put-same, put-other}
+use Rattle.pnet_run.proofs.Keeping.{put-same, put-other}
 use Rattle.pnet_run.proofs.Ring.{next-in-ring}
 use Rattle.pnet_run.proofs.Picked.{picked, picked-same, picked-none, picked-first}
 use Rattle.pnet_run.proofs.Slowest.{asked, askedTo, all-asked, asked-each, asked-at-0, asked-apart, slowest}

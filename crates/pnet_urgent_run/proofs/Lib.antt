@@ -1,0 +1,5 @@
+pub mod Kept
+pub mod Heeded
+pub mod Busy
+pub mod Figures
+pub mod Early
