@@ -76,7 +76,7 @@ same-run N {old} {a} {b} ka kb same = ext-getD 0 a b (ka .long ∙ sym (kb .long
     by i (yes l) = let e : i + 1 - 1 ≡ i = omega arith in subst (λ (j : ℕ). getD a j 0 ≡ getD b j 0) e (same (i + 1) (omega arith) (omega arith))
     by i (no l) = ka .later i (omega (arith, l)) ∙ sym (kb .later i (omega (arith, l)))
 
-pub at-place : (f : ℕ → ℕ) (N k : ℕ) (old : List ℕ) → 1 ≤ k → k ≤ N → getD (filled (atPlace f) N old) (k - 1) 0 ≡ f k
+at-place : (f : ℕ → ℕ) (N k : ℕ) (old : List ℕ) → 1 ≤ k → k ≤ N → getD (filled (atPlace f) N old) (k - 1) 0 ≡ f k
 at-place f N k old from to = let e : k - 1 + 1 ≡ k = omega arith in filled-at (atPlace f) N (k - 1) old (omega arith) ∙ ap f e
 
 -- ---- The answer and the three runs

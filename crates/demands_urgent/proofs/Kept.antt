@@ -13,10 +13,9 @@ use Rattle.pnet_urgent_rules.specs.Planned.{urgently}
 use Rattle.pnet_urgent_rules.specs.Refusals.{Accepted}
 use Rattle.pnet_urgent_rules.proofs.Refusals.{accepted-exactly}
 use Rattle.pnet_urgent_run.proofs.Figures.{each-request-is-answered-within-its-figure}
-use Rattle.demands.proofs.CapturedBytes.{at-its-place}
 use Rattle.demands_urgent.specs.Written.{writtenAt, roomIn}
 use Rattle.demands_urgent.specs.Kept.{Promised}
-use Rattle.demands_urgent.proofs.Written.{in-range, all-met}
+use Rattle.demands_urgent.proofs.Written.{stands-for, in-range, all-met}
 
 -- the bytes s, and the three lent runs before the call; the planner accepts the sheet H that the bytes say
 module _ (s lent-places lent-x lent-rounds : List ℕ) (H : Sheet) (accepts : urgently s (roomIn lent-places lent-x lent-rounds) ≡ Read H) where
@@ -30,7 +29,7 @@ module _ (s lent-places lent-x lent-rounds : List ℕ) (H : Sheet) (accepts : ur
     written-x = writtenAt (streamRun (urgently s (roomIn lent-places lent-x lent-rounds)) figure lent-x) i
 
     pub written-x-is-the-figure : written-x ≡ figure (segmentOf H) i
-    written-x-is-the-figure = at-its-place accepts i from to figure lent-x
+    written-x-is-the-figure = rw accepts (stands-for (figure (segmentOf H)) (length (H .streams)) i lent-x from to)
 
     pub each-request-is-answered-within-the-written-x : Promised (segmentOf H) i written-x
     unfolding segmentOf

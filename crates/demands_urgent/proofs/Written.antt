@@ -9,6 +9,8 @@ use mathlib.Core.Logic.{_↔_}
 use native.Mathlib.Numerals.{add-one}
 use native.Mathlib.Omega.{arith}
 use lib.ListN.{length}
+use Rattle.common.specs.Runs.{filled}
+use Rattle.common.proofs.Runs.{filled-at}
 use Rattle.sheet_read.specs.Sheets.{Sheet}
 use Rattle.sheet_read.specs.Whole.{Outcome}
 use Rattle.sheet_read.specs.Whole.Outcome.{Read, Not}
@@ -26,7 +28,7 @@ use Rattle.pnet_urgent_rules.specs.Refusals.{Given, Accepted}
 use Rattle.pnet_urgent_rules.proofs.Right.{turn-some}
 use Rattle.pnet_urgent_rules.proofs.Figures.{solves-if, solves-then, figure-in-time, rounds-first, figure-solves, figure-least, met-if}
 use Rattle.pnet_urgent_rules.proofs.Refusals.{refused-exactly, accepted-exactly}
-use Rattle.demands.proofs.Demand2Pnet.{kept-filled, same-run, at-place}
+use Rattle.demands.proofs.Demand2Pnet.{kept-filled, same-run}
 use Rattle.demands_urgent.specs.Written.{writtenAt, Figures, roomIn, Answers, refused, accepted}
 
 -- ---- One stream
@@ -40,7 +42,7 @@ module _ (S : Segment) (i : ℕ) where
       record {
         placed = omega arith;
         solves = solves-if S i (figure S i) (figure-solves S i some met);
-        least = λ w s. figure-least S i some met w (solves-then S i w s);
+        least = λ w s. omega (arith, figure-least S i some met w (solves-then S i w s));
         in-time = figure-in-time S i some met;
         reached = refl;
         stands = settled .still ∙ ap (valueFrom (turn S) (right S i)) (sym (add-one (rounds S i)));
@@ -50,11 +52,17 @@ module _ (S : Segment) (i : ℕ) where
   -- and there are no others
   one-each : {p p' x x' m m' : ℕ} → Figures S i p x m → Figures S i p' x' m' → (p ≡ p') × (x ≡ x') × (m ≡ m')
   one-each {p} {p'} {x} {x'} {m} {m'} a b =
-      let low : x ≤ x' = a .least x' (b .solves) in
-      let high : x' ≤ x = b .least x (a .solves) in
+      let low : x ≤ x' = omega (arith, a .least x' (b .solves)) in
+      let high : x' ≤ x = omega (arith, b .least x (a .solves)) in
       let before : (m < m' → ⊥) = λ l. b .first m (omega (arith, l)) (a .stands) in
       let behind : (m' < m → ⊥) = λ l. a .first m' (omega (arith, l)) (b .stands) in
       (a .placed ∙ sym (b .placed), omega (arith, low, high), omega (arith, before, behind))
+
+-- ---- One run
+
+-- what it holds for stream i once it is filled
+pub stands-for : (f : ℕ → ℕ) (N i : ℕ) (old : List ℕ) → 1 ≤ i → i ≤ N → writtenAt (filled (atPlace f) N old) i ≡ f i
+stands-for f N i old from to = filled-at (atPlace f) N _ old (omega arith) ∙ ap f (omega arith)
 
 -- ---- What an accepted sheet is
 
@@ -101,7 +109,7 @@ module _ (s lent-places lent-x lent-rounds : List ℕ) where
     written : (i : ℕ) → 1 ≤ i → i ≤ many
         → Figures S i (writtenAt (streamRun (Read H) place lent-places) i) (writtenAt (streamRun (Read H) figure lent-x) i) (writtenAt (streamRun (Read H) rounds lent-rounds) i)
     written i from to =
-        rw (at-place (place S) many i lent-places from to, at-place (figure S) many i lent-x from to, at-place (rounds S) many i lent-rounds from to) (each i from to)
+        rw (stands-for (place S) many i lent-places from to, stands-for (figure S) many i lent-x from to, stands-for (rounds S) many i lent-rounds from to) (each i from to)
 
   -- where the planner accepts a sheet, the three numbers that stand at the place of stream i are the page's
   pub written-as-published : (H : Sheet) → outcome ≡ Read H → (i : ℕ) → 1 ≤ i → i ≤ length (H .streams)
@@ -137,7 +145,7 @@ module _ (s lent-places lent-x lent-rounds : List ℕ) where
       λ i from to. one-each S i (own i from to) (each H a i from to) in
       rw (urgent-accepted-exactly H .1 a) (
         refl,
-        same-run N kp (kept-filled (atPlace (place S)) N lent-places (omega (arith, a .enough))) (λ i from to. one i from to .0 ∙ sym (at-place (place S) N i lent-places from to)),
-        same-run N kx (kept-filled (atPlace (figure S)) N lent-x (omega (arith, a .enough))) (λ i from to. one i from to .1 ∙ sym (at-place (figure S) N i lent-x from to)),
-        same-run N km (kept-filled (atPlace (rounds S)) N lent-rounds (omega (arith, a .enough))) (λ i from to. one i from to .2 ∙ sym (at-place (rounds S) N i lent-rounds from to)),
+        same-run N kp (kept-filled (atPlace (place S)) N lent-places (omega (arith, a .enough))) (λ i from to. one i from to .0 ∙ sym (stands-for (place S) N i lent-places from to)),
+        same-run N kx (kept-filled (atPlace (figure S)) N lent-x (omega (arith, a .enough))) (λ i from to. one i from to .1 ∙ sym (stands-for (figure S) N i lent-x from to)),
+        same-run N km (kept-filled (atPlace (rounds S)) N lent-rounds (omega (arith, a .enough))) (λ i from to. one i from to .2 ∙ sym (stands-for (rounds S) N i lent-rounds from to)),
       )
