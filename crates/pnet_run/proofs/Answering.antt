@@ -1,7 +1,7 @@
 -- A figure is kept to where what waits is never late: if, in every run whose arrivals are of some kind, each waiting request of some streams of master k came less
 -- than B ago, then each of their requests is answered within B. So it is by every discipline that loses no request and makes none up. Assumes nothing.
 use Prim.Native.Nat.{ℕ, _+_, _≤_, _<_}
-use mathlib.Core.Path.{_≡_, refl, sym, _∙_}
+use mathlib.Core.Path.{_≡_, sym, _∙_}
 use mathlib.Core.Logic.{⊎-elim}
 use mathlib.Core.List.{List, _∷_, List·Memᴰ, List·Memᴰ·not-nil, List·Memᴰ·cases-cons}
 use native.Mathlib.Omega.{arith}
@@ -17,7 +17,6 @@ use Rattle.pnet_run.specs.Run.{
   serving,
   Settled,
   Discipline,
-  firstCome,
   RunBy,
   Run,
   start,

@@ -12,7 +12,7 @@
 use Prim.Native.Nat.{ℕ, suc, _+_, _*_, _≤_, _<_}
 use mathlib.Core.Path.{_≡_, refl, sym, ap, _∙_}
 use mathlib.Core.Bool.{Bool, true, false, _&&_, false≢true}
-use mathlib.Core.Logic.{_≢_, _⊎_, inl, inr, ⊎-elim}
+use mathlib.Core.Logic.{inl, inr, ⊎-elim}
 use mathlib.Core.List.{List, [], _∷_, _++_, List·Memᴰ, List·Memᴰ·head}
 use native.Mathlib.Nat.{mul-le-mul-right}
 use native.Mathlib.Decide.{ℕ-discrete, decLe}
@@ -24,7 +24,7 @@ use Rattle.common.specs.Sums.{when}
 use Rattle.common.proofs.Sums.{upto-term}
 use Rattle.pnet_rules.specs.Segment.{Segment, turnBy}
 use Rattle.pnet_rules.specs.Limits.{Declared}
-use Rattle.pnet_urgent_rules.specs.Urgent.{ahead, blocked, aheadIn}
+use Rattle.pnet_urgent_rules.specs.Urgent.{blocked, aheadIn}
 use Rattle.pnet_run.specs.Run.{
   Belongs,
   Request,
@@ -48,16 +48,15 @@ use Rattle.pnet_run.specs.Run.{
 }
 use Rattle.pnet_run.proofs.Charges.{Covers, free, in-ring}
 use Rattle.pnet_run.proofs.Keeping.{put-same, put-other, came-past, owned-by, sent-kept}
-use Rattle.pnet_run.proofs.Ring.{gap-own, gap-next, gap-lap}
-use Rattle.pnet_run.proofs.Spacing.{InOrder, kept-before, came-in-order}
+use Rattle.pnet_run.proofs.Ring.{gap-next, gap-lap}
+use Rattle.pnet_run.proofs.Spacing.{kept-before, came-in-order}
 use Rattle.pnet_run.proofs.Answering.{NotLate}
-use Rattle.pnet_run.proofs.Bound.{toGo, toll, Sane, next-in, underWay-free, toll-most, toll-some, toll-settled}
+use Rattle.pnet_run.proofs.Bound.{toll, Sane, next-in, underWay-free, toll-most, toll-some, toll-settled}
 use Rattle.pnet_urgent_run.specs.Stack.{Held, held, HandsDown, Sends, Nothing, stacked}
-use Rattle.pnet_urgent_run.specs.Promise.{UpTo, SpacedUpTo}
+use Rattle.pnet_urgent_run.specs.Promise.{SpacedUpTo}
 use Rattle.pnet_urgent_run.proofs.Kept.{InHeld, stacked-keeps, taken-was, length-snoc, one-in-stack, join-in, down-in, send-out}
 use Rattle.pnet_urgent_run.proofs.Heeded.{
   heeded,
-  heeded-then,
   heeded-master,
   behind-all,
   then-blocked,
@@ -170,13 +169,15 @@ module _ (S : Segment) (declared : Declared S) (h : ℕ → ℕ) (cover : Covers
   served-own {now = now} {rest = rest} {r = r} I p = record {
     token = omega (arith, next-in S h free k 1≤k k≤n k≤n);
     busy = λ some.
-        let b = I .busy (omega (arith, same-waiting, ap (tally counts) (p .sent), tally-first counts r (rest .stack))) in
-        (b .0, record {
-          begun = b .1 .begun;
-          over = omega (arith, b .1 .over, gap-lap h (S .masters) k 1≤k k≤n, ap (λ (n : ℕ). n * lap) fewer);
-          counted = b .1 .counted;
-          since = λ u j. b .1 .since u (send-out now rest r p u (inr j));
-        });
+        let b = I .busy (omega (arith, same-waiting, ap (tally counts) (p .sent), tally-first counts r (rest .stack))) in (
+          b .0,
+          record {
+            begun = b .1 .begun;
+            over = omega (arith, b .1 .over, gap-lap h (S .masters) k 1≤k k≤n, ap (λ (n : ℕ). n * lap) fewer);
+            counted = b .1 .counted;
+            since = λ u j. b .1 .since u (send-out now rest r p u (inr j));
+          },
+        );
   }
     where
       same-waiting : tally counts (rest .waiting) ≡ tally counts (now .waiting)
@@ -220,13 +221,15 @@ module _ (S : Segment) (declared : Declared S) (h : ℕ → ℕ) (cover : Covers
       busy = λ some.
           let were : 1 ≤ urgentIn now = omega (arith, out, into, tally-behind counts (now .stack) (down .handed)) in
           let b = I .busy were in
-          let as-many = same-many (handed-urgent were) in
-          (b .0, record {
-            begun = b .1 .begun;
-            over = omega (arith, b .1 .over, ap (λ (n : ℕ). n * lap) as-many);
-            counted = b .1 .counted;
-            since = λ u j. b .1 .since u (down-in now after down u j);
-          });
+          let as-many = same-many (handed-urgent were) in (
+            b .0,
+            record {
+              begun = b .1 .begun;
+              over = omega (arith, b .1 .over, ap (λ (n : ℕ). n * lap) as-many);
+              counted = b .1 .counted;
+              since = λ u j. b .1 .since u (down-in now after down u j);
+            },
+          );
     }
       where
         out : tally counts (now .waiting) ≡ when (counts (down .handed .of)) 1 + tally counts (after .waiting)
@@ -271,13 +274,15 @@ module _ (S : Segment) (declared : Declared S) (h : ℕ → ℕ) (cover : Covers
       token = I .token;
       busy = λ some.
           let b = I .busy (omega arith) in
-          let none : cameIn (b .0) (new ∷ came) ≡ cameIn (b .0) came = omega (arith, rw e at (more (b .0))) in
-          (b .0, record {
-            begun = b .1 .begun;
-            over = omega (arith, b .1 .over, ap (λ (n : ℕ). n * lap) same-many, ap (λ (n : ℕ). n * lap) none);
-            counted = omega (arith, b .1 .counted);
-            since = λ p c f. b .1 .since p (was p c f) f;
-          });
+          let none : cameIn (b .0) (new ∷ came) ≡ cameIn (b .0) came = omega (arith, rw e at (more (b .0))) in (
+            b .0,
+            record {
+              begun = b .1 .begun;
+              over = omega (arith, b .1 .over, ap (λ (n : ℕ). n * lap) same-many, ap (λ (n : ℕ). n * lap) none);
+              counted = omega (arith, b .1 .counted);
+              since = λ p c f. b .1 .since p (was p c f) f;
+            },
+          );
     }
 
     -- of one that counts

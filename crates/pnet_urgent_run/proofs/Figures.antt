@@ -9,13 +9,18 @@ use mathlib.Core.List.{List, _∷_}
 use native.Mathlib.Decide.{ℕ-discrete}
 use native.Mathlib.Omega.{arith}
 use Rattle.sheet_read.specs.Sheets.{Sheet}
+use Rattle.sheet_read.specs.Whole.Outcome.{Read}
 use Rattle.units.specs.Units.{bp}
 use Rattle.pnet_rules.specs.Segment.{Segment, segmentOf, charged, turnBy, turn}
 use Rattle.pnet_rules.specs.Limits.{Declared}
 use Rattle.pnet_urgent_rules.specs.Urgent.{ahead, blocked, aheadIn, figure, unmet}
+use Rattle.pnet_urgent_rules.specs.Planned.{urgently}
+use Rattle.pnet_urgent_rules.specs.Refusals.{Met}
 use Rattle.pnet_urgent_rules.proofs.Order.{ahead-then}
 use Rattle.pnet_urgent_rules.proofs.Figures.{declared-met, met-is-figure}
 use Rattle.pnet_urgent_rules.proofs.Right.{turn-some}
+use Rattle.pnet_urgent_rules.proofs.Cases.{urgently-declared}
+use Rattle.pnet_urgent_rules.proofs.Refusals.{accepted-exactly}
 use Rattle.pnet_run.specs.Run.{Belongs, Request, Answer, Token, RunBy}
 use Rattle.pnet_run.specs.Promise.{Spaced, Lasts, past, at-it}
 use Rattle.pnet_run.proofs.Charges.{Covers, free, charged-covers-visits}
@@ -73,6 +78,16 @@ each-request-is-answered-within-its-figure sheet declared i from to accepted =
 
 -- ---- A whole sheet
 
+-- a master that keeps its spacing keeps it up to each of its streams
+pub spaced-up-to : (S : Segment) {k i : ℕ} {came : List Request} → Belongs S k i → Spaced S k came → SpacedUpTo S i came
+spaced-up-to S {i = i} own spaced j u a b =
+    spaced j
+    (record {
+      from-one = a;
+      to-last = b;
+      own = ⊎-elim (λ (e : j ≡ i). ap (λ (n : ℕ). S .stream n .master) e ∙ own .own) (λ (e : ahead S i j ≡ true). ahead-then S i j e .one-master ∙ own .own) u;
+    })
+
 -- Where every stream of the sheet is accepted and master k, which hands down the most urgent first, keeps its spacing, each of its requests is answered within its
 -- stream's figure, whatever the other masters do
 
@@ -81,21 +96,9 @@ pub all-requests-are-answered-within-their-figures : (sheet : Sheet) → Declare
     → (Urgent : ℕ → Type 0) (k : ℕ) → Urgent k → {t : ℕ} {y : Token} {q : ℕ → Held} {came : List Request} {went : List Answer}
     → RunBy (stacked (segmentOf sheet) Urgent) (segmentOf sheet) t y q came went → Spaced (segmentOf sheet) k came
     → (i : ℕ) → Belongs (segmentOf sheet) k i → AnsweredOf (bp (figure (segmentOf sheet) i)) i t y came went
-all-requests-are-answered-within-their-figures sheet declared accepted Urgent k urgent {came = came} run spaced i own =
+all-requests-are-answered-within-their-figures sheet declared accepted Urgent k urgent run spaced i own =
     each-request-is-answered-within-its-figure sheet declared i (own .from-one) (own .to-last) (accepted i (own .from-one) (own .to-last)) .ever (rw (own .own) urgent)
-    run kept
-  where
-    S : Segment
-    S = segmentOf sheet
-
-    kept : SpacedUpTo S i came
-    kept j u a b =
-        spaced j
-        (record {
-          from-one = a;
-          to-last = b;
-          own = ⊎-elim (λ (e : j ≡ i). ap (λ (n : ℕ). S .stream n .master) e ∙ own .own) (λ (e : ahead S i j ≡ true). ahead-then S i j e .one-master ∙ own .own) u;
-        })
+    run (spaced-up-to (segmentOf sheet) own spaced)
 
 -- ---- And so by its deadline
 
@@ -113,3 +116,26 @@ within-more {t = t} {R = R} {Q = Q} {y = y} l a = record {
         go : Dec (R ≡ Q) → Lasts t y (u + R)
         go (yes z) = at-it (omega arith) s
         go (no z) = past (omega (arith, z))
+
+pub safe-within-more : {S : Segment} {i : ℕ} (R Q : ℕ) → R ≤ Q → SafeFor (bp R) S i → SafeFor (bp Q) S i
+safe-within-more R Q l safe = record { ever = λ urgent run spaced. within-more l (safe .ever urgent run spaced) }
+
+-- ---- What the planner accepts
+
+-- Of every sheet that is not refused, each stream's figure is kept to, and so is its deadline
+
+module _ (s : List ℕ) (room : ℕ) (sheet : Sheet) (accepted : urgently s room ≡ Read sheet) (i : ℕ) (from : 1 ≤ i) (to : i ≤ segmentOf sheet .number) where
+  own-declared : Declared (segmentOf sheet)
+  own-declared = urgently-declared s room sheet accepted
+
+  own-met : Met (segmentOf sheet) i
+  own-met = accepted-exactly s room sheet .0 accepted .met i from to
+
+  pub an-accepted-sheet-keeps-its-figures : SafeFor (bp (figure (segmentOf sheet) i)) (segmentOf sheet) i
+  an-accepted-sheet-keeps-its-figures =
+      each-request-is-answered-within-its-figure sheet own-declared i from to (declared-met (segmentOf sheet) own-declared i .1 own-met)
+
+  pub an-accepted-sheet-keeps-its-deadlines : SafeFor (bp (segmentOf sheet .stream i .deadline)) (segmentOf sheet) i
+  an-accepted-sheet-keeps-its-deadlines =
+      safe-within-more (figure (segmentOf sheet) i) (segmentOf sheet .stream i .deadline)
+      (omega (arith, met-is-figure (segmentOf sheet) i (turn-some (segmentOf sheet) own-declared) own-met, own-met .in-time)) an-accepted-sheet-keeps-its-figures

@@ -9,13 +9,13 @@ use native.Mathlib.Nat.{zero-add}
 use native.Mathlib.Omega.{arith}
 use lib.Dec.{eqb, leb}
 use lib.ListN.{length}
-use borrow.Author.Tests.{eq-eqb, ne-eqb, eqb-true, le-leb}
+use borrow.Author.Tests.{eq-eqb, ne-eqb, eqb-true}
 use Rattle.common.specs.Sums.{when, upto, up}
 use Rattle.common.proofs.Sums.{upto-mono, upto-add, upto-only, upto-but-one, upto-term, up-covers}
 use Rattle.pnet_rules.specs.Segment.{Segment}
 use Rattle.pnet_rules.specs.Limits.{Declared}
 use Rattle.pnet_urgent_rules.specs.Urgent.{ahead, behind, blocked, aheadIn}
-use Rattle.pnet_urgent_rules.proofs.Order.{Ahead, ahead-then, ahead-either, ahead-through}
+use Rattle.pnet_urgent_rules.proofs.Order.{ahead-then, ahead-either, ahead-through}
 use Rattle.pnet_run.specs.Run.{Belongs, Request, request}
 use Rattle.pnet_run.proofs.Counts.{cameSince}
 use Rattle.pnet_run.proofs.Spacing.{InOrder}

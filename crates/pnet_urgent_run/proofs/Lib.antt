@@ -2,4 +2,11 @@ pub mod Kept
 pub mod Heeded
 pub mod Busy
 pub mod Figures
+pub mod Progress
+pub mod Oldest
+pub mod Three
+pub mod Steps
 pub mod Early
+pub mod Laps
+pub mod Exact
+pub mod Needs

@@ -60,11 +60,16 @@ pub record Nothing (now : Held) : Type 0 where
 
 -- ---- The disciplines
 
--- page 02: 'above each master'
-abbrev pub Everyone : ℕ → Type 0
-Everyone m = Unit {0}
+-- how many the stack of master m may hold, as the token stands: by the one reading it takes its next when one is under way
+unfoldable pub besides : ℕ → Token → ℕ
+besides m (toward o d) = 1
+besides m (serving o c) = cond (eqb o m) 2 1
 
--- where `size` tells how many the stack of master m may hold as the token stands, and `Urgent` which masters hand down the most urgent
+-- by the other, when the answer is complete
+abbrev pub one : ℕ → Token → ℕ
+one m y = 1
+
+-- with a stack of that size; `Urgent` says which masters hand down the most urgent
 abbrev pub stackOf : (ℕ → Token → ℕ) → Segment → (ℕ → Type 0) → Discipline
 stackOf size S Urgent = record {
   State = Held;
@@ -75,17 +80,12 @@ stackOf size S Urgent = record {
   Idle = Nothing;
 }
 
--- one, until its answer is complete
-abbrev pub one : ℕ → Token → ℕ
-one m y = 1
-
 abbrev pub stacked : Segment → (ℕ → Type 0) → Discipline
 stacked = stackOf one
 
--- the other reading: one besides the one that is under way
-unfoldable pub besides : ℕ → Token → ℕ
-besides m (toward o d) = 1
-besides m (serving o c) = cond (eqb o m) 2 1
-
 abbrev pub early : Segment → (ℕ → Type 0) → Discipline
 early = stackOf besides
+
+-- page 02: 'above each master'
+abbrev pub Everyone : ℕ → Type 0
+Everyone m = Unit {0}
