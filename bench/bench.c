@@ -20,6 +20,8 @@ int clock_gettime(int clock, struct timespec *now);
    place, else to 0, or to the stream that limits a ring */
 uint64_t planner_pnet(const uint8_t *s, size_t n, uint32_t *bound, size_t bn, uint32_t *refined, size_t rn,
                       uint32_t *rounds, size_t cn, uint64_t *place);
+uint64_t planner_urgent(const uint8_t *s, size_t n, uint32_t *places, size_t pn, uint32_t *figure, size_t fn,
+                        uint32_t *rounds, size_t rn, uint64_t *place);
 uint64_t planner_profibus(const uint8_t *s, size_t n, uint64_t *place);
 uint64_t planner_worldfip(const uint8_t *s, size_t n, uint64_t *rows, size_t rn, uint64_t *place);
 uint64_t planner_capture(const uint8_t *s, size_t n, const uint8_t *c, size_t m, uint64_t *answers, size_t an,
@@ -32,6 +34,7 @@ uint64_t planner_sheet_of(const uint8_t *text, size_t n, uint8_t *s, size_t room
 static uint8_t sheet[16384];
 static size_t length;
 static uint32_t ours[3][32], theirs[3][32];
+static uint32_t our_urgents[3][800], their_urgents[3][800]; /* places, figures and rounds of each stream */
 static uint64_t our_rows[4096], their_rows[4096];
 static uint64_t our_place, their_place;
 
@@ -88,6 +91,69 @@ static void pnet_chain(uint32_t masters, uint32_t busy, uint32_t own, uint32_t s
         pnet_stream(busy + i % others + 1, CYCLE, i < links ? bound + value - 1 : NEVER, bound);
         value += SAVED;
     }
+}
+
+enum { TURN = 48, SLOW = 1000000000 }; /* V of one master with C of 1 bp; and the longest spacing there is */
+
+static void urgent_head(uint32_t masters)
+{
+    length = 0;
+    put(1, 1), put(masters, 1);
+}
+
+/* a stream of each master, with C of 1 bp and D = T */
+static void of_each(uint32_t masters, uint32_t spacing)
+{
+    for (uint32_t k = 1; k <= masters; k++)
+        pnet_stream(k, 1, spacing, spacing);
+}
+
+/* Streams with deadlines of 60 to 540 turns in no order, so that each has to find its place; most are below the bound of first come where a master has
+   80 streams, and are met all the same. */
+static void urgent_sheet(uint32_t masters, uint32_t count)
+{
+    urgent_head(masters);
+    for (uint32_t i = 0; i < count; i++) {
+        uint32_t deadline = (60 + i * 37 % 97 * 5) * masters * 150;
+
+        pnet_stream(i % masters + 1, 50 + i % 50, 2 * deadline, deadline);
+    }
+}
+
+/* Long searches, all accepted: each of `quick` streams of a master takes half of what those ahead leave, and `slow` ones wait for what is left. */
+static void urgent_halves(uint32_t masters, uint32_t quick, uint32_t slow)
+{
+    urgent_head(masters);
+    for (uint32_t i = 1; i <= quick; i++)
+        of_each(masters, (TURN * masters) << i);
+    for (uint32_t i = 0; i < slow; i++)
+        of_each(masters, SLOW);
+}
+
+/* The longest found that is accepted: ten masters, spacings just so that a search goes on by few slots at a time. */
+static void urgent_longest(void)
+{
+    static const uint32_t quick[] = {960,    1920,   3840,   7680,   15360,   30721,   61443,
+                                     122890, 245764, 491997, 983094, 1967365, 3956194, 15776160};
+
+    urgent_head(10);
+    for (unsigned i = 0; i < sizeof quick / sizeof quick[0]; i++)
+        of_each(10, quick[i]);
+    for (uint32_t k = 1; k <= 10; k++)
+        put(7, 1), put(k, 1), put(1, 2), put(7931095, 4), put(7874730, 4), put(56365, 4);
+    for (uint32_t i = 0; i < 65; i++)
+        of_each(10, SLOW);
+}
+
+/* Long searches, refused: the slow streams stand first on the sheet, and the last ones leave them next to nothing, or are too late themselves. */
+static void urgent_refused(uint32_t masters, uint32_t slow, uint32_t a, uint32_t b, uint32_t c)
+{
+    urgent_head(masters);
+    for (uint32_t i = 0; i < slow; i++)
+        of_each(masters, SLOW);
+    of_each(masters, a), of_each(masters, b);
+    if (c)
+        of_each(masters, c);
 }
 
 static uint32_t be32(const uint8_t *p)
@@ -191,6 +257,17 @@ static int their_pnet(void)
 {
     their_place = 0;
     return plain_pnet(sheet, length, theirs[0], 32, theirs[1], 32, theirs[2], 32, &their_place);
+}
+
+static int our_urgent(void)
+{
+    return number_of(planner_urgent(sheet, length, our_urgents[0], 800, our_urgents[1], 800, our_urgents[2], 800, &our_place));
+}
+
+static int their_urgent(void)
+{
+    their_place = 0;
+    return plain_urgent(sheet, length, their_urgents[0], 800, their_urgents[1], 800, their_urgents[2], 800, &their_place);
 }
 
 static int our_profibus(void)
@@ -307,13 +384,14 @@ static long enough(int (*plan)(void))
 }
 
 /* nanoseconds for one call of each: batches of the two by turns, the best of forty, so that a slow moment of the machine does not fall on
-   one of them alone */
+   one of them alone; of three where a call takes long */
 static void timed(int (*a)(void), int (*b)(void), double *best_a, double *best_b)
 {
     long times_a = enough(a), times_b = enough(b);
+    int batches = batch(b, times_b) < 4e7 ? 40 : 3;
 
     *best_a = *best_b = 1e18;
-    for (int i = 0; i < 40; i++) {
+    for (int i = 0; i < batches; i++) {
         double each_a = batch(a, times_a) / (double)times_a, each_b = batch(b, times_b) / (double)times_b;
         *best_a = each_a < *best_a ? each_a : *best_a;
         *best_b = each_b < *best_b ? each_b : *best_b;
@@ -329,6 +407,8 @@ static int agree(void)
     for (int m = 0; m < 4096; m++)
         if (our_rows[m] != their_rows[m])
             return 0;
+    if (memcmp(our_urgents, their_urgents, sizeof our_urgents) != 0)
+        return 0;
     for (int i = 0; i < 800; i++)
         if (we_saw.answers[i] != they_saw.answers[i] || we_saw.largest[i] != they_saw.largest[i] ||
             we_saw.above[i] != they_saw.above[i] || we_saw.left[i] != they_saw.left[i])
@@ -388,14 +468,25 @@ static void line(const char *name, int (*proved)(void), int (*plain)(void))
     printf(" %s\n", refusal ? "(refused)" : "");
 }
 
+/* of a P-NET sheet */
+static size_t front(void)
+{
+    return sheet[2] == 8 ? 4 : 2;
+}
+
+static uint32_t stream_count(void)
+{
+    uint32_t count = 0;
+
+    for (size_t at = front(); at < length; at += sheet[at] == 7 ? 16 : 12)
+        count++;
+    return count;
+}
+
 /* what a P-NET sheet is called: its edition where that is written, J for one whose streams have it, and how many there are */
 static int call(char *name, size_t room)
 {
-    size_t front = sheet[2] == 8 ? 4 : 2;
-    uint32_t late = sheet[front] == 7;
-
-    return snprintf(name, room, "P-NET%s%s, %u streams", front == 2 ? "" : sheet[3] == 2 ? " ed. 2" : " ed. 1", late ? " J" : "",
-                    (uint32_t)(length - front) / (late ? 16 : 12));
+    return snprintf(name, room, "P-NET%s%s, %u streams", front() == 2 ? "" : sheet[3] == 2 ? " ed. 2" : " ed. 1", sheet[front()] == 7 ? " J" : "", stream_count());
 }
 
 /* a P-NET sheet by that, its masters and the greatest round count */
@@ -410,6 +501,22 @@ static void pnet_line(void)
         most = theirs[2][k] > most ? theirs[2][k] : most;
     snprintf(name + at, sizeof name - (size_t)at, ", %u masters, rounds %u", sheet[1], most);
     line(name, our_pnet, their_pnet);
+}
+
+/* urgent requests first, by that, its masters and the rounds of all searches together */
+static void urgent_line(void)
+{
+    char name[80];
+    uint32_t all = 0;
+    int at = call(name, sizeof name), refused = their_urgent();
+
+    at += snprintf(name + at, sizeof name - (size_t)at, ", %u masters", sheet[1]);
+    if (!refused) {
+        for (uint32_t i = 0; i < stream_count(); i++)
+            all += their_urgents[2][i];
+        snprintf(name + at, sizeof name - (size_t)at, ", rounds %u", all);
+    }
+    line(name, our_urgent, their_urgent);
 }
 
 /* its text, written and read */
@@ -462,6 +569,18 @@ int main(void)
     worldfip_sheet(64, 4096, 100);
     line("WorldFIP, 64 variables, 4096 rows, 100 slots", our_worldfip, their_worldfip);
 
+    printf("\n" NAME " %15s %15s %8s\n", "urgent requests first", "proved", "plain C", "ratio");
+    pnet_sheet(2, 3, 100000), urgent_line();
+    pnet_sheet(20, 800, 1000000), urgent_line();
+    with_jitter(500000), urgent_line();
+    pnet_sheet(20, 800, 1000000), with_edition(2, 0), urgent_line();
+    urgent_sheet(10, 100), urgent_line();
+    urgent_sheet(10, 800), urgent_line();
+    urgent_halves(10, 15, 63), urgent_line();
+    urgent_longest(), urgent_line();
+    urgent_refused(1, 77, 49, 2353, 9737785), urgent_line();
+    urgent_refused(10, 78, 481, 235115, 0), urgent_line();
+
     printf("\n" NAME " %15s %15s %8s\n", "text", "proved", "plain C", "ratio");
     pnet_sheet(2, 3, 100000), text_lines();
     pnet_sheet(20, 800, 100000), text_lines();
@@ -496,6 +615,12 @@ int main(void)
     spoiled("P-NET ed. 2, 100 streams, 13 masters", sheet, &length, our_pnet, their_pnet);
     pnet_sheet(10, 100, 100000), with_jitter(50000), with_edition(2, 3);
     spoiled("P-NET ed. 2 J, 100 streams, 13 masters", sheet, &length, our_pnet, their_pnet);
+    urgent_sheet(10, 100);
+    spoiled("urgent first, 100 streams, 10 masters", sheet, &length, our_urgent, their_urgent);
+    with_jitter(5000), with_edition(2, 0);
+    spoiled("urgent first, ed. 2 J, 100 streams, 10 masters", sheet, &length, our_urgent, their_urgent);
+    urgent_halves(3, 8, 4);
+    spoiled("urgent first, 36 streams, 3 masters", sheet, &length, our_urgent, their_urgent);
     profibus_sheet(10, 100);
     spoiled("PROFIBUS, 10 masters, 100 streams", sheet, &length, our_profibus, their_profibus);
     worldfip_sheet(16, 256, 8);

@@ -2,10 +2,11 @@
 
     check_plain.py [--seed S] [--count N]
 
-Each generated sheet goes to all three planners, and with some captures to the
-fourth, with lent runs that are long enough, just long enough and one place too
-short; and each is written as text, and each generated text read as a sheet, in
-the same way. A speed comparison with a planner that answers something else, or that
+Each generated sheet goes to all three planners and to that of urgent requests
+first, and with some captures to the one for these, with lent runs that are long
+enough, just long enough and one place too short; and each is written as text,
+and each generated text read as a sheet, in the same way; and sheets that are made
+for urgent requests first go to their planner. A speed comparison with a planner that answers something else, or that
 spoils lent memory, would mean nothing.
 """
 
@@ -23,6 +24,7 @@ sys.dont_write_bytecode = True
 
 import second_opinion as opinion  # noqa: E402
 import sheets  # noqa: E402
+import sheets_urgent  # noqa: E402
 import texts  # noqa: E402
 
 MARK8 = 0xA5
@@ -47,11 +49,11 @@ def size(n):
     return ctypes.c_size_t(n)
 
 
-def ask_pnet(library, data, lengths):
+def ask_three(planner, data, lengths):
     """The answer, and the three lent runs with two marked places behind each."""
     runs = [(ctypes.c_uint32 * (n + 2))(*[MARK32] * (n + 2)) for n in lengths]
     place = ctypes.c_uint64(MARK64)
-    number = library.plain_pnet(
+    number = planner(
         data, size(len(data)),
         runs[0], size(lengths[0]), runs[1], size(lengths[1]), runs[2], size(lengths[2]),
         ctypes.byref(place),
@@ -59,8 +61,8 @@ def ask_pnet(library, data, lengths):
     return (number, place.value), [list(run) for run in runs]
 
 
-def expected_pnet(data, lengths):
-    plan = opinion.plan_pnet(data, lengths)
+def expected_three(planner, data, lengths):
+    plan = planner(data, lengths)
     runs = [[MARK32] * (n + 2) for n in lengths]
     if isinstance(plan, opinion.Refusal):
         return tuple(plan), runs
@@ -207,11 +209,12 @@ def capture_lengths(data):
             yield tuple(n - 1 if run == short else n for run in range(4))
 
 
-def pnet_lengths(data):
-    yield (32, 32, 32)
+def three_lengths(data, most, of_sheet):
+    """Three runs as long as they ever have to be; and of what the sheet wants, or one of them shorter by one."""
+    yield (most,) * 3
     sheet = opinion.read(data)
     if isinstance(sheet, opinion.Sheet) and sheet.kind == 1:
-        n = sheet.head[0]
+        n = of_sheet(sheet)
         yield (n, n, n)
         yield (n - 1, n, n)
         yield (n, n - 1, n)
@@ -244,11 +247,18 @@ def exchange_differences(library, data):
                 yield "%s, run of %d" % (exchange.__name__, length)
 
 
+def urgent_differences(library, data):
+    for lengths in three_lengths(data, 800, lambda sheet: len(sheet.streams)):
+        if ask_three(library.plain_urgent, data, lengths) != expected_three(opinion.plan_urgent, data, lengths):
+            yield "urgent requests first, runs of %d, %d and %d" % lengths
+
+
 def differences(library, rng, data):
     yield from exchange_differences(library, data)
-    for lengths in pnet_lengths(data):
-        if ask_pnet(library, data, lengths) != expected_pnet(data, lengths):
+    for lengths in three_lengths(data, 32, lambda sheet: sheet.head[0]):
+        if ask_three(library.plain_pnet, data, lengths) != expected_three(opinion.plan_pnet, data, lengths):
             yield "P-NET planner, runs of %d, %d and %d" % lengths
+    yield from urgent_differences(library, data)
     if ask_profibus(library, data) != expected_profibus(data):
         yield "PROFIBUS planner"
     for length in worldfip_lengths(data):
@@ -286,6 +296,12 @@ def main():
             if found:
                 differing += 1
                 print("%s: %s\n  %r" % (name, "; ".join(found), data[:2000]))
+        for name, data in sheets_urgent.sheets(options["--seed"], options["--count"]):
+            compared += 1
+            found = list(urgent_differences(library, data))
+            if found:
+                differing += 1
+                print("%s: %s\n  %s" % (name, "; ".join(found), data[:2000].hex()))
     print("compared %d sheets and texts, %d differ" % (compared, differing))
     return 1 if differing else 0
 

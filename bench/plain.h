@@ -10,6 +10,8 @@ typedef __UINT64_TYPE__ uint64_t;
 
 int plain_pnet(const uint8_t *s, size_t n, uint32_t *bound, size_t bn, uint32_t *refined,
                size_t rn, uint32_t *rounds, size_t cn, uint64_t *place);
+int plain_urgent(const uint8_t *s, size_t n, uint32_t *places, size_t pn, uint32_t *figure,
+                 size_t fn, uint32_t *rounds, size_t rn, uint64_t *place);
 int plain_profibus(const uint8_t *s, size_t n, uint32_t *ttr, uint32_t *stream, uint64_t *place);
 int plain_worldfip(const uint8_t *s, size_t n, uint64_t *rows, size_t rn, uint32_t *row_count,
                    uint64_t *place);

@@ -1,4 +1,4 @@
-"""Write the sample sheets, their texts, captures and paths and their listings, or say whether they are current.
+"""Write the sample sheets, their texts, captures, paths and runs with urgent requests first and their listings, or say whether they are current.
 
     make.py            writes every NAME.sheet, NAME.csv, NAME.capture and NAME.txt beside this file
     make.py --check    changes nothing; exit status 1 if a file is not current
@@ -57,6 +57,11 @@ def of_edition(edition, deadline):
         (2, 1, 203, 100_000, 100_000),
         (2, 2, 303, 100_000, deadline),
     ]
+
+
+def with_an_alarm(deadline, of_second):
+    """One master that is alone, so V is 250 bp: an alarm, and two streams that ask seldom."""
+    return [(1, 1), (2, 1, 203, 500, deadline), (2, 1, 203, 100_000, of_second), (2, 1, 203, 100_000, 100_000)]
 
 
 # Source 004's plant: 5 ms are 384 bp, so its spacings are whole numbers of bp
@@ -199,6 +204,36 @@ SAMPLES = [
         "M01 bound 2223 bp 28945313 ns refined 1749 bp 22773438 ns 2 rounds\n"
         "M02 bound 1482 bp 19296875 ns refined 1482 bp 19296875 ns 2 rounds\n"
         "M03 bound 741 bp 9648438 ns refined 741 bp 9648438 ns 1 rounds\n",
+    ),
+    (
+        "pnet-urgent-first",
+        "Refused with 8: with first come each of the three streams has 750 bp, and the first wants its answer\n"
+        "within 500 bp. Accepted where urgent requests go first: see urgent-first.",
+        with_an_alarm(500, 100_000),
+        0,
+        "refused 8 at stream 1\n",
+    ),
+    (
+        "pnet-urgent-late",
+        "Refused with 8 as pnet-urgent-first is, and with 21 where urgent requests go first: see urgent-late.",
+        with_an_alarm(500, 999),
+        0,
+        "refused 8 at stream 1\n",
+    ),
+    (
+        "pnet-urgent-jitter",
+        "Refused with 8: with first come each of the three streams of master 1 has 3 * 1,050 bp, and D of the\n"
+        "first is 3,000 bp. Accepted where urgent requests go first: see urgent-jitter.",
+        [
+            (1, 3),
+            (8, 2),
+            (7, 1, 203, 10_000, 3_000, 7_000),
+            (2, 1, 203, 100_000, 100_000),
+            (2, 1, 203, 10_000, 10_000),
+            (2, 2, 303, 100_000, 1_050),
+        ],
+        0,
+        "refused 8 at stream 1\n",
     ),
     (
         "profibus-ring",
@@ -699,6 +734,103 @@ PATHS = [
 ]
 
 
+# name, what it shows, a sheet above, named by its text, expected report with urgent requests first
+URGENTS = [
+    (
+        "urgent-first",
+        "Accepted. The alarm, stream 1, has the smallest deadline, so its requests go first: one waits for a less\n"
+        "urgent request that is in the stack already, and then for its own turn, 2 * 250 bp. First come has\n"
+        "750 bp for it, for both other streams may be before it.\n"
+        "\n"
+        "In 1,000 bp the alarm asks twice. So stream 2 waits for two turns of the alarm, for one of stream 3 that is\n"
+        "in the stack, and for its own; stream 3 for two of the alarm, one of stream 2, and its own.\n"
+        "\n"
+        "This holds where the master hands the next request to the stack when the answer to the one before is in,\n"
+        "and not sooner: capture-urgent-above shows what comes of that.",
+        "pnet-urgent-first",
+        "P-NET urgent first\n"
+        "stream 1 M01 place 1 figure 500 bp 6510417 ns 1 rounds deadline 500 bp\n"
+        "stream 2 M01 place 2 figure 1000 bp 13020834 ns 2 rounds deadline 100000 bp\n"
+        "stream 3 M01 place 3 figure 1000 bp 13020834 ns 2 rounds deadline 100000 bp\n"
+        "first come refused 8 at stream 1 bound 750 bp 9765625 ns urgent 500 bp 6510417 ns deadline 500 bp\n",
+    ),
+    (
+        "urgent-late",
+        "Refused with 21. The deadline of stream 2 is one bp below its figure, 1,000 bp: two requests of the alarm\n"
+        "may go before it. With first come it would have 750 bp and be met, and the alarm would not.",
+        "pnet-urgent-late",
+        "refused 21 at stream 2\n",
+    ),
+    (
+        "urgent-jitter",
+        "Accepted, stream 4 just at its figure. Edition 2: V is 3 * 350 = 1,050 bp. In the order of master 1\n"
+        "stream 1 comes first, then stream 3, whose deadline is the next, and stream 2 last.\n"
+        "\n"
+        "A request of stream 1 may come 7,000 bp late, so two of them may be close together, and both go before\n"
+        "the others: 3,150 + 7,000 bp are more than T, 10,000 bp. With J = 0 one would, and the figures of streams 2\n"
+        "and 3 be 3,150 bp. The J of a stream itself does not count for it.",
+        "pnet-urgent-jitter",
+        "P-NET urgent first\n"
+        "stream 1 M01 place 1 figure 2100 bp 27343750 ns 1 rounds deadline 3000 bp\n"
+        "stream 2 M01 place 3 figure 4200 bp 54687500 ns 2 rounds deadline 100000 bp\n"
+        "stream 3 M01 place 2 figure 4200 bp 54687500 ns 2 rounds deadline 10000 bp\n"
+        "stream 4 M02 place 1 figure 1050 bp 13671875 ns 0 rounds deadline 1050 bp\n"
+        "first come refused 8 at stream 1 bound 3150 bp 41015625 ns urgent 2100 bp 27343750 ns deadline 3000 bp\n",
+    ),
+    (
+        "urgent-plant",
+        "Accepted. Source 004's plant, where first come is accepted too: then no figure is above the bound, and the\n"
+        "more urgent a stream is, the further below. Equal deadlines go by the order of the sheet; stream 11 has the\n"
+        "smallest of master 3. The last two in an order have the bound of first come, 3,705 bp at master 3. Its refined\n"
+        "figure, 2,994 bp, is below that, as it counts how seldom the other masters ask, and these figures do not.",
+        "plant-segment-a",
+        "P-NET urgent first\n"
+        "stream 1 M01 place 1 figure 1482 bp 19296875 ns 1 rounds deadline 23040 bp\n"
+        "stream 2 M01 place 2 figure 2223 bp 28945313 ns 1 rounds deadline 23040 bp\n"
+        "stream 3 M01 place 3 figure 2223 bp 28945313 ns 1 rounds deadline 23040 bp\n"
+        "stream 4 M02 place 1 figure 1482 bp 19296875 ns 1 rounds deadline 15360 bp\n"
+        "stream 5 M02 place 2 figure 2223 bp 28945313 ns 1 rounds deadline 15360 bp\n"
+        "stream 6 M02 place 3 figure 2964 bp 38593750 ns 1 rounds deadline 15360 bp\n"
+        "stream 7 M02 place 4 figure 2964 bp 38593750 ns 1 rounds deadline 15360 bp\n"
+        "stream 8 M03 place 2 figure 2223 bp 28945313 ns 1 rounds deadline 38400 bp\n"
+        "stream 9 M03 place 3 figure 2964 bp 38593750 ns 1 rounds deadline 38400 bp\n"
+        "stream 10 M03 place 4 figure 3705 bp 48242188 ns 1 rounds deadline 38400 bp\n"
+        "stream 11 M03 place 1 figure 1482 bp 19296875 ns 1 rounds deadline 23040 bp\n"
+        "stream 12 M03 place 5 figure 3705 bp 48242188 ns 1 rounds deadline 38400 bp\n",
+    ),
+]
+
+# the same of captures, beside the figures of urgent requests first: name, sheet, what it shows, events, expected report
+URGENT_CAPTURES = [
+    (
+        "capture-urgent-within",
+        "pnet-urgent-first",
+        "Every answer within its figure. Streams 2 and 3 ask together, and the alarm, stream 1, asks while stream 2\n"
+        "is served. When that answer is in, at 210 bp, the alarm is handed to the stack before stream 3, and it is\n"
+        "answered at 460 bp.",
+        [(16, 2, 0), (16, 3, 0), (16, 1, 1), (17, 2, 210), (17, 1, 460), (17, 3, 710)],
+        "P-NET capture urgent first\n"
+        "stream 1 M01 bound 500 bp 6510417 ns largest 459 bp 5976563 ns 1 answers 0 above 0 open\n"
+        "stream 2 M01 bound 1000 bp 13020834 ns largest 210 bp 2734375 ns 1 answers 0 above 0 open\n"
+        "stream 3 M01 bound 1000 bp 13020834 ns largest 710 bp 9244792 ns 1 answers 0 above 0 open\n"
+        "every answer within its bound\n",
+    ),
+    (
+        "capture-urgent-above",
+        "pnet-urgent-first",
+        "An answer above its figure, by a driver that hands the next request to the stack too soon. It takes that of\n"
+        "stream 3 when the message of stream 2 starts, and not when its answer is in. So the alarm, stream 1, finds\n"
+        "one before it that is served and one more in the stack, and waits for 709 bp, beyond its deadline too.",
+        [(16, 2, 0), (16, 3, 0), (16, 1, 1), (17, 2, 210), (17, 3, 460), (17, 1, 710)],
+        "P-NET capture urgent first\n"
+        "stream 1 M01 bound 500 bp 6510417 ns largest 709 bp 9231771 ns 1 answers 1 above 0 open\n"
+        "stream 2 M01 bound 1000 bp 13020834 ns largest 210 bp 2734375 ns 1 answers 0 above 0 open\n"
+        "stream 3 M01 bound 1000 bp 13020834 ns largest 460 bp 5989584 ns 1 answers 0 above 0 open\n"
+        "answers above the bound in 1 streams, first stream 1\n",
+    ),
+]
+
+
 def record(kind, *numbers):
     body = b"".join(n.to_bytes(f[0], "big") for n, f in zip(numbers, FIELDS[kind]))
     return bytes([kind]) + body
@@ -732,8 +864,13 @@ def event(kind, stream, stamp):
     return bytes([kind]) + stream.to_bytes(2, "big") + stamp.to_bytes(4, "big")
 
 
-def capture_listing(name, sheet, about, events, report):
-    lines = ["%s.capture, beside %s.sheet" % (name, sheet), ""] + about.split("\n") + [""]
+def hold_to(report, told, name):
+    if told != report.encode("ascii"):
+        sys.exit("%s: the second opinion reports otherwise:\n%s" % (name, told.decode("ascii")))
+
+
+def capture_listing(first, about, events, report):
+    lines = [first, ""] + about.split("\n") + [""]
     for index, (kind, stream, stamp) in enumerate(events):
         place = index * second_opinion.EVENT_LENGTH
         lines.append("byte %d: %s, stream %d, stamp %s bp" % (place, EVENTS[kind], stream, format(stamp, ",")))
@@ -741,22 +878,23 @@ def capture_listing(name, sheet, about, events, report):
 
 
 def capture_files(made):
-    for name, sheet, about, events, report in CAPTURES:
-        data = b"".join(event(*e) for e in events)
-        told = second_opinion.capture_report(made[sheet + ".sheet"], data)
-        if told != report.encode("ascii"):
-            sys.exit("%s: the second opinion reports otherwise:\n%s" % (name, told.decode("ascii")))
-        yield name + ".capture", data
-        yield name + ".txt", capture_listing(name, sheet, about, events, report).encode("ascii")
+    """Beside the bounds, or beside the figures of urgent requests first."""
+    for captures, promised, form in (
+        (CAPTURES, second_opinion.first_come, "%s.capture, beside %s.sheet"),
+        (URGENT_CAPTURES, second_opinion.urgent_first, "%s.capture, urgent requests first, beside %s.sheet"),
+    ):
+        for name, sheet, about, events, report in captures:
+            data = b"".join(event(*e) for e in events)
+            hold_to(report, second_opinion.capture_report(made[sheet + ".sheet"], data, promised), name)
+            yield name + ".capture", data
+            yield name + ".txt", capture_listing(form % (name, sheet), about, events, report).encode("ascii")
 
 
 def sheet_files():
     for name, about, records, cut, report in SAMPLES + CELLS:
         data = b"".join(record(*r) for r in records)
         data = data[: len(data) - cut]
-        if second_opinion.report(data) != report.encode("ascii"):
-            sys.exit("%s: the second opinion reports otherwise:\n%s"
-                     % (name, second_opinion.report(data).decode("ascii")))
+        hold_to(report, second_opinion.report(data), name)
         inside = record_lines(records, cut)
         text = second_opinion.export_sheet(data)
         if not isinstance(text, second_opinion.Refusal):
@@ -769,12 +907,21 @@ def sheet_files():
 def path_files(made):
     for name, about, segments, times, deadline, report in PATHS:
         told = second_opinion.path_report([(made[sheet + ".sheet"], master) for sheet, master in segments], times, deadline)
-        if told != report.encode("ascii"):
-            sys.exit("%s: the second opinion reports otherwise:\n%s" % (name, told.decode("ascii")))
+        hold_to(report, told, name)
         command = "planner --path"
         for number, (sheet, master) in zip([deadline] + times, segments):
             command += " %d bp %s.csv %d" % (number, sheet, master)
-        yield name + ".txt", (command + "\n\n" + about + "\n\nReport:\n\n" + report).encode("ascii")
+        yield name + ".txt", command_listing(command, about, report)
+
+
+def urgent_files(made):
+    for name, about, sheet, report in URGENTS:
+        hold_to(report, second_opinion.urgent_report(made[sheet + ".sheet"]), name)
+        yield name + ".txt", command_listing("planner --urgent %s.csv" % sheet, about, report)
+
+
+def command_listing(command, about, report):
+    return (command + "\n\n" + about + "\n\nReport:\n\n" + report).encode("ascii")
 
 
 def files():
@@ -782,6 +929,7 @@ def files():
     made = dict(sheet_files())
     made.update(capture_files(made))
     made.update(path_files(made))
+    made.update(urgent_files(made))
     return made
 
 

@@ -11,7 +11,7 @@ import sheets
 import sheet_records
 import sheets_pnet
 import texts
-from second_opinion import ANSWER, COUNTER, EVENT_LENGTH, REQUEST
+from second_opinion import ANSWER, COUNTER, EVENT_LENGTH, REQUEST, first_come
 
 # what a program of this project reads at once; any other length is as good a place for a seam
 PIECE = 65_534
@@ -21,9 +21,20 @@ def event(kind, stream, stamp):
     return bytes([kind]) + stream.to_bytes(2, "big") + (stamp % COUNTER).to_bytes(4, "big")
 
 
-def bounds_of(data):
+def small_sheet(rng):
+    """Streams of kind 2, and in half of the sheets some of kind 7; under either edition."""
+    masters = rng.randint(1, 6)
+    share = rng.choice([0, 0, 0.3, 1])
+    streams = []
+    for _ in range(rng.randint(1, 12)):
+        stream = [rng.randint(1, masters), rng.randint(1, 300), 900_000, rng.randint(500_000, 900_000)]
+        streams.append(sheets_pnet.with_jitter(rng, stream) if rng.random() < share else stream)
+    return sheets_pnet.pnet_sheet(masters, streams, sheets_pnet.pnet_edition(rng))
+
+
+def bounds_of(data, promised=first_come):
     """Each stream's bound, or nothing where the sheet is refused."""
-    shown = second_opinion.compare_capture(data, b"")
+    shown = second_opinion.compare_capture(data, b"", promised=promised)
     return None if isinstance(shown, second_opinion.Refusal) else [one.bound for one in shown]
 
 
@@ -58,13 +69,13 @@ def spacings_of(data):
     return [(t, j) for _, _, t, _, j in second_opinion.read(data).streams]
 
 
-def kept_events(rng, data, count):
+def kept_events(rng, data, count, promised=first_come):
     """About so many events in order of time, most of them as the sheet has it: answers within the bound, each request up to J after a time of its own, and
     these times at least T apart."""
     made = []
     fault = rng.choice([None, None, "late", "soon", "both"])
     start = rng.choice([0, COUNTER - rng.randint(1, 5_000), rng.randrange(COUNTER)])
-    bounds, spacings = bounds_of(data), spacings_of(data)
+    bounds, spacings = bounds_of(data, promised), spacings_of(data)
     for i, (bound, (spacing, jitter)) in enumerate(zip(bounds, spacings), start=1):
         due = start + rng.randint(0, spacing)
         now = due + rng.choice([0, jitter, rng.randint(0, jitter)])
@@ -86,27 +97,29 @@ def kept_events(rng, data, count):
     return [event(kind, stream, stamp) for stamp, stream, kind in sorted(made, key=lambda one: one[0])]
 
 
-def kept(rng):
-    data = small_sheet(rng)
-    return data, b"".join(kept_events(rng, data, rng.randint(0, 200)))
+# What is made beside a sheet takes the maker of sheets, and what these are promised.
 
 
-def asked_only(rng):
+def kept(rng, made=small_sheet, promised=first_come):
+    data = made(rng)
+    return data, b"".join(kept_events(rng, data, rng.randint(0, 200), promised))
+
+
+def asked_only(rng, made=small_sheet, promised=first_come):
     """Requests that nothing answers, the last of them a bound or so behind the others."""
-    data = small_sheet(rng)
-    bounds = bounds_of(data)
+    data = made(rng)
     now = rng.randrange(COUNTER)
-    made = []
-    for i, bound in enumerate(bounds, start=1):
-        made.append(event(REQUEST, i, now))
+    asked = []
+    for i, bound in enumerate(bounds_of(data, promised), start=1):
+        asked.append(event(REQUEST, i, now))
         now += rng.choice([0, bound, bound + 1, max(bound - 1, 0), rng.randint(0, 2 * bound)])
-    return data, b"".join(made)
+    return data, b"".join(asked)
 
 
-def silent_for_long(rng):
+def silent_for_long(rng, made=small_sheet, promised=first_come):
     """Nothing is recorded for almost half a round of the counter, or for half of it and more."""
-    data = small_sheet(rng)
-    first, second = kept_events(rng, data, 20), []
+    data = made(rng)
+    first, second = kept_events(rng, data, 20, promised), []
     apart = rng.choice([COUNTER // 2 - 1, COUNTER // 2, COUNTER // 2 + 1, COUNTER - 1])
     last = int.from_bytes(first[-1][3:], "big")
     open_streams = {e[1:3] for e in first if e[0] == REQUEST} - {e[1:3] for e in first if e[0] == ANSWER}
@@ -129,17 +142,6 @@ def closely_asked(rng):
         label = now if label is None or label + t - now > j else max(now, label + t)
         made += [event(REQUEST, 1, now), event(ANSWER, 1, now + 9)]
     return data, b"".join(made)
-
-
-def small_sheet(rng):
-    """Streams of kind 2, and in half of the sheets some of kind 7; under either edition."""
-    masters = rng.randint(1, 6)
-    share = rng.choice([0, 0, 0.3, 1])
-    streams = []
-    for _ in range(rng.randint(1, 12)):
-        stream = [rng.randint(1, masters), rng.randint(1, 300), 900_000, rng.randint(500_000, 900_000)]
-        streams.append(sheets_pnet.with_jitter(rng, stream) if rng.random() < share else stream)
-    return sheets_pnet.pnet_sheet(masters, streams, sheets_pnet.pnet_edition(rng))
 
 
 # ---------------------------------------------------------------- damage
@@ -183,15 +185,15 @@ def repeated(rng, events):
 DAMAGES = [cut, changed_byte, changed_kind, strange_stream, left_out, repeated]
 
 
-def damaged(rng):
-    data = small_sheet(rng)
-    events = good_events(rng, bounds_of(data), rng.randint(1, 60))
+def damaged(rng, made=small_sheet, promised=first_come):
+    data = made(rng)
+    events = good_events(rng, bounds_of(data, promised), rng.randint(1, 60))
     return data, rng.choice(DAMAGES)(rng, events)
 
 
-def good(rng):
-    data = small_sheet(rng)
-    return data, b"".join(good_events(rng, bounds_of(data), rng.randint(0, 200)))
+def good(rng, made=small_sheet, promised=first_come):
+    data = made(rng)
+    return data, b"".join(good_events(rng, bounds_of(data, promised), rng.randint(0, 200)))
 
 
 def any_sheet(rng):
@@ -205,8 +207,8 @@ def beside_a_text(rng):
     return texts.as_text(rng, data), capture
 
 
-def noise(rng):
-    return small_sheet(rng), rng.randbytes(rng.randint(0, 40))
+def noise(rng, made=small_sheet, promised=first_come):
+    return made(rng), rng.randbytes(rng.randint(0, 40))
 
 
 FAMILIES = [

@@ -1,8 +1,9 @@
 """Compare a planner's reports, and what it exports and imports, with the second opinion's, byte by byte.
 
-    compare.py PROGRAM... [--seed S] [--count N] [--captures N] [--paths N] [--texts N] [--jobs J]
+    compare.py PROGRAM... [--seed S] [--count N] [--captures N] [--paths N] [--texts N] [--urgents N] [--jobs J]
 
-So many sheets, then so many pairs of a sheet and a capture, then so many paths, then so many texts. Two runs are made on each text.
+So many sheets, then so many pairs of a sheet and a capture, then so many paths, then so many texts, then so many sheets with urgent requests first,
+some beside a capture. Two runs are made on each text.
 
 PROGRAM may be several words, so that a program built for another machine can
 be run under an emulator. Its exit status is held to the second opinion's too.
@@ -24,14 +25,15 @@ import paths  # noqa: E402
 import second_opinion  # noqa: E402
 import sheets  # noqa: E402
 import texts  # noqa: E402
-from second_opinion import Refusal  # noqa: E402
+import urgents  # noqa: E402
+from second_opinion import Refusal, urgent_first  # noqa: E402
 
 SECONDS_FOR_A_SHEET = 120
 # below this count a missing outcome says nothing about the generator
 COUNT_THAT_MEETS_ALL = 1000
 LEAST_OF_EACH = 10
 
-ACCEPTED = ["P-NET segment", "PROFIBUS ring", "WorldFIP table", "P-NET path"]
+ACCEPTED = ["P-NET segment", "PROFIBUS ring", "WorldFIP table", "P-NET path", "P-NET urgent first"]
 OF_SHEETS = ["accepted, " + head for head in ACCEPTED[:3]] + [
     "refused %d" % number for number in range(1, 13)
 ] + ["accepted, P-NET segment, by J", "accepted, P-NET segment, by edition 2", "refused 8, by edition 2"]
@@ -58,12 +60,24 @@ OF_TEXTS = ["import accepted, kind 1", "import accepted, kind 1 with kind 8", "i
     "export accepted, kind 1", "export accepted, kind 1 with kind 8", "export accepted, kind 5", "export refused 2 for kind 3", "export refused by reading", "export refused 23",
 ] + ["report of it: " + one for one in ("accepted, P-NET segment", "accepted, WorldFIP table", "refused 23")]
 
+MANY_ROUNDS = 100
+# by reading: 1 to 7, but for 3 at byte 0, which is that of another bus too
+OF_URGENTS = [
+    "urgent accepted", "urgent accepted, first come refused 8", "urgent accepted, first come refused 8, by J", "urgent accepted, by edition 2",
+    "urgent accepted, of %d rounds or more" % MANY_ROUNDS,
+    "urgent refused 21", "urgent refused 21, by J", "urgent refused 21, by edition 2", "urgent refused 3 at byte 0", "urgent refused by reading", "urgent refused 23",
+] + ["beside x: " + one for one in OF_CAPTURES[2:6]] + [
+    "beside x: " + one for one in ("every answer within its bound", "every answer within its bound, not so beside R", "answers above the bound, not so beside R")
+] + [
+    "beside x: " + one for one in ("capture refused", "sheet refused 21", "sheet refused 23", "sheet refused before that")
+]
+
 
 def outcome(report):
     lines = report.decode("ascii").splitlines()
     if lines[0] in ACCEPTED:
         return "accepted, " + lines[0]
-    if lines[0] == "P-NET capture":
+    if lines[0] in second_opinion.CAPTURE_HEADS.values():
         return next(one for one in OF_CAPTURES if lines[-1].startswith(one))
     refused = " ".join(lines[0].split()[:2])
     if " of segment " in lines[0]:
@@ -264,8 +278,65 @@ def runs_on_texts(program, seed, count):
             yield program, name, command, data, number // 3 % 3
 
 
+def outcome_of_urgent(given, expected):
+    """What --urgent makes of a sheet, and what is special about that."""
+    head, *lines = expected.decode("ascii").splitlines()
+    one = "urgent accepted"
+    if head.startswith("refused "):
+        one = "urgent " + (head if head == "refused 3 at byte 0" else "refused by reading" if int(head.split()[1]) <= 7 else " ".join(head.split()[:2]))
+    elif max(int(line.split(" rounds ")[0].split()[-1]) for line in lines if line.startswith("stream ")) >= MANY_ROUNDS:
+        return "urgent accepted, of %d rounds or more" % MANY_ROUNDS
+    elif lines[-1].startswith("first come refused 8"):
+        one = "urgent accepted, first come refused 8"
+    return with_cause(one, OF_URGENTS, second_opinion.sheet_given(given), second_opinion.urgent_report, expected)
+
+
+def outcome_beside_figures(given, capture, expected):
+    """What a capture shows beside the figures, and whether it shows something else beside the bounds of first come."""
+    head, *lines = expected.decode("ascii").splitlines()
+    if head.startswith("refused "):
+        number = int(head.split()[1])
+        return "beside x: " + ("capture refused" if " capture " in head else "sheet refused %s" % ("before that" if number <= 7 else number))
+    one = "beside x: " + outcome(expected)
+    named = one + ", not so beside R"
+    return named if named in OF_URGENTS and second_opinion.capture_lines(given, capture)[-1] != lines[-1] else one
+
+
+def never_worse(given):
+    """Whether urgent requests first accept what first come accepts, with no figure above the bound."""
+    data = second_opinion.sheet_given(given)
+    if isinstance(data, Refusal):
+        return True
+    bounds, figures = second_opinion.first_come(data), urgent_first(data)
+    return isinstance(bounds, Refusal) or (not isinstance(figures, Refusal) and all(x <= bound for x, bound in zip(figures, bounds)))
+
+
+def compare_urgent(task):
+    """By a file's name, by `-` or, without a capture, by no word."""
+    program, name, data, capture = task
+    assert never_worse(data), data.hex()
+    alone = capture is None
+    expected = second_opinion.urgent_report(data) if alone else second_opinion.capture_report(data, capture, urgent_first)
+    one = outcome_of_urgent(data, expected) if alone else outcome_beside_figures(data, capture, expected)
+    contents = [data] if alone else [data, capture]
+    with tempfile.TemporaryDirectory() as folder:
+        names = [os.path.join(folder, part) for part in ("a.sheet", "a.capture")[: len(contents)]]
+        for path, content in zip(names, contents):
+            with open(path, "wb") as file:
+                file.write(content)
+        way = sum(map(len, contents)) % 3
+        given = b""
+        if way < len(names):
+            names[way], given = "-", contents[way]
+        elif alone and way == 1:
+            names, given = [], data
+        label = "--urgent on %s" % name + ("" if alone else ", sheet %s" % shortened(data.hex(), 400))
+        _, difference = compare_one((program + ["--urgent"] + names, label, contents[-1], given, expected))
+    return one, difference
+
+
 def arguments(words):
-    options = {"--seed": 1, "--count": 3000, "--captures": 1000, "--paths": 1000, "--texts": 1000, "--jobs": os.cpu_count() or 1}
+    options = {"--seed": 1, "--count": 3000, "--captures": 1000, "--paths": 1000, "--texts": 1000, "--urgents": 1500, "--jobs": os.cpu_count() or 1}
     program = []
     rest = iter(words)
     for word in rest:
@@ -307,7 +378,7 @@ def main():
     if shutil.which(program[0]) is None:
         sys.exit("no such program: %s" % program[0])
     seed, jobs = options["--seed"], options["--jobs"]
-    count, pairs, ways, written = (options[word] for word in ("--count", "--captures", "--paths", "--texts"))
+    count, pairs, ways, written, urgent = (options[word] for word in ("--count", "--captures", "--paths", "--texts", "--urgents"))
     tasks = ((program, name, data) for name, data in sheets.sheets(seed, count))
     good = compare_all(compare_sheet, tasks, count, OF_SHEETS, jobs, "sheets")
     tasks = ((program, *pair) for pair in captures.captures(seed, pairs))
@@ -316,6 +387,8 @@ def main():
     good &= compare_all(compare_path, tasks, ways, OF_PATHS, jobs, "paths")
     tasks = runs_on_texts(program, seed, written)
     good &= compare_all(compare_text, tasks, written, OF_TEXTS, jobs, "runs on texts")
+    tasks = ((program, *one) for one in urgents.urgents(seed, urgent))
+    good &= compare_all(compare_urgent, tasks, urgent, OF_URGENTS, jobs, "sheets with urgent requests first")
     return 0 if good else 1
 
 

@@ -16,6 +16,7 @@ sys.path.insert(0, os.path.dirname(os.path.abspath(__file__)))
 sys.dont_write_bytecode = True
 
 import second_opinion  # noqa: E402
+import sheets_urgent  # noqa: E402
 import slips  # noqa: E402
 
 ROOT = pathlib.Path(__file__).resolve().parent.parent
@@ -67,9 +68,10 @@ PHRASES = (
     "wherever SHEET stands",
     "A ring of kind 3 has no text",
     "dragging counts up, 203 bp becomes 204 bp",
+    "--urgent ",
 )
 # those that a program can show: its own room is never short, so 13 is not among them
-REFUSALS = [number for number in range(1, 20) if number != 13] + [23]
+REFUSALS = [number for number in range(1, 20) if number != 13] + [21, 23]
 GOOD_SHEET = bytes.fromhex("0101020100cb000003e8000003e8")
 # T 1000, D 700, J 300
 JITTER_SHEET = bytes.fromhex("0101070100cb000003e8000002bc0000012c")
@@ -77,6 +79,10 @@ JITTER_SHEET = bytes.fromhex("0101070100cb000003e8000002bc0000012c")
 EDITION_SHEET = bytes.fromhex("01020802020100cb000003e8000003e8")
 EDITION_TEXT = b"pnet-segment,2\n" + slips.EDITION + slips.STREAM
 LONGEST_SHEET = bytes([1, 32, 8, 2]) + b"".join(bytes([7, 1 + i % 32]) + JITTER_SHEET[4:] for i in range(800))
+# an alarm with D of 500 bp before two slow streams, V of 250 bp: first come has 750 bp for each
+URGENT_SHEET = bytes.fromhex("0101" "020100cb000001f4000001f4" + "020100cb000186a0000186a0" * 2)
+# D of 499 bp, below its figure
+LATE_SHEET = URGENT_SHEET.replace(bytes.fromhex("000001f4000001f4"), bytes.fromhex("000001f3000001f3"))
 RING_SHEET = bytes.fromhex("03010000012c000001f4" "040100000190000020d0")
 BAD_TEXT = slips.TEXT.replace(b"203 bp", b"203bp")
 # 64 variables in each of 4,096 rows: no pipe holds its report
@@ -234,13 +240,20 @@ def word_troubles(program, folder, sheet):
     yield from complaint_troubles(program, [""], ": ")
     yield from complaint_troubles(program, ["-", "-"], "standard input")
     closed = ["sh", "-c", '"$@" <&-', "sh"] + program
-    for words in ([], ["-"], [sheet, "-"], ["-", sheet], ["--path", "9", "bp", "-", "1"]):
+    for words in ([], ["-"], [sheet, "-"], ["-", sheet], ["--path", "9", "bp", "-", "1"], ["--urgent", sheet, "-"], ["--urgent", "-", sheet]):
         yield from complaint_troubles(closed, words, "planner: standard input: Bad file descriptor\n")
     yield from path_troubles(program, sheet, missing)
-    for command in ("--export", "--import"):
+    for words in (["--urgent", sheet, missing], ["--urgent", missing, sheet], ["--urgent", missing, missing]):
+        yield from complaint_troubles(program, words, "%s: No such file" % missing)
+    for words in (["--urgent", sheet, folder], ["--urgent", folder, sheet]):
+        yield from complaint_troubles(program, words, "%s: Is a directory" % folder)
+    yield from complaint_troubles(program, ["--urgent", sheet, "x" * 5000], "%s..: longer than" % ("x" * 60))
+    yield from complaint_troubles(program, ["--urgent", sheet, "--help"], "unknown option --help; planner --help")
+    yield from complaint_troubles(program, ["--urgent", "-", "-"], "standard input")
+    for command, most in (("--export", 1), ("--import", 1), ("--urgent", 2)):
         yield from complaint_troubles(program, [command, missing], "%s: No such file" % missing)
         yield from complaint_troubles(program, [command, folder], "%s: Is a directory" % folder)
-        yield from complaint_troubles(program, [command, sheet, sheet], "too many words")
+        yield from complaint_troubles(program, [command] + [sheet] * (most + 1), "too many words")
         yield from complaint_troubles(program, [command, "--help"], "unknown option --help; planner --help")
         yield from complaint_troubles(program, [command, "x" * 5000], "%s..: longer than" % ("x" * 60))
         for words in ([command], [command, "-"]):
@@ -376,6 +389,66 @@ def text_troubles(program, folder, sheet):
     yield from long_troubles(program)
 
 
+# ---------------------------------------------------------------- urgent requests first
+
+
+def report_troubles(program, words, report, data=b""):
+    """A report as it has to be, with its status, and nothing said beside it."""
+    expected = (report, "", second_opinion.status(report.splitlines()))
+    if run(program, words, data) != expected:
+        yield "%s: %r, not %r" % (words, run(program, words, data), expected)
+
+
+def urgent_troubles(program, folder):
+    """A sheet that only they accept: by name and on standard input, as bytes and as text, alone and beside a capture."""
+    sheet, text = os.path.join(folder, "urgent.sheet"), os.path.join(folder, "urgent.csv")
+    contents = {sheet: URGENT_SHEET, text: second_opinion.export_sheet(URGENT_SHEET)}
+    report = second_opinion.urgent_report(URGENT_SHEET).decode("ascii")
+    for name, data in contents.items():
+        with open(name, "wb") as file:
+            file.write(data)
+        for words, given in (([name], b""), (["-"], data), ([], data)):
+            yield from report_troubles(program, ["--urgent"] + words, report, given)
+        for took, ending in ((500, 0), (501, 1)):
+            capture = event(16, 1, 0) + event(17, 1, took)
+            beside = second_opinion.capture_report(data, capture, second_opinion.urgent_first).decode("ascii")
+            assert second_opinion.status(beside.splitlines()) == ending
+            with tempfile.NamedTemporaryFile() as file:
+                file.write(capture)
+                file.flush()
+                for words, given in (([name, "-"], capture), (["-", file.name], data), ([name, file.name], b"")):
+                    yield from report_troubles(program, ["--urgent"] + words, beside, given)
+        # without the command it is refused as ever
+        yield from report_troubles(program, [name], "refused 8 at stream 1\n")
+    for data, told in (
+        (LATE_SHEET, "refused 21 at stream 1\n"),
+        (RING_SHEET, "refused 3 at byte 0\n"),
+        (TABLE, "refused 3 at byte 0\n"),
+        (URGENT_SHEET[:-1], "refused 1 at byte 26\n"),
+        (b"", "refused 1 at byte 0\n"),
+    ):
+        yield from report_troubles(program, ["--urgent"], told, data)
+        # the sheet is refused before the capture
+        with tempfile.NamedTemporaryFile() as capture:
+            capture.write(b"\x02")
+            capture.flush()
+            yield from report_troubles(program, ["--urgent", "-", capture.name], told, data)
+    yield from report_troubles(program, ["--urgent", sheet, "-"], "refused 2 at capture byte 0\n", b"\x02")
+    out, err, status = run(program, ["--urgent"], BAD_TEXT)
+    if (out, status) != ("refused 23 at line 2\n", 1) or ": line 2, column 18 has 'bp'; wanted there: a blank" not in err:
+        yield "--urgent on a bad text: wrote %r, said %r and ended with %d" % (out, err, status)
+
+
+def slow_troubles(program):
+    """The longest searches that are known, each within the time of a call: the sum of all figures and of all rounds, or the refusal."""
+    for name, data, expected in sheets_urgent.longest():
+        done = slips.call(program, ["--urgent"], data, env=AS_BUILT, timeout=60)
+        lines = [line.split() for line in done.stdout.decode("ascii").splitlines() if line.startswith("stream ")]
+        found = (sum(int(words[6]) for words in lines), sum(int(words[10]) for words in lines)) if lines else done.stdout.decode("ascii")
+        if found != expected:
+            yield "%s: %r, not %r" % (name, found, expected)
+
+
 # ---------------------------------------------------------------- statuses
 
 
@@ -422,6 +495,11 @@ def status_troubles(program, sheet):
         for stamps, ending in (((700,), 0), ((699,), 1), ((700, 1400), 1), ((700, 1699), 1), ((700, 1700), 0)):
             capture = asked + answered + b"".join(event(16, 1, stamp) + event(17, 1, stamp + 9) for stamp in stamps)
             yield from end_troubles(program, [jitter.name, "-"], ending, capture)
+    for data, ending in ((GOOD_SHEET, 0), (URGENT_SHEET, 0), (LATE_SHEET, 1), (RING_SHEET, 1), (b"", 1)):
+        for words in (["--urgent"], ["--urgent", "-"]):
+            yield from end_troubles(program, words, ending, data)
+    for capture, ending in ((asked + answered, 0), (asked + event(17, 1, 251), 1), (asked, 1), (b"", 1), (answered, 1)):
+        yield from end_troubles(program, ["--urgent", sheet, "-"], ending, capture)
     path = ["bp", sheet, "1", "5", "bp", sheet, "1"]
     yield from end_troubles(program, ["--path", "510"] + path, 0)
     yield from end_troubles(program, ["--path", "509"] + path, 1)
@@ -436,6 +514,7 @@ def cut_troubles(program, sheet):
         table.write(TABLE)
         table.flush()
         calls = [[sheet], [sheet, capture.name], ["--path", "510", "bp", sheet, "1", "5", "bp", sheet, "1"], ["--path", "1", "bp"], ["--help"], [table.name], ["--export", sheet], ["--export", table.name]]
+        calls += [["--urgent", sheet], ["--urgent", sheet, capture.name], ["--urgent", table.name]]
         for words in calls:
             with open("/dev/full", "wb") as full:
                 done = subprocess.run(program + words, stdout=full, stderr=subprocess.PIPE, check=False, env=AS_BUILT)
@@ -453,7 +532,7 @@ def cut_troubles(program, sheet):
 
 def terminal_troubles(program):
     """No name, and someone at a terminal: the usage, and 2."""
-    for words in ([], ["--export"], ["--import"]):
+    for words in ([], ["--export"], ["--import"], ["--urgent"]):
         controller, terminal = pty.openpty()
         done = subprocess.run(
             program + words, stdin=terminal, stdout=subprocess.PIPE, stderr=subprocess.PIPE, timeout=60, check=False, env=AS_BUILT)
@@ -467,9 +546,9 @@ def terminal_troubles(program):
 
 
 def script_troubles(program, sheet):
-    """The script says what the program says, without it."""
+    """The script says what the program says, without it where it can, and takes each command for one."""
     script = [str(ROOT / "plan")]
-    for words in (["--help"], ["-h"], ["--hlep"], ["-x", sheet], [sheet, "-\x1b\\"], ["-" + "x" * 5000]):
+    for words in (["--help"], ["-h"], ["--hlep"], ["-x", sheet], [sheet, "-\x1b\\"], ["-" + "x" * 5000], ["--urgent", sheet]):
         if run(script, words) != run(program, words):
             yield "%s: the script says %r, the program %r" % (words, run(script, words), run(program, words))
     version = run(script, ["--version"])[0].splitlines()
@@ -520,6 +599,8 @@ def main(program):
             file.write(GOOD_SHEET)
         troubles += word_troubles(program, folder, sheet)
         troubles += text_troubles(program, folder, sheet)
+        troubles += urgent_troubles(program, folder)
+        troubles += slow_troubles(program)
         troubles += status_troubles(program, sheet)
         troubles += cut_troubles(program, sheet)
         troubles += terminal_troubles(program)

@@ -1,5 +1,5 @@
-"""Run a planner on every sample sheet, text, capture and path and compare its report with the one in the listing, and its exit status
-with the second opinion's; and turn each sheet into its text and back.
+"""Run a planner on every sample sheet, text, capture and path, and with urgent requests first where a listing says so, and compare its report
+with the one in the listing, and its exit status with the second opinion's; and turn each sheet into its text and back.
 
     samples.py PROGRAM...
 """
@@ -51,14 +51,15 @@ def of_text(program, text):
 
 def of_capture(program, capture):
     first, expected = listed(capture)
+    words = program + ["--urgent"] * (", urgent requests first, " in first)
     beside = SAMPLES / first.split(", beside ")[1]
     for sheet in (beside, beside.with_suffix(".csv")):
-        yield reported(program + [str(sheet), str(capture)], expected)
+        yield reported(words + [str(sheet), str(capture)], expected)
 
 
-def of_path(program, path):
+def of_command(program, listing):
     """The listing's first line is the command as a user in the samples' folder would type it, with texts; the sheets give the same."""
-    first, expected = listed(path)
+    first, expected = listed(listing)
     texts = [str(SAMPLES / word) if word.endswith(".csv") else word for word in first.split()[1:]]
     sheets = [word[: -len(".csv")] + ".sheet" if word.endswith(".csv") else word for word in texts]
     for words in (texts, sheets):
@@ -69,11 +70,11 @@ def main(program):
     if not program:
         sys.exit(__doc__)
     found, wrong = [], 0
-    for tried, pattern in ((of_sheet, "*.sheet"), (of_text, "*.csv"), (of_capture, "*.capture"), (of_path, "path-*.txt")):
+    for tried, pattern in ((of_sheet, "*.sheet"), (of_text, "*.csv"), (of_capture, "*.capture"), (of_command, "path-*.txt"), (of_command, "urgent-*.txt")):
         files = sorted(SAMPLES.glob(pattern))
         found.append(len(files))
         wrong += sum(sum(tried(program, file)) for file in files)
-    print("%d sample sheets, %d texts, %d captures, %d paths, %d reports differ" % (*found, wrong))
+    print("%d sample sheets, %d texts, %d captures, %d paths, %d runs with urgent requests first, %d reports differ" % (*found, wrong))
     return 1 if wrong or 0 in found else 0
 
 

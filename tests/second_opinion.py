@@ -6,7 +6,8 @@ figure is worked out by the formula with its minus signs, and the WorldFIP
 table with lists of pending requests.
 
 As a command it reads a sheet from standard input and writes the report; with the names of a sheet and of a
-capture it writes the report of the capture. A sheet may be given as text or as bytes.
+capture it writes the report of the capture. With --urgent before them it is the report of urgent requests first.
+A sheet may be given as text or as bytes.
 """
 
 import math
@@ -24,6 +25,8 @@ Sheet = namedtuple("Sheet", "kind head edition streams records")
 
 # one number for each of the masters 1..N
 PnetPlan = namedtuple("PnetPlan", "bound refined rounds")
+# one number for each stream, in sheet order; place: in its master's order of urgency, from 1
+UrgentPlan = namedtuple("UrgentPlan", "place figure rounds")
 ProfibusPlan = namedtuple("ProfibusPlan", "ttr stream")
 # rank: variable numbers (from 1, in sheet order), best rank first
 WorldfipPlan = namedtuple("WorldfipPlan", "microcycle slots rows rank")
@@ -350,6 +353,17 @@ def ceiling(a, b):
     return -(-a // b)
 
 
+def charges(sheet):
+    """H of each master, as the sheet's edition has it."""
+    masters = range(1, sheet.head[0] + 1)
+    cycles = {y: [stream[1] for stream in sheet.streams if stream[0] == y] for y in masters}
+    hold = {y: REACTION + TOKEN_PASS + max(cycles[y]) if cycles[y] else UNUSED_VISIT for y in masters}
+    if sheet.edition == 2:
+        # every master is charged the largest H, one without streams too
+        hold = dict.fromkeys(masters, max(hold.values()))
+    return hold
+
+
 def plan_pnet(data, lent=None):
     """Bounds, refined figures and rounds; `lent` holds the runs' three lengths."""
     sheet = read_for(data, 1)
@@ -360,23 +374,12 @@ def plan_pnet(data, lent=None):
         return Refusal(13, n)
 
     masters = range(1, n + 1)
-    cycles = {y: [] for y in masters}
     spacings = {y: [] for y in masters}
-    for master, c, t, _, j in sheet.streams:
-        cycles[master].append(c)
+    for master, _, t, _, j in sheet.streams:
         spacings[master].append((t, j))
-
-    hold = {}
-    for y in masters:
-        if cycles[y]:
-            hold[y] = REACTION + TOKEN_PASS + max(cycles[y])
-        else:
-            hold[y] = UNUSED_VISIT
-    if sheet.edition == 2:
-        # every master is charged the largest H, one without streams too
-        hold = dict.fromkeys(masters, max(hold.values()))
+    hold = charges(sheet)
     turn = sum(hold.values())
-    bound = {k: len(cycles[k]) * turn for k in masters}
+    bound = {k: len(spacings[k]) * turn for k in masters}
 
     for number, (master, _, _, d, _) in enumerate(sheet.streams, start=1):
         if bound[master] > d:
@@ -385,7 +388,7 @@ def plan_pnet(data, lent=None):
     refined = {}
     rounds = {}
     for k in masters:
-        s = len(cycles[k])
+        s = len(spacings[k])
         if s == 0:
             refined[k] = 0
             rounds[k] = 0
@@ -416,6 +419,56 @@ def plan_pnet(data, lent=None):
         [refined[k] for k in masters],
         [rounds[k] for k in masters],
     )
+
+
+# ---------------------------------------------------------------- urgent requests first
+
+
+def urgent_order(streams, master):
+    """The master's streams, by their indices: the smaller D first, and equal ones as on the sheet."""
+    own = [i for i, stream in enumerate(streams) if stream[0] == master]
+    # sorting is stable
+    return sorted(own, key=lambda i: streams[i][3])
+
+
+def urgent_figure(turn, ahead, last, deadline):
+    """x and its rounds, or nothing where the search comes above D; `ahead` holds T and J of each stream ahead."""
+    blocked = 0 if last else 1
+    m = 0
+    x = turn
+    while x <= deadline:
+        following = turn * (1 + blocked + sum(ceiling(x + j, t) for t, j in ahead))
+        if following == x:
+            return x, m
+        m += 1
+        x = following
+    return None
+
+
+def plan_urgent(data, lent=None):
+    """For each stream its place, its figure and its rounds; `lent` holds the runs' three lengths.
+
+    The streams are searched in sheet order, and the first that is not accepted ends it: a search may be long.
+    """
+    sheet = read_for(data, 1)
+    if isinstance(sheet, Refusal):
+        return sheet
+    streams = sheet.streams
+    if lent is not None and min(lent) < len(streams):
+        return Refusal(13, len(streams))
+    turn = sum(charges(sheet).values())
+    orders = {k: urgent_order(streams, k) for k in {stream[0] for stream in streams}}
+    plan = UrgentPlan([], [], [])
+    for i, (master, _, _, deadline, _) in enumerate(streams):
+        order = orders[master]
+        rank = order.index(i)
+        ahead = [(streams[other][2], streams[other][4]) for other in order[:rank]]
+        found = urgent_figure(turn, ahead, i == order[-1], deadline)
+        if found is None:
+            return Refusal(21, i + 1)
+        for run, number in zip(plan, (rank + 1, *found)):
+            run.append(number)
+    return plan
 
 
 # ---------------------------------------------------------------- PROFIBUS
@@ -533,20 +586,29 @@ def hear(capture, bounds):
     return figures
 
 
-def compare_capture(data, capture, lent=None):
-    """What a capture shows beside the bounds of a sheet; `lent` is the length of the shortest lent run."""
-    sheet = read(data)
+def first_come(data):
+    """The bound of each stream, its master's R, or the first refusal."""
+    plan = plan_pnet(data)
+    return plan if isinstance(plan, Refusal) else [plan.bound[stream[0] - 1] for stream in read(data).streams]
+
+
+def urgent_first(data):
+    """The figure x of each stream, or the first refusal."""
+    plan = plan_urgent(data)
+    return plan if isinstance(plan, Refusal) else plan.figure
+
+
+def compare_capture(data, capture, lent=None, promised=first_come):
+    """What a capture shows beside what a sheet is promised; `lent` is the length of the shortest lent run."""
+    sheet = read_for(data, 1)
     if isinstance(sheet, Refusal):
         return sheet
-    if sheet.kind != 1:
-        return Refusal(3, 0)
     if lent is not None and lent < len(sheet.streams):
         return Refusal(13, len(sheet.streams))
-    plan = plan_pnet(data)
-    if isinstance(plan, Refusal):
-        return plan
+    bounds = promised(data)
+    if isinstance(bounds, Refusal):
+        return bounds
     masters = [stream[0] for stream in sheet.streams]
-    bounds = [plan.bound[master - 1] for master in masters]
     figures = hear(capture, bounds)
     if isinstance(figures, Refusal):
         return figures
@@ -615,7 +677,7 @@ def refusal_line(refusal):
     line = "refused %d" % number
     if number <= 7:
         line += " at byte %d" % place
-    elif number in (8, 9):
+    elif number in (8, 9, 21):
         line += " at stream %d" % place
     elif number == 12:
         line += " at variable %d" % place
@@ -676,16 +738,54 @@ def report(given):
     return "".join(line + "\n" for line in report_lines(given)).encode("ascii")
 
 
-def capture_lines(given, capture):
+def urgent_lines(given):
+    data = sheet_given(given)
+    plan = data if isinstance(data, Refusal) else plan_urgent(data)
+    if isinstance(plan, Refusal):
+        return [refusal_line(plan)]
+    streams = read(data).streams
+    lines = ["P-NET urgent first"]
+    for number, (stream, place, x, rounds) in enumerate(zip(streams, *plan), start=1):
+        lines.append(
+            "stream %d M%02d place %d figure %d bp %d ns %d rounds deadline %d bp"
+            % (number, stream[0], place, x, ns_up(x), rounds, stream[3])
+        )
+    return lines + first_come_lines(data, streams, plan.figure)
+
+
+def first_come_lines(data, streams, figures):
+    """What first come makes of the sheet, where it refuses it: the first stream whose bound is above its deadline."""
+    refused = plan_pnet(data)
+    if not isinstance(refused, Refusal):
+        return []
+    assert refused.number == 8
+    master, _, _, deadline, _ = streams[refused.place - 1]
+    bound = sum(stream[0] == master for stream in streams) * sum(charges(read(data)).values())
+    x = figures[refused.place - 1]
+    return [
+        "first come refused 8 at stream %d bound %d bp %d ns urgent %d bp %d ns deadline %d bp"
+        % (refused.place, bound, ns_up(bound), x, ns_up(x), deadline)
+    ]
+
+
+def urgent_report(given):
+    """The program's standard output for this sheet with urgent requests first, byte for byte."""
+    return "".join(line + "\n" for line in urgent_lines(given)).encode("ascii")
+
+
+CAPTURE_HEADS = {first_come: "P-NET capture", urgent_first: "P-NET capture urgent first"}
+
+
+def capture_lines(given, capture, promised=first_come):
     data = sheet_given(given)
     # a sheet that is accepted beside an empty capture is refused by nothing but the capture
-    sheet = data if isinstance(data, Refusal) else compare_capture(data, b"")
+    sheet = data if isinstance(data, Refusal) else compare_capture(data, b"", promised=promised)
     if isinstance(sheet, Refusal):
         return [refusal_line(sheet)]
-    shown = compare_capture(data, capture)
+    shown = compare_capture(data, capture, promised=promised)
     if isinstance(shown, Refusal):
         return ["refused %d at capture byte %d" % shown]
-    lines = ["P-NET capture"]
+    lines = [CAPTURE_HEADS[promised]]
     for number, one in enumerate(shown, start=1):
         lines.append(
             "stream %d M%02d bound %d bp %d ns largest %d bp %d ns %d answers %d above %d open"
@@ -737,14 +837,14 @@ def capture_findings(data, capture, shown):
     return found
 
 
-def capture_report(given, capture):
+def capture_report(given, capture, promised=first_come):
     """The program's standard output for this sheet and this capture, byte for byte."""
-    return "".join(line + "\n" for line in capture_lines(given, capture)).encode("ascii")
+    return "".join(line + "\n" for line in capture_lines(given, capture, promised)).encode("ascii")
 
 
 def status(lines):
     """The planner's exit status for these lines of a report: 1 for a refusal and for what is wrong in a capture, else 0."""
-    if lines[0] == "P-NET capture":
+    if lines[0] in CAPTURE_HEADS.values():
         return 0 if lines[-1] == "every answer within its bound" else 1
     return 1 if lines[0].startswith("refused ") else 0
 
@@ -776,11 +876,13 @@ def path_report(segments, times, deadline):
 
 
 def main(names):
+    urgent = names[:1] == ["--urgent"]
+    names = names[urgent:]
     if len(names) == 2:
         data, capture = (open(name, "rb").read() for name in names)
-        sys.stdout.buffer.write(capture_report(data, capture))
+        sys.stdout.buffer.write(capture_report(data, capture, urgent_first if urgent else first_come))
     else:
-        sys.stdout.buffer.write(report(sys.stdin.buffer.read()))
+        sys.stdout.buffer.write((urgent_report if urgent else report)(sys.stdin.buffer.read()))
 
 
 if __name__ == "__main__":

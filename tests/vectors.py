@@ -45,6 +45,8 @@ def shown(answer):
         return "R %s; W %s; rounds %s" % tuple(
             " ".join(str(x) for x in run) for run in answer
         )
+    if isinstance(answer, opinion.UrgentPlan):
+        return "x %s; rounds %s" % tuple(" ".join(str(x) for x in run) for run in answer[1:])
     if isinstance(answer, opinion.ProfibusPlan):
         return "TTR %d by %d" % answer
     if isinstance(answer, opinion.WorldfipPlan):
@@ -101,6 +103,9 @@ E210 = [(5, 210)] + [(6, i, 1_000) for i in (1, 2, 3, 4)] + [(6, 5, 3_000)]
 EIGHTY_EACH = [(1, 10)] + [
     (2, y, 200, 1_000_000, 1_000_000) for y in range(1, 11) for _ in range(80)
 ]
+
+# page 02, Ask 11: V is 250 bp, and first come has 750 bp for each stream
+URGENT = [(1, 1), (2, 1, 203, 500, 500), (2, 1, 203, 100_000, 100_000), (2, 1, 203, 100_000, 100_000)]
 
 JITTERS = sheet((1, 32), *[(7, 1 + i % 32, 203, 1_000, 700, 300) for i in range(800)])
 LONGEST = JITTERS[:2] + sheet((8, 2)) + JITTERS[2:]
@@ -267,6 +272,31 @@ capture | 0102 020100cb0000006300000063 | 02 | 8 at 1
 capture | 0101 020100cb000003e8000003e8 | 11 0002 | 1 at 0
 capture | 0101 020100cb000003e8000003e8 | 11 0000 00000000 | 14 at 0
 capture | 0101 020100cb000003e8000003e8 | 10 0001 fffffff0 11 0001 00000010 | 1 32 0 0
+urgent | 0101 020100cb000003e8000003e8 | x 250; rounds 0
+urgent | 0101 020100cb000003e8000003e8 020100cb000003e8000003e8 | x 500 500; rounds 1 1
+urgent | 0101 070100cb000003e8000001f4000001f4 020100cb000003e8000003e8 020100cb000186a0000186a0 | x 500 1000 1000; rounds 1 2 2
+urgent | 0101 020100cb000000f9000000f9 | 21 at 1
+urgent | 0101 020100cb000000fa000000fa | x 250; rounds 0
+urgent | 0101 020100cb000001f4000001f4 020100cb000186a0000186a0 020100cb000186a0000186a0 | x 500 1000 1000; rounds 1 2 2
+urgent | 0101 020100cb000001f3000001f3 020100cb000186a0000186a0 020100cb000186a0000186a0 | 21 at 1
+urgent | 0101 020100cb000186a0000186a0 020100cb000186a0000186a0 020100cb000001f4000001f4 | x 1000 1000 500; rounds 2 2 1
+urgent | 0102 0802 020100cb000003e8000003e8 | x 500; rounds 0
+urgent | 0102 0802 020100cb000003e8000001f3 | 21 at 1
+urgent | 0102 0801 020100cb000003e8000001f3 | x 260; rounds 0
+urgent | - | 1 at 0
+urgent | 0104 | 6 at 2
+urgent | 0104 0803 | 4 at 2
+urgent | 05 00000190 | 6 at 5
+urgent | 05 00000190 06 0011 000003e8 | 3 at 0
+urgent | 03 01 00000001 00000001 04 01 00000001 000003e8 | 3 at 0
+beside x | 0101 020100cb000000f9000000f9 | 02 | 21 at 1
+beside x | 05 00000190 06 0011 000003e8 | 02 | 3 at 0
+beside x | 0101 020100cb000003e8000003e8 | - | 0 0 0 0
+beside x | 0101 020100cb000003e8000003e8 | 02 | 2 at 0
+beside x | 0101 020100cb000003e8000003e8 | 11 0000 00000000 | 14 at 0
+beside x | 0101 020100cb000001f4000001f4 020100cb000186a0000186a0 020100cb000186a0000186a0 | 10 0001 00000000 11 0001 000001f4 10 0002 00000000 11 0002 000003e8 | 1 500 0 0; 1 1000 0 0; 0 0 0 0
+beside x | 0101 020100cb000001f4000001f4 020100cb000186a0000186a0 020100cb000186a0000186a0 | 10 0001 fffffff0 11 0001 000001e5 10 0002 00000000 11 0002 000003e9 | 1 501 1 0; 1 1001 1 0; 0 0 0 0
+beside x | 0102 0802 020100cb000003e8000003e8 | 10 0001 00000000 11 0001 000001f5 | 1 501 1 0
 """
 
 # segments (a sheet in hex, A for the one below, - for none, and the sending master), forwarding times, D, answer; n*x is n times x
@@ -795,6 +825,73 @@ PROSE = [
     ("J of one stream is not the other's",
      lambda: soon(sheet((1, 1), (2, 1, 203, 1_000, 700), JITTER),
                   events((16, 1, 0), (17, 1, 5), (16, 2, 5), (17, 2, 9), (16, 1, 700), (17, 1, 701), (16, 2, 705))), "1"),
+    # page 02, Ask 11: 13 comes after 3 and before 21, and names the streams whichever run is short
+    ("13 before 21", lambda: opinion.plan_urgent(sheet((1, 1), (2, 1, 203, 249, 249)), (1, 0, 1)), "13 at 1"),
+    ("room enough, then 21", lambda: opinion.plan_urgent(sheet((1, 1), (2, 1, 203, 249, 249)), (1, 1, 1)), "21 at 1"),
+    ("a place for each stream, not for each master", lambda: opinion.plan_urgent(sheet(*URGENT), (3, 3, 2)), "13 at 3"),
+    ("room for each stream", lambda: opinion.plan_urgent(sheet(*URGENT), (3, 3, 3)), "x 500 1000 1000; rounds 1 2 2"),
+    ("3 before 13 for urgent requests first", lambda: opinion.plan_urgent(sheet(*TABLE), (0, 0, 0)), "3 at 0"),
+    ("6 before 13 for urgent requests first", lambda: opinion.plan_urgent(sheet((1, 4)), (0, 0, 0)), "6 at 2"),
+    # equal D by sheet order, also behind one that is more urgent
+    ("places in the order of urgency",
+     lambda: opinion.plan_urgent(
+         sheet((1, 2), (2, 2, 203, 9_000, 9_000), *[(2, 1, 203, 9_000, d) for d in (7_000, 6_000, 7_000, 6_000)])).place, "[1, 3, 1, 4, 2]"),
+    ("J and T play no part in the order",
+     lambda: opinion.plan_urgent(
+         sheet((1, 1), (7, 1, 203, 9_000, 5_000, 4_000), (2, 1, 203, 5_000, 5_000), (7, 1, 203, 90_000, 4_999, 9_000))).place, "[2, 3, 1]"),
+    # the last has b = 0 and the one before it b = 1, so the two have the same figure
+    ("80 of one master", lambda: opinion.plan_urgent(sheet((1, 1), *[(2, 1, 203, 99_999, 99_999)] * 80)).figure,
+     str([250 * min(i + 2, 80) for i in range(80)])),
+    # V is 250, 110 and 10 bp together; master 2's stream, alone there, has one turn of the token
+    ("another master's streams are not ahead",
+     lambda: opinion.plan_urgent(sheet((1, 3), (2, 1, 203, 800, 800), (2, 1, 203, 9_000, 9_000), (2, 2, 63, 370, 370))),
+     "x 740 740 370; rounds 1 1 0"),
+    ("a figure above the deadline by one bp",
+     lambda: opinion.plan_urgent(sheet((1, 3), (2, 1, 203, 739, 739), (2, 1, 203, 9_000, 9_000), (2, 2, 63, 370, 370))), "21 at 1"),
+    ("the first stream in sheet order, not in that of urgency",
+     lambda: opinion.plan_urgent(sheet((1, 1), (2, 1, 203, 9_000, 999), *[(2, 1, 203, 9_000, d) for d in (998, 997, 249)])), "21 at 1"),
+    ("a stream that is not accepted is ahead of others all the same",
+     lambda: opinion.plan_urgent(sheet((1, 1), (2, 1, 203, 9_000, 499), (2, 1, 203, 9_000, 500))), "21 at 1"),
+    # load 250/500 and 250/500: each round adds what it asks for
+    ("no solution below any deadline",
+     lambda: opinion.plan_urgent(sheet((1, 1), (2, 1, 203, 90_000, 90_000), *[(2, 1, 203, 500, 500)] * 2)), "21 at 1"),
+    ("a window that ends just with a spacing", lambda: opinion.plan_urgent(sheet(*URGENT[:3], (2, 1, 203, 1_000, 1_000))),
+     "x 500 1000 1000; rounds 1 2 2"),
+    ("a window and J that end just with a spacing", lambda: opinion.plan_urgent(sheet((1, 1), (7, 1, 203, 1_000, 500, 250), *URGENT[2:])),
+     "x 500 750 750; rounds 1 1 1"),
+    ("a window and J that end one bp behind a spacing", lambda: opinion.plan_urgent(sheet((1, 1), (7, 1, 203, 1_000, 500, 251), *URGENT[2:])),
+     "x 500 1000 1000; rounds 1 2 2"),
+    ("the greatest J and the greatest T",
+     lambda: opinion.plan_urgent(
+         sheet((1, 1), (7, 1, 203, 1_000_000_000, 500, 999_999_500), (2, 1, 203, 1_000_000_000, 1_000_000_000))),
+     "x 500 500; rounds 1 1"),
+    ("the report of urgent requests first", lambda: opinion.urgent_report(sheet(*URGENT)),
+     "P-NET urgent first\n"
+     "stream 1 M01 place 1 figure 500 bp 6510417 ns 1 rounds deadline 500 bp\n"
+     "stream 2 M01 place 2 figure 1000 bp 13020834 ns 2 rounds deadline 100000 bp\n"
+     "stream 3 M01 place 3 figure 1000 bp 13020834 ns 2 rounds deadline 100000 bp\n"
+     "first come refused 8 at stream 1 bound 750 bp 9765625 ns urgent 500 bp 6510417 ns deadline 500 bp\n"),
+    ("the report of urgent requests first where first come does too", lambda: opinion.urgent_report(sheet(*TWO_MASTERS)),
+     "P-NET urgent first\n"
+     "stream 1 M01 place 1 figure 1000 bp 13020834 ns 1 rounds deadline 100000 bp\n"
+     "stream 2 M01 place 2 figure 1000 bp 13020834 ns 1 rounds deadline 100000 bp\n"
+     "stream 3 M02 place 1 figure 500 bp 6510417 ns 0 rounds deadline 100000 bp\n"),
+    ("the report of urgent requests first, refused", lambda: opinion.urgent_report(sheet(*FOUR_MASTERS[:5], (2, 4, 203, 100_000, 1_999))),
+     "refused 21 at stream 5\n"),
+    ("the report of urgent requests first, of another bus", lambda: opinion.urgent_report(sheet(*RING)), "refused 3 at byte 0\n"),
+    ("the report of urgent requests first, of a bad line", lambda: opinion.urgent_report(HEAD_LINE + b"x\n"), "refused 23 at line 2\n"),
+    ("a capture beside x: stream 1 was promised 500 bp",
+     lambda: opinion.capture_report(
+         sheet(*URGENT), events((16, 2, 0), (16, 3, 0), (16, 1, 1), (17, 2, 210), (17, 3, 460), (17, 1, 710)), opinion.urgent_first),
+     "P-NET capture urgent first\n"
+     "stream 1 M01 bound 500 bp 6510417 ns largest 709 bp 9231771 ns 1 answers 1 above 0 open\n"
+     "stream 2 M01 bound 1000 bp 13020834 ns largest 210 bp 2734375 ns 1 answers 0 above 0 open\n"
+     "stream 3 M01 bound 1000 bp 13020834 ns largest 460 bp 5989584 ns 1 answers 0 above 0 open\n"
+     "answers above the bound in 1 streams, first stream 1\n"),
+    ("a capture beside x of a sheet that is refused",
+     lambda: opinion.capture_report(sheet((1, 1), (2, 1, 203, 249, 249)), b"\x02", opinion.urgent_first), "refused 21 at stream 1\n"),
+    ("a refused capture beside x",
+     lambda: opinion.capture_report(sheet(*URGENT), events((17, 1, 0)), opinion.urgent_first), "refused 15 at capture byte 0\n"),
     ("a refused capture", lambda: opinion.capture_report(sheet(*TWO_MASTERS), events((17, 1, 0))),
      "refused 15 at capture byte 0\n"),
     ("the report of a path",
@@ -914,10 +1011,12 @@ def in_hex(answer):
 def call(name, *data):
     return {
         "capture": opinion.compare_capture,
+        "beside x": lambda *pair: opinion.compare_capture(*pair, promised=opinion.urgent_first),
         "export": opinion.export_sheet,
         "import": lambda text: in_hex(opinion.import_text(text)),
         "read": opinion.read,
         "pnet": opinion.plan_pnet,
+        "urgent": opinion.plan_urgent,
         "profibus": opinion.plan_profibus,
         "worldfip": opinion.plan_worldfip,
         "report": opinion.report,
