@@ -4,19 +4,18 @@
 use Prim.Native.Nat.{ℕ, _+_, _-_, _≤_, _<_}
 use mathlib.Core.Path.{_≡_, refl, sym, ap, _∙_}
 use mathlib.Core.Bool.{Bool, true, false, not, _&&_, and-false}
-use mathlib.Core.Logic.{_≢_, _⊎_, inl, inr, ⊎-elim}
+use mathlib.Core.Logic.{_≢_, inr, ⊎-elim}
 use mathlib.Core.List.{List, [], _∷_, List·Memᴰ, List·Memᴰ·head, List·Memᴰ·tail, List·Memᴰ·not-nil, List·Memᴰ·cases-cons, Memᴰ·map}
-use native.Mathlib.Decide.{ℕ-discrete}
+use native.Mathlib.Decide.{ℕ-discrete, decLt}
 use native.Mathlib.Omega.{arith}
 use lib.Dec.{ltb, eqb}
 use borrow.Author.Tests.{eq-eqb, le-ltb, ltb-false}
 use Rattle.common.specs.Sums.{when}
-use Rattle.pnet_rules.specs.Segment.{Segment, bound}
+use Rattle.pnet_rules.specs.Segment.{Segment}
 use Rattle.pnet_rules.specs.Limits.{Declared}
-use Rattle.pnet_run.specs.Run.{Belongs, Request, request, Answer, Queues, Token, Settled, Run, start, complete, arrive, travel, work, serve, skip}
-use Rattle.pnet_run.specs.Promise.{Kept, quiet, other as another, asks, Spaced, Accepted}
-use Rattle.pnet_run.proofs.Keeping.{came-past}
-use Rattle.pnet_run.proofs.Queues.{queue-came}
+use Rattle.pnet_run.specs.Run.{Belongs, Request, request, Answer, Token, Settled, Discipline, RunBy, start, complete, arrive, move, travel, work, serve, skip}
+use Rattle.pnet_run.specs.Promise.{Kept, quiet, other as another, asks, Spaced}
+use Rattle.pnet_run.proofs.Keeping.{Keeps, came-past, kept-came}
 use Rattle.pnet_run.proofs.Bound.{apart-latest}
 use Rattle.pnet_run.proofs.Spacing.{spaced-before, came-in-order, due-apart}
 use Rattle.capture_log.specs.declared.Event.{Event}
@@ -29,7 +28,7 @@ use Rattle.capture_watch.proofs.Means.{grows, asked-past}
 use Rattle.capture_ages.proofs.Leads.{kept-at-most, kept-in-time, lead-first, lead-next, lead-at-most, asked-here, lead-here, asked-there, lead-there}
 use Rattle.capture_ages.proofs.True.{in-order, not-broken, true-clock, asks-not, true-age}
 use Rattle.demands.specs.Logged.{logOf, instantsOf, first, Close, none, one, and}
-use Rattle.demands.proofs.Matching.{Is, matches, not-late}
+use Rattle.demands.proofs.Matching.{Is, Counts, Punctual, matches}
 
 -- ---- The log is timed
 
@@ -55,12 +54,13 @@ close-before : {t : ℕ} {ts : List ℕ} → Close (t ∷ ts) → Close ts
 close-before one = none
 close-before (and near close) = close
 
-pub recorded : {S : Segment} {t : ℕ} {y : Token} {q : Queues} {came : List Request} {went : List Answer} (z : ℕ) (run : Run S t y q came went)
+pub recorded : {D : Discipline} {S : Segment} {t : ℕ} {y : Token} {q : ℕ → D .State} {came : List Request} {went : List Answer} (z : ℕ) (run : RunBy D S t y q came went)
     → Close (instantsOf run) → Recorded z t (instantsOf run) (logOf z run)
 unfolding logOf instantsOf
 recorded z (start a b c) close = nothing
 recorded z (complete run p) close = recorded-next refl (recorded z run (close-before close)) close
 recorded z (arrive run o d) close = recorded-next refl (recorded z run (close-before close)) close
+recorded z (move run o p) close = recorded z run close
 recorded z (travel e run) close = recorded-on (omega arith) (recorded z run close)
 recorded z (work e run) close = recorded-on (omega arith) (recorded z run close)
 recorded z (serve e x c run p a b d f g o) close = recorded-on (omega arith) (recorded z run close)
@@ -122,7 +122,7 @@ module _ {z f t o i : ℕ} {came : List Request} {e : Event} {es : List Event} (
           last (List·Memᴰ·head (ap (λ (x : ℕ). request x t) (sym c))) (λ b j. past (request i b) j) (here (says .kind-is) (says .stream-is ∙ c)) r
       by (no n) = last-other n p
 
-pub last-request : {S : Segment} {t : ℕ} {y : Token} {q : Queues} {came : List Request} {went : List Answer} (z : ℕ) (run : Run S t y q came went)
+pub last-request : {D : Discipline} {S : Segment} {t : ℕ} {y : Token} {q : ℕ → D .State} {came : List Request} {went : List Answer} (z : ℕ) (run : RunBy D S t y q came went)
     → Close (instantsOf run) → (i : ℕ) → Last z (first (instantsOf run)) i came (logOf z run)
 unfolding logOf instantsOf asked
 last-request z (start a b c) close i = never (λ b j. List·Memᴰ·not-nil j) refl
@@ -134,6 +134,7 @@ last-request z (arrive run o d) close i =
     let past = recorded z run before in
     last-arrive (record { kind-is = refl; stream-is = refl }) (timed (recorded-next refl past close)) (came-past (arrive run o d))
     (last-begun past (last-request z run before i))
+last-request z (move run o p) close i = last-request z run close i
 last-request z (travel e run) close i = last-request z run close i
 last-request z (work e run) close i = last-request z run close i
 last-request z (serve e x c run p a b d f g o) close i = last-request z run close i
@@ -208,13 +209,13 @@ module _ (T J : ℕ → ℕ) where
         (omega (arith, asked-here i e es (says .kind-is) (says .stream-is), lead-here i e es (says .kind-is) (says .stream-is) T J, kept-at-most (J i) (newLead e es i), within-due, true-clock r, in-order r))
 
   -- stream i keeps the spacing d with the jitter j
-  module _ {S : Segment} {d j i : ℕ} (short : j < d) (least : T i ≤ d) where
+  module _ {D : Discipline} {S : Segment} {d j i : ℕ} (short : j < d) (least : T i ≤ d) where
     -- what it is due at comes in the order of the requests
-    in-turn : {t u : ℕ} {y : Token} {q : Queues} {r : Request} {came : List Request} {went : List Answer} {due : List ℕ} → Run S t y q (r ∷ came) went
+    in-turn : {t u : ℕ} {y : Token} {q : ℕ → D .State} {r : Request} {came : List Request} {went : List Answer} {due : List ℕ} → RunBy D S t y q (r ∷ came) went
         → Kept d j i (r ∷ came) (u ∷ due) → r .of ≡ i → (v : ℕ) → List·Memᴰ v due → v + d ≤ u
     in-turn run kept own v k = apart-latest (due-apart short (came-in-order run) kept) refl v (Memᴰ·map (request i) k)
 
-    ahead : {t : ℕ} {y : Token} {q : Queues} {came : List Request} {went : List Answer} {due : List ℕ} (z : ℕ) (run : Run S t y q came went)
+    ahead : {t : ℕ} {y : Token} {q : ℕ → D .State} {came : List Request} {went : List Answer} {due : List ℕ} (z : ℕ) (run : RunBy D S t y q came went)
         → Close (instantsOf run) → Kept d j i came due → Ahead (first (instantsOf run)) i (logOf z run) due
     unfolding logOf instantsOf asked
     ahead z (start a b c) close kept = unasked refl
@@ -229,13 +230,14 @@ module _ (T J : ℕ → ℕ) where
         let past = recorded z run before in
         ahead-arrive (record { kind-is = refl; stream-is = own }) (timed (recorded-next refl past close)) from
         (in-turn (arrive run o b) (asks u own from to far kept) own) least (ahead-begun past (ahead z run before kept))
+    ahead z (move run o p) close kept = ahead z run close kept
     ahead z (travel e run) close kept = ahead z run close kept
     ahead z (work e run) close kept = ahead z run close kept
     ahead z (serve e x c run p a b k f g o) close kept = ahead z run close kept
     ahead z (skip e run p a b) close kept = ahead z run close kept
 
     -- so a request of it comes no sooner than J lets it
-    in-due-time : {t m : ℕ} {y : Token} {q : Queues} {came : List Request} {went : List Answer} {due : List ℕ} (z : ℕ) (run : Run S t y q came went)
+    in-due-time : {t m : ℕ} {y : Token} {q : ℕ → D .State} {came : List Request} {went : List Answer} {due : List ℕ} (z : ℕ) (run : RunBy D S t y q came went)
         (settled : Settled y) (own : Belongs S m i) → Close (instantsOf (arrive run settled own)) → j ≤ J i → Kept d j i (request i t ∷ came) due
         → early T J (record { kind = 16; stream = i; stamp = stampAt z t }) (logOf z run) ≡ false
     unfolding early instantsOf
@@ -252,9 +254,9 @@ module _ (T J : ℕ → ℕ) where
         ))
 
 -- where T i is at most the spacing of stream i and J i at least its jitter, for each of the segment
-module _ {S : Segment} (T J : ℕ → ℕ) (declared : Declared S) (least : (k i : ℕ) → Belongs S k i → T i ≤ S .stream i .spacing)
+module _ {D : Discipline} {S : Segment} (T J : ℕ → ℕ) (declared : Declared S) (least : (k i : ℕ) → Belongs S k i → T i ≤ S .stream i .spacing)
     (most : (k i : ℕ) → Belongs S k i → S .stream i .jitter ≤ J i) where
-  pub timely : {t : ℕ} {y : Token} {q : Queues} {came : List Request} {went : List Answer} (z : ℕ) (run : Run S t y q came went) → Close (instantsOf run)
+  pub timely : {t : ℕ} {y : Token} {q : ℕ → D .State} {came : List Request} {went : List Answer} (z : ℕ) (run : RunBy D S t y q came went) → Close (instantsOf run)
       → ((k : ℕ) → Spaced S k came) → Timely T J (logOf z run)
   unfolding logOf instantsOf early
   timely z (start a b c) close spaced = nothing-yet
@@ -263,6 +265,7 @@ module _ {S : Segment} (T J : ℕ → ℕ) (declared : Declared S) (least : (k i
       also
       (in-due-time T J (declared .ranges i (b .from-one) (b .to-last) .jitter-to) (least m i b) z run o b close (most m i b) (spaced m i b .1))
       (timely z run (close-before close) (λ k. spaced-before (spaced k)))
+  timely z (move run o p) close spaced = timely z run close spaced
   timely z (travel e run) close spaced = timely z run close spaced
   timely z (work e run) close spaced = timely z run close spaced
   timely z (serve e x c run p a b d f g o) close spaced = timely z run close spaced
@@ -342,7 +345,7 @@ module _ (T J : ℕ → ℕ) where
       by (yes c) = dues-arrive (record { kind-is = says .kind-is; stream-is = says .stream-is ∙ c }) r p (lead-in-time es says c x) o c
       by (no n) = dues-other e (λ k s. n (sym (says .stream-is) ∙ s)) p (request o t) n
 
-  dues : {S : Segment} {t : ℕ} {y : Token} {q : Queues} {came : List Request} {went : List Answer} (z : ℕ) (run : Run S t y q came went)
+  dues : {D : Discipline} {S : Segment} {t : ℕ} {y : Token} {q : ℕ → D .State} {came : List Request} {went : List Answer} (z : ℕ) (run : RunBy D S t y q came went)
       → Close (instantsOf run) → Timely T J (logOf z run) → (i : ℕ) → Dues (first (instantsOf run)) i came (logOf z run)
   unfolding logOf instantsOf early
   dues z (start a b c) close timed-all i = record { due = []; kept = quiet; last-is = λ v j. absurd (List·Memᴰ·not-nil j) }
@@ -353,29 +356,18 @@ module _ (T J : ℕ → ℕ) where
       let before = close-before close in
       let past = recorded z run before in
       dues-next (record { kind-is = refl; stream-is = refl }) (timed (recorded-next refl past close)) x i (dues-begun past (dues z run before timed-all i))
+  dues z (move run o p) close timed-all i = dues z run close timed-all i
   dues z (travel e run) close timed-all i = dues z run close timed-all i
   dues z (work e run) close timed-all i = dues z run close timed-all i
   dues z (serve e x c run p a b k f g o) close timed-all i = dues z run close timed-all i
   dues z (skip e run p a b) close timed-all i = dues z run close timed-all i
 
 -- of each stream, with the spacing T i and the jitter J i
-pub timely-kept : (T J : ℕ → ℕ) {S : Segment} {t : ℕ} {y : Token} {q : Queues} {came : List Request} {went : List Answer} (z : ℕ) (run : Run S t y q came went)
+pub timely-kept : (T J : ℕ → ℕ) {D : Discipline} {S : Segment} {t : ℕ} {y : Token} {q : ℕ → D .State} {came : List Request} {went : List Answer} (z : ℕ) (run : RunBy D S t y q came went)
     → Close (instantsOf run) → Timely T J (logOf z run) → (i : ℕ) → (due : List ℕ) × Kept (T i) (J i) i came due
 timely-kept T J z run close timed-all i = let p = dues T J z run close timed-all i in (p .due, p .kept)
 
 -- ---- Requests that are open
-
--- one of stream i waits in l, or none does
-waiting : (i : ℕ) (l : List Request) → ((r : Request) × List·Memᴰ r l × (i ≡ r .of)) ⊎ ((r : Request) → List·Memᴰ r l → i ≢ r .of)
-waiting i [] = inr (λ r j. absurd (List·Memᴰ·not-nil j))
-waiting i (r ∷ l) = by (ℕ-discrete i (r .of)) (waiting i l)
-  where
-    by : Dec (i ≡ r .of) → ((p : Request) × List·Memᴰ p l × (i ≡ p .of)) ⊎ ((p : Request) → List·Memᴰ p l → i ≢ p .of)
-        → ((p : Request) × List·Memᴰ p (r ∷ l) × (i ≡ p .of)) ⊎ ((p : Request) → List·Memᴰ p (r ∷ l) → i ≢ p .of)
-    by (yes e) w = inl (r, List·Memᴰ·head refl, e)
-    by (no n) (inl w) = inl (w .0, List·Memᴰ·tail (w .1), w .2)
-    by (no n) (inr f) =
-        inr (λ p j. ⊎-elim (λ (c : p ≡ r). λ e. n (e ∙ ap (λ (x : Request). x .of) c)) (λ (c : List·Memᴰ p l). f p c) (List·Memᴰ·cases-cons j))
 
 -- where some request of stream i came at a, R ago or less, so did the last
 age-within : {z t a i R : ℕ} {ts : List ℕ} {came : List Request} {es : List Event} → Recorded z t ts es → Last z (first ts) i came es
@@ -385,21 +377,25 @@ age-within nothing p j le = omega arith
 age-within {a = a} (up-to r past) (never n x) j le = absurd (n a j)
 age-within {a = a} (up-to r past) (last k m q l) j le = omega (arith, m a j, true-age q l r)
 
--- what is open waits, and what waits is not late
-module _ {S : Segment} (accepted : Accepted S) where
-  pub open-within : {k i t : ℕ} {y : Token} {q : Queues} {came : List Request} {went : List Answer} (z : ℕ) (run : Run S t y q came went) → Close (instantsOf run)
-      → Spaced S k came → Belongs S k i → beyond (bound S k) (logOf z run) i ≡ false
-  unfolding beyond
-  open-within {k} {i} {q = q} {came = came} z run close spaced own = by (waiting i (q k))
-    where
-      es : List Event
-      es = logOf z run
+-- what is open is kept, and what is kept is not late
+module _ {D : Discipline} {K : Keeps D} (C : Counts D K) {S : Segment} {k i B : ℕ} {Kind : List Request → Type 0} (P : Punctual D K S k i B Kind) where
+  module _ {t : ℕ} {y : Token} {q : ℕ → D .State} {came : List Request} {went : List Answer} (z : ℕ) (run : RunBy D S t y q came went) (close : Close (instantsOf run))
+      (kind : Kind came) where
+    -- r is kept, so it is not B old, and no later one of its stream is
+    aged : (r : Request) → K .In (q k) r → i ≡ r .of → clock (logOf z run) - asked (logOf z run) i ≤ B
+    aged r j e =
+        let then : List·Memᴰ (request i (r .since)) came = rw e (kept-came K run k r j) in
+        age-within (recorded z run close) (last-request z run close i) then (P .waits t y q came went run kind r j (sym e) .by-then)
 
-      by : ((r : Request) × List·Memᴰ r (q k) × (i ≡ r .of)) ⊎ ((r : Request) → List·Memᴰ r (q k) → i ≢ r .of)
-          → not (eqb (left fresh es i) 0) && ltb (bound S k) (clock es - asked es i) ≡ false
-      by (inl w) =
-          let then : List·Memᴰ (request i (w .0 .since)) came = rw (w .2) (queue-came run k (w .0) (w .1)) in
-          let in-time = not-late accepted own run spaced (w .0) (w .1) .by-then in
-          let age = age-within (recorded z run close) (last-request z run close i) then in-time in
-          rw (le-ltb (bound S k) (clock es - asked es i) age) (and-false (not (eqb (left fresh es i) 0)))
-      by (inr none-waits) = rw (matches accepted z run spaced .idle i own none-waits)
+    pub open-within : beyond B (logOf z run) i ≡ false
+    unfolding beyond
+    open-within = by (decLt 0 (C .many (q k) i))
+      where
+        es : List Event
+        es = logOf z run
+
+        by : Dec (0 < C .many (q k) i) → not (eqb (left fresh es i) 0) && ltb B (clock es - asked es i) ≡ false
+        by (yes some) =
+            let w = C .some (q k) i some in
+            rw (le-ltb B (clock es - asked es i) (aged (w .0) (w .1) (w .2))) (and-false (not (eqb (left fresh es i) 0)))
+        by (no none-waits) = let idle = matches C P z run kind .idle (omega (arith, none-waits)) in rw idle

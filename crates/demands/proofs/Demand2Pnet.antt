@@ -1,7 +1,7 @@
 -- Demand 2 of P-NET, from the bytes of a sheet: what the planner answers and what it leaves in the three lent runs is what page 01 says, and nobody
 -- can answer otherwise. `planned` is what the planner answers, and `runOf` what a lent run then holds: both are the words of its contract.
 -- Assumes nothing.
-use Prim.Native.Nat.{ℕ, zero, suc, _+_, _-_, _≤_, _<_}
+use Prim.Native.Nat.{ℕ, _+_, _-_, _≤_, _<_}
 use mathlib.Core.Path.{_≡_, refl, sym, ap, subst, _∙_}
 use mathlib.Core.List.{List}
 use mathlib.Core.Logic.{_↔_}
@@ -56,7 +56,7 @@ module _ (S : Segment) (k : ℕ) where
 
 -- ---- One run
 
-kept-filled : (f : ℕ → ℕ) (N : ℕ) (old : List ℕ) → N ≤ length old → LaterKept N old (filled f N old)
+pub kept-filled : (f : ℕ → ℕ) (N : ℕ) (old : List ℕ) → N ≤ length old → LaterKept N old (filled f N old)
 unfolding filled
 kept-filled f N old room = record {
   long = length-filled f N old room;
@@ -69,7 +69,7 @@ kept-filled f N old room = record {
 }
 
 -- a run is known by the places of the masters, if the later ones keep what they had
-same-run : (N : ℕ) {old a b : List ℕ} → LaterKept N old a → LaterKept N old b → ((k : ℕ) → 1 ≤ k → k ≤ N → getD a (k - 1) 0 ≡ getD b (k - 1) 0) → a ≡ b
+pub same-run : (N : ℕ) {old a b : List ℕ} → LaterKept N old a → LaterKept N old b → ((k : ℕ) → 1 ≤ k → k ≤ N → getD a (k - 1) 0 ≡ getD b (k - 1) 0) → a ≡ b
 same-run N {old} {a} {b} ka kb same = ext-getD 0 a b (ka .long ∙ sym (kb .long)) (λ i l. by i (decLt i N))
   where
     by : (i : ℕ) → Dec (i < N) → getD a i 0 ≡ getD b i 0

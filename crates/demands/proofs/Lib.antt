@@ -6,6 +6,7 @@ pub mod Corrected
 pub mod Outcomes
 pub mod PageCase
 pub mod Matching
+pub mod FirstCome
 pub mod Passing
 pub mod Captured
 pub mod CapturedBytes

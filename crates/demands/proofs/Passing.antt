@@ -1,8 +1,8 @@
--- A capture each of whose records passes behind those before it passes as a whole, and so does the capture of a run. Assumes nothing.
+-- A capture each of whose records passes behind those before it passes as a whole, and so does the capture of a run, by any discipline, whose streams are punctual. Assumes nothing.
 use Prim.Native.Nat.{ℕ, zero, suc, _+_, _*_, _≤_, _<_}
 use mathlib.Core.Path.{_≡_, refl, sym, ap, _∙_}
 use mathlib.Core.Bool.{false, cond, not, _&&_}
-use mathlib.Core.List.{List, [], _∷_, List·Memᴰ, List·Memᴰ·head}
+use mathlib.Core.List.{List, [], _∷_}
 use native.Mathlib.Decide.{ℕ-discrete}
 use native.Mathlib.Omega.{arith}
 use lib.Dec.{ltb, eqb}
@@ -15,14 +15,13 @@ use Rattle.common.proofs.Checks.{Clear, none, and, passed-if}
 use Rattle.common.proofs.Firsts.{found-none}
 use Rattle.sheet_ranges.proofs.Ranges.{range-within}
 use Rattle.pnet_rules.specs.Segment.{Segment}
-use Rattle.pnet_run.specs.Run.{Belongs, Request, request, Answer, Queues, Token, Settled, Run, start, complete, arrive, travel, work, serve, skip}
-use Rattle.pnet_run.specs.Promise.{Spaced, Accepted}
-use Rattle.pnet_run.proofs.Queues.{owned}
+use Rattle.pnet_run.specs.Run.{Belongs, Request, request, Answer, Settled, Token, Discipline, RunBy, start, complete, arrive, move, travel, work, serve, skip}
+use Rattle.pnet_run.proofs.Keeping.{Keeps, owned-by, sent-kept}
 use Rattle.capture_log.specs.declared.Event.{Event}
 use Rattle.capture_log.specs.Log.{fresh, left}
 use Rattle.capture_log.specs.Records.{size, eventAt, eventsIn, known, eventChecks, judge, isRefused, records, taken, heard}
 use Rattle.demands.specs.Logged.{logOf}
-use Rattle.demands.proofs.Matching.{Is, earlier, alone, matches}
+use Rattle.demands.proofs.Matching.{Is, Counts, Punctual, alone, matches}
 
 -- ---- Records
 
@@ -97,25 +96,29 @@ module _ (c : List ℕ) (n m : ℕ) (long : length c ≡ size * m) (all : AllPas
 
 -- ---- Runs
 
-module _ {S : Segment} (accepted : Accepted S) where
-  module _ {t m : ℕ} {y : Token} {q : Queues} {came : List Request} {went : List Answer} (z : ℕ) (run : Run S t y q came went) {e : Event}
+-- each stream is punctual in runs whose arrivals are of some kind
+module _ {D : Discipline} {K : Keeps D} (C : Counts D K) {S : Segment} {Kind : List Request → Type 0} (B : ℕ → ℕ)
+    (punctual : (m i : ℕ) → Belongs S m i → Punctual D K S m i (B i) Kind) where
+  module _ {t m : ℕ} {y : Token} {q : ℕ → D .State} {came : List Request} {went : List Answer} (z : ℕ) (run : RunBy D S t y q came went) {e : Event}
       (before : AllPass (S .number) (logOf z run)) where
-    pass-complete : {r : Request} {rest : List Request} → Is 17 (r .of) e → q m ≡ r ∷ rest → Spaced S m came → AllPass (S .number) (e ∷ logOf z run)
-    pass-complete {r} f p spaced =
-        let head : List·Memᴰ r (q m) = rw p (List·Memᴰ·head refl) in
-        let own = owned run m r head in
-        also (gives f (own .from-one) (own .to-last) (matches accepted z run spaced .waits r head .one)) before
+    pass-complete : {r : Request} {rest : D .State} → Is 17 (r .of) e → D .Serves (q m) r rest → Kind came → AllPass (S .number) (e ∷ logOf z run)
+    pass-complete {r} {rest} f p s =
+        let there = sent-kept K q m rest r p in
+        let own = owned-by K run m r there in
+        also (gives f (own .from-one) (own .to-last) (matches C (punctual m (r .of) own) z run s .waiting r there refl .one)) before
 
-    pass-arrive : {i : ℕ} → Is 16 i e → Settled y → Belongs S m i → Spaced S m (request i t ∷ came) → AllPass (S .number) (e ∷ logOf z run)
-    pass-arrive {i} f settled d spaced =
-        also (asks f (d .from-one) (d .to-last) (matches accepted z run (earlier accepted spaced) .idle i d (alone accepted d run settled d spaced))) before
+    pass-arrive : {i : ℕ} → Is 16 i e → Settled y → Belongs S m i → Kind (request i t ∷ came) → AllPass (S .number) (e ∷ logOf z run)
+    pass-arrive {i} f o b s =
+        let P = punctual m i b in
+        also (asks f (b .from-one) (b .to-last) (matches C P z run (P .earlier (request i t) came s) .idle (alone C P run o b s))) before
 
-  pub all-pass : {t : ℕ} {y : Token} {q : Queues} {came : List Request} {went : List Answer} (z : ℕ) (run : Run S t y q came went) → ((k : ℕ) → Spaced S k came)
+  pub all-pass : {t : ℕ} {y : Token} {q : ℕ → D .State} {came : List Request} {went : List Answer} (z : ℕ) (run : RunBy D S t y q came went) → Kind came
       → AllPass (S .number) (logOf z run)
   unfolding logOf
   all-pass z (start a b c) s = nothing
-  all-pass z (complete {m = m} run p) s = pass-complete z run (all-pass z run s) (omega arith) p (s m)
-  all-pass z (arrive {m = m} run o d) s = pass-arrive z run (all-pass z run (λ k. earlier accepted (s k))) (omega arith) o d (s m)
+  all-pass z (complete {m = m} run p) s = pass-complete {m = m} z run (all-pass z run s) (omega arith) p s
+  all-pass z (arrive {m = m} {i = i} run o b) s = pass-arrive z run (all-pass z run (punctual m i b .earlier _ _ s)) (omega arith) o b s
+  all-pass z (move run o p) s = all-pass z run s
   all-pass z (travel e run) s = all-pass z run s
   all-pass z (work e run) s = all-pass z run s
   all-pass z (serve e x c run p a b d f g o) s = all-pass z run s

@@ -15,6 +15,7 @@ use Rattle.pnet_run.specs.Promise.{Spaced, Accepted}
 use Rattle.capture_ages.specs.Ages.{clock, broken, soon, whose, beyond}
 use Rattle.capture_ages.proofs.True.{true-clock}
 use Rattle.demands.specs.Logged.{logOf, instantsOf, first, Close}
+use Rattle.demands.proofs.FirstCome.{first-come-counts, punctual}
 use Rattle.demands.proofs.Clocked.{recorded, timed, unbroken, Timely, timely, timely-kept, soon-none, whose-none, none-soon, open-within}
 
 -- a run of any segment S, the counter at its start, and its records' instants
@@ -55,4 +56,4 @@ module _ (S : Segment) {now : ℕ} {token : Token} {queues : Queues} {came : Lis
   module _ (accepted : Accepted S) (k : ℕ) (spaced : Spaced S k came) (i : ℕ) (own : Belongs S k i) where
     -- at the latest record no request of the stream has been open for longer than the bound
     pub no-request-open-beyond-the-bound : beyond (bound S k) (logOf z run) i ≡ false
-    no-request-open-beyond-the-bound = open-within accepted z run close spaced own
+    no-request-open-beyond-the-bound = open-within first-come-counts (punctual accepted own) z run close spaced
