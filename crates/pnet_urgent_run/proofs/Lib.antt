@@ -11,3 +11,4 @@ pub mod Laps
 pub mod Exact
 pub mod Needs
 pub mod Turns
+pub mod Slowest

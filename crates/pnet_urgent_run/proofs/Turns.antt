@@ -1,15 +1,14 @@
 -- The slowest turns of the token, under edition 1 and where each master's own streams are equally long: every other master that has streams asks once in each turn, just when the token
 -- comes to it, and master k sends what is in its stack. Such a turn takes exactly V. Assumes nothing.
-use Prim.Native.Nat.{ℕ, zero, suc, _+_, _≤_, _<_}
+use Prim.Native.Nat.{ℕ, zero, suc, _+_, _≤_}
 use mathlib.Core.Path.{_≡_, refl, ap, sym, _∙_, subst}
-use mathlib.Core.Logic.{_≢_, inl, inr, ⊎-elim}
+use mathlib.Core.Logic.{_≢_, inl, ⊎-elim}
 use mathlib.Core.Bool.{true}
 use mathlib.Core.List.{List, [], _∷_, _++_, List·Memᴰ, List·Memᴰ·head, List·Memᴰ·tail}
 use native.Mathlib.Decide.{ℕ-discrete, decLe}
 use native.Mathlib.Omega.{arith}
-use lib.ListN.{length}
 use Rattle.common.specs.Sums.{upto}
-use Rattle.pnet_rules.specs.Segment.{Segment, count, hold, charged, turn, turnBy}
+use Rattle.pnet_rules.specs.Segment.{Segment, count, hold, turn, turnBy}
 use Rattle.pnet_rules.specs.Limits.{Declared}
 use Rattle.pnet_rules.proofs.Holds.{hold-none, charged-first}
 use Rattle.pnet_urgent_rules.specs.Urgent.{ahead}
@@ -23,7 +22,7 @@ use Rattle.pnet_run.proofs.Slowest.{slowest}
 use Rattle.pnet_urgent_run.specs.Stack.{Held, held, Taken, here, MostUrgent, Everyone, stacked}
 use Rattle.pnet_urgent_run.specs.Promise.{UpTo, SpacedUpTo}
 use Rattle.pnet_urgent_run.proofs.Kept.{stacked-keeps}
-use Rattle.pnet_urgent_run.proofs.Three.{alone}
+use Rattle.pnet_urgent_run.proofs.Progress.{alone}
 
 -- a stream up to i is of i's master
 pub up-to-master : (S : Segment) (i j : ℕ) → UpTo S i j → S .stream j .master ≡ S .stream i .master
