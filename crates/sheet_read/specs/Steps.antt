@@ -1,4 +1,4 @@
--- Page 01, 'Numbered refusals': what the parts of the reader answer at a record, a refusal's number or 0 for none, and what it keeps
+-- Page 01, 'Numbered refusals': what the parts of the reader answer at a stream that passed by itself, a refusal's number or 0 for none, and what it keeps
 -- of the streams behind it: how many each master has and the longest C of them, or the identifiers in sheet order. Then what the parts of a planner go by.
 -- Words of inner contracts alone. Assumes nothing.
 use Prim.Native.Nat.{ℕ, zero, suc, _+_, _≤_, _<_, max}
@@ -14,10 +14,6 @@ use Rattle.common.specs.Checks.Verdict.{Passed}
 use Rattle.sheet_read.specs.Sheets.{Sheet, busIn, sheetOf, fits}
 use Rattle.sheet_read.specs.Whole.{Outcome, placeOf, before, firstStream, judge, reading}
 use Rattle.sheet_read.specs.Whole.Outcome.{Read, Not}
-
--- by the record itself: known, right for its position, whole, every field in its range
-unfoldable pub ownNo : Bool → Bool → Bool → Bool → ℕ
-ownNo isKnown isRight isWhole isRanged = cond isKnown (cond isRight (cond isWhole (cond isRanged 0 4) 1) 3) 2
 
 -- x stands among the first n identifiers
 unfoldable pub among : ℕ → ℕ → List ℕ → Bool

@@ -1,4 +1,4 @@
--- `sheet_read::pnet_in_range` meets its contract: of the two kinds of P-NET streams, each has its own ranges. Assumes nothing.
+-- `sheet_judge::pnet_in_range` meets its contract: of the two kinds of P-NET streams, each has its own ranges. Assumes nothing.
 use mathlib.Core.Path.{_≡_, ap, sym, _∙_}
 use mathlib.Core.Bool.{Bool, _&&_, or-false}
 use Prim.Native.Nat.{ℕ}
@@ -8,8 +8,8 @@ use borrow.Author.Needs.{needs}
 use borrow.Author.Tests.{ne-eqb}
 use Rattle.sheet_record.specs.Kinds.{isStreamOf, inRange}
 use Rattle.sheet_record.proofs.Parts.{pnet-with-jitter, pnet-without}
-use Rattle.sheet_read.proofs.pnet_in_range.Statement.{statement}
-use Rattle.sheet_read.proofs.pnet_in_range.Tie as tie
+use Rattle.sheet_judge.proofs.pnet_in_range.Statement.{statement}
+use Rattle.sheet_judge.proofs.pnet_in_range.Tie as tie
 
 in-range-of-requires : tie.Need-in-range-of-requires
 in-range-of-requires c κs = search needs

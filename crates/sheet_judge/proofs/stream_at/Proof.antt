@@ -1,10 +1,10 @@
--- `sheet_read::stream_at` meets its contract: each arm has the streams of its bus. Assumes nothing.
-use mathlib.Core.Path.{_≡_}
-use mathlib.Core.Logic.{⊎-elim}
+-- `sheet_judge::stream_at` meets its contract: each arm has the streams of its bus. Assumes nothing.
 use native.Mathlib.Omega.{arith}
 use borrow.Author.Needs.{needs}
-use Rattle.sheet_read.proofs.stream_at.Statement.{statement}
-use Rattle.sheet_read.proofs.stream_at.Tie as tie
+use Rattle.sheet_judge.specs.Own.{asBus}
+use Rattle.sheet_judge.proofs.Own.{as-last}
+use Rattle.sheet_judge.proofs.stream_at.Statement.{statement}
+use Rattle.sheet_judge.proofs.stream_at.Tie as tie
 
 pnet-stream-at-requires : tie.Need-pnet-stream-at-requires
 pnet-stream-at-requires c κs = search needs
@@ -16,17 +16,17 @@ variable-at-requires : tie.Need-variable-at-requires
 variable-at-requires c κs = search needs
 
 returns : tie.Need-returns
+unfolding asBus
 returns c = rw (c .before .match .keys1) (c .pnet-stream-at .ensures)
 
 returns-2 : tie.Need-returns-2
+unfolding asBus
 returns-2 c = rw (c .before .match .keys2) (c .ring-stream-at .ensures)
 
 returns-3 : tie.Need-returns-3
 returns-3 c =
     let out = c .before .match .rest in
-    let five : c .before .before .before .args .bus ≡ 5 =
-    ⊎-elim (λ e. omega (arith, out)) (⊎-elim (λ e. omega (arith, out)) (λ e. e)) (c .before .before .before .pre) in
-    rw five (c .variable-at .ensures)
+    rw (as-last (c .before .before .before .args .bus) (λ e. omega (arith, out)) (λ e. omega (arith, out))) (c .variable-at .ensures)
 
 pub stream-at-spec : {M : Type 1} → statement M
 stream-at-spec =

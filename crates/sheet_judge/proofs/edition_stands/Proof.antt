@@ -1,11 +1,11 @@
--- `sheet_read::edition_stands` meets its contract: past the end there is no byte 8. Assumes nothing.
+-- `sheet_judge::edition_stands` meets its contract: past the end there is no byte 8. Assumes nothing.
 use mathlib.Core.Path.{sym}
 use mathlib.Core.Bool.{and-false}
 use lib.Dec.{eqb}
 use lib.ListN.{List·getD-eq-default}
 use borrow.Author.Needs.{needs}
-use Rattle.sheet_read.proofs.edition_stands.Statement.{statement}
-use Rattle.sheet_read.proofs.edition_stands.Tie as tie
+use Rattle.sheet_judge.proofs.edition_stands.Statement.{statement}
+use Rattle.sheet_judge.proofs.edition_stands.Tie as tie
 
 returns : tie.Need-returns
 returns c =

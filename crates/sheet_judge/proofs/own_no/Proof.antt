@@ -1,10 +1,10 @@
--- `sheet_read::own_no` meets its contract, a law of `Judged` for each answer. Assumes nothing.
+-- `sheet_judge::own_no` meets its contract, a law of `Own` for each answer. Assumes nothing.
 use mathlib.Core.Path.{_∙_, sym}
 use borrow.Author.Needs.{needs}
 use borrow.Author.Tests.{not-true, not-false}
-use Rattle.sheet_read.proofs.Judged.{own-unknown, own-wrong, own-cut, own-out, own-none}
-use Rattle.sheet_read.proofs.own_no.Statement.{statement}
-use Rattle.sheet_read.proofs.own_no.Tie as tie
+use Rattle.sheet_judge.proofs.Own.{own-unknown, own-wrong, own-cut, own-out, own-none}
+use Rattle.sheet_judge.proofs.own_no.Statement.{statement}
+use Rattle.sheet_judge.proofs.own_no.Tie as tie
 
 known-requires : tie.Need-known-requires
 known-requires c κs = search needs
