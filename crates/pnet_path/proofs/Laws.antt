@@ -7,8 +7,8 @@ use native.Mathlib.Omega.{arith}
 use native.Mathlib.Decide.{ℕ-discrete}
 use Rattle.common.specs.Sums.{firstOf}
 use Rattle.common.proofs.Firsts.{first-here, first-nowhere}
-use Rattle.pnet_bounds.specs.Sender.{sound, senderOf}
-use Rattle.pnet_bounds.specs.declared.Sender.{Sender}
+use Rattle.pnet_sender.specs.Sender.{sound, senderOf}
+use Rattle.pnet_sender.specs.declared.Sender.{Sender}
 use Rattle.pnet_path.specs.Path.{segmentStep, gatewayStep, crossingBy}
 use Rattle.pnet_path.specs.Ways.{overBy, overTo, kept, noBound, answerOf}
 use Rattle.pnet_path.specs.declared.Way.{Way}

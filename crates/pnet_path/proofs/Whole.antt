@@ -19,7 +19,7 @@ use Rattle.sheet_read.specs.Whole.Outcome.{Read, Not}
 use Rattle.pnet_rules.specs.Segment.{Segment, segmentOf, count, bound}
 use Rattle.pnet_rules.specs.Limits.{Declared}
 use Rattle.pnet_rules.proofs.Holds.{silent-by-bound, count-above-masters, count-of-zero}
-use Rattle.pnet_bounds.specs.Sender.{senderOf}
+use Rattle.pnet_sender.specs.Sender.{senderOf}
 use Rattle.pnet_bounds.proofs.Bounded.{bounded-declared}
 use Rattle.units.specs.Units.{bp}
 use Rattle.units.specs.declared.BitPeriods.{BitPeriods}

@@ -12,7 +12,7 @@ use Rattle.sheet_read.specs.Whole.Outcome.{Read, Not}
 use Rattle.units.specs.Units.{bp}
 use Rattle.pnet_rules.specs.Segment.{Segment, segmentOf, count, bound}
 use Rattle.pnet_bounds.specs.Bounded.{bounded}
-use Rattle.pnet_bounds.specs.Sender.{sound}
+use Rattle.pnet_sender.specs.Sender.{sound}
 use Rattle.pnet_path.specs.declared.Crossing.{Crossing}
 use Rattle.pnet_path.specs.declared.Crossing.the-variants as answer
 

@@ -6,9 +6,9 @@ use mathlib.Core.Bool.{Bool, true, false, cond}
 use lib.ListN.{replicate, set, getD}
 use lib.Dec.{eqb}
 use Rattle.pnet_bounds.specs.Bounded.{bounded}
-use Rattle.pnet_bounds.specs.Sender.{sound, senderOf}
-use Rattle.pnet_bounds.specs.declared.Sender.{Sender}
-use Rattle.pnet_bounds.specs.declared.Sender.the-variants as sender
+use Rattle.pnet_sender.specs.Sender.{sound, senderOf}
+use Rattle.pnet_sender.specs.declared.Sender.{Sender}
+use Rattle.pnet_sender.specs.declared.Sender.the-variants as sender
 use Rattle.units.specs.Units.{bp}
 use Rattle.units.specs.declared.BitPeriods.{BitPeriods}
 use Rattle.pnet_path.specs.Path.{Path, crossingBy}

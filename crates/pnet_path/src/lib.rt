@@ -1,7 +1,7 @@
 // A path over several P-NET segments, page 02 'Ask 4'. It is handed over segment by segment, each with the gateway that leads to it, so
 // a list of forwarding times of another length cannot be said, and no run is lent. What is kept has a place for each of eleven segments. Its
 // runs of bit periods go by value: a reference to an array of structs would be proved by hand.
-use pnet_bounds::Sender;
+use pnet_sender::Sender;
 use units::BitPeriods;
 ghost use mathlib.Core.Path.{_≡_};
 ghost use Prim.Native.Nat.{_+_, _-_, _*_, _≤_, _<_};
@@ -88,7 +88,7 @@ pub fn over(way: Way, forwarding: BitPeriods, s: &[u8], master: u8) -> Way
     if way.refused {
         return way;
     }
-    let sender = pnet_bounds::bound_of(s, master);
+    let sender = pnet_sender::bound_of(s, master);
     match sender {
         Sender::Bound(bound) => further(way, forwarding, master, bound),
         Sender::Refused { no, place } => stopped(way, no, place),

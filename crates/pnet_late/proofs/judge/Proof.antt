@@ -1,11 +1,11 @@
--- `pnet_bounds::judge` meets its contract: V by the sheet's edition is the segment's, and so is the first late stream. Assumes nothing.
+-- `pnet_late::judge` meets its contract: V by the sheet's edition is the segment's, and so is the first late stream. Assumes nothing.
 use mathlib.Core.Path.{_≡_}
 use borrow.Author.Needs.{needs}
 use Rattle.pnet_rules.specs.Segment.{turn}
 use Rattle.pnet_plan.specs.Arrays.{segmentIn}
 use Rattle.pnet_plan.proofs.Cases.{counts-at, turn-is}
-use Rattle.pnet_bounds.proofs.judge.Statement.{statement}
-use Rattle.pnet_bounds.proofs.judge.Tie as tie
+use Rattle.pnet_late.proofs.judge.Statement.{statement}
+use Rattle.pnet_late.proofs.judge.Tie as tie
 
 edition-requires : tie.Need-edition-requires
 edition-requires c κs = search needs

@@ -1,9 +1,9 @@
--- `pnet_bounds::streams_of` meets its contract: what stands at the master's place, and nothing past it. Assumes nothing.
+-- `pnet_sender::streams_of` meets its contract: what stands at the master's place, and nothing past it. Assumes nothing.
 use native.Mathlib.Omega.{arith}
 use borrow.Author.Needs.{needs}
 use borrow.Author.Tests.{le-leb, lt-leb}
-use Rattle.pnet_bounds.proofs.streams_of.Statement.{statement}
-use Rattle.pnet_bounds.proofs.streams_of.Tie as tie
+use Rattle.pnet_sender.proofs.streams_of.Statement.{statement}
+use Rattle.pnet_sender.proofs.streams_of.Tie as tie
 
 returns : tie.Need-returns
 returns c = rw (lt-leb (c .before .args .master) 32 (omega arith))

@@ -1,13 +1,13 @@
--- `pnet_bounds::bound_of` meets its contract: the reading's own refusals, then 3, and what `bound_by` says. Assumes nothing.
+-- `pnet_sender::bound_of` meets its contract: the reading's own refusals, then 3, and what `bound_by` says. Assumes nothing.
 use mathlib.Core.Path.{sym, _∙_}
 use borrow.Author.Needs.{needs}
 use denote.Ref.{now}
 use lib.ListN.{replicate}
 use Rattle.pnet_plan.proofs.Bytes.{sheeted}
 use Rattle.pnet_bounds.proofs.Bounded.{answer-refused, answer-taken, taken-other}
-use Rattle.pnet_bounds.proofs.Sends.{sender-refused}
-use Rattle.pnet_bounds.proofs.bound_of.Statement.{statement}
-use Rattle.pnet_bounds.proofs.bound_of.Tie as tie
+use Rattle.pnet_sender.proofs.Sends.{sender-refused}
+use Rattle.pnet_sender.proofs.bound_of.Statement.{statement}
+use Rattle.pnet_sender.proofs.bound_of.Tie as tie
 
 read-gathering-requires : tie.Need-read-gathering-requires
 read-gathering-requires c κs = search needs

@@ -1,9 +1,9 @@
--- `pnet_bounds::bound_by` meets its contract: V is the segment's, so R of the master that sends is its own. Assumes nothing.
+-- `pnet_sender::bound_by` meets its contract: V is the segment's, so R of the master that sends is its own. Assumes nothing.
 use native.Mathlib.Omega.{arith}
 use borrow.Author.Needs.{needs}
-use Rattle.pnet_bounds.proofs.Sends.{own-small, sender-bound, sender-late}
-use Rattle.pnet_bounds.proofs.bound_by.Statement.{statement}
-use Rattle.pnet_bounds.proofs.bound_by.Tie as tie
+use Rattle.pnet_sender.proofs.Sends.{own-small, sender-bound, sender-late}
+use Rattle.pnet_sender.proofs.bound_by.Statement.{statement}
+use Rattle.pnet_sender.proofs.bound_by.Tie as tie
 
 judge-requires : tie.Need-judge-requires
 judge-requires c κs = c .before .pre

@@ -1,4 +1,4 @@
--- `pnet_bounds::first_late` meets its contract. The invariant: none of the first i streams fails, and `at` is the place of the next. Assumes nothing.
+-- `pnet_late::first_late` meets its contract. The invariant: none of the first i streams fails, and `at` is the place of the next. Assumes nothing.
 use mathlib.Core.Path.{_≡_, ap, _∙_}
 use mathlib.Core.Bool.{false}
 use Prim.Native.Nat.{ℕ, _+_, _-_, _≤_, _<_}
@@ -12,9 +12,9 @@ use Rattle.pnet_rules.specs.Segment.{late}
 use Rattle.pnet_plan.specs.Planned.{firstLate}
 use Rattle.pnet_plan.specs.Arrays.{segmentIn}
 use Rattle.pnet_plan.proofs.Bytes.{Here, here, number-is, streams-few, its-late, its-not-late}
-use Rattle.pnet_bounds.proofs.Bounded.{Placed, placed}
-use Rattle.pnet_bounds.proofs.first_late.Statement.{statement}
-use Rattle.pnet_bounds.proofs.first_late.Tie as tie
+use Rattle.pnet_late.proofs.Small.{Small, stays-small}
+use Rattle.pnet_late.proofs.first_late.Statement.{statement}
+use Rattle.pnet_late.proofs.first_late.Tie as tie
 
 abbrev Inv-loop : tie.InvT-loop
 Inv-loop s first n counts turn at₀ i₀ at i = (i ≤ n) × (at ≡ streamPlace s i) × ((j : ℕ) → j < i → late (segmentIn s) (j + 1) ≡ false)
@@ -36,10 +36,10 @@ its c =
     here (c .before .before .before .before .pre .0) (l .i) (l .at) (c .pnet-stream-at .result) (omega arith) (l .inv .1) (c .pnet-stream-at .ensures)
 
 stream : (c : tie.After-pnet-stream-at Inv-loop μ-loop)
-    → Placed (c .before .before .before .before .args .s .now) (c .before .before .loop .i) (c .before .before .before .before .args .counts .now) (c .before .before .before .before .args .turn) (c .pnet-stream-at .result .found)
+    → Small (c .before .before .loop .i) (c .before .before .before .before .args .counts .now) (c .before .before .before .before .args .turn) (c .pnet-stream-at .result .found)
 stream c =
     let start = c .before .before .before .before in
-    placed (start .pre .0) (start .args .counts .now) (start .args .turn) (start .pre .1 .0) (start .pre .1 .1) (c .before .before .loop .i) (c .pnet-stream-at .result) (omega arith) (its c)
+    stays-small (start .pre .0) (start .args .counts .now) (start .args .turn) (start .pre .1 .0) (start .pre .1 .1) (c .before .before .loop .i) (c .pnet-stream-at .result) (omega arith) (its c)
 
 cast-bound : tie.Need-cast-bound Inv-loop μ-loop
 cast-bound c = omega (arith, stream (c .before .before))

@@ -19,9 +19,9 @@ use Rattle.pnet_plan.specs.Planned.{firstLate}
 use Rattle.pnet_plan.specs.Arrays.{segmentIn, Sheeted}
 use Rattle.pnet_plan.proofs.Bytes.{declares, streams-few}
 use Rattle.pnet_plan.proofs.Cases.{counts-at}
-use Rattle.pnet_bounds.specs.Sender.{sound, senderOf}
-use Rattle.pnet_bounds.specs.declared.Sender.the-variants as answer
 use Rattle.pnet_bounds.proofs.Bounded.{sheeted-late, sheeted-read}
+use Rattle.pnet_sender.specs.Sender.{sound, senderOf}
+use Rattle.pnet_sender.specs.declared.Sender.the-variants as answer
 
 pub sender-refused : (s : List ℕ) (k n p : ℕ) → sound s ≡ Not n p → answer.Refused n p ≡ senderOf (sound s) k
 sender-refused s k n p e = ap (λ (o : Outcome). senderOf o k) (sym e)

@@ -5,9 +5,9 @@ use Rattle.sheet_read.specs.Whole.{Outcome}
 use Rattle.sheet_read.specs.Whole.Outcome.{Read, Not}
 use Rattle.units.specs.Units.{bp}
 use Rattle.pnet_rules.specs.Segment.{segmentOf, bound}
 use Rattle.pnet_bounds.specs.Bounded.{bounded}
-use Rattle.pnet_bounds.specs.declared.Sender.{Sender}
-use Rattle.pnet_bounds.specs.declared.Sender.the-variants as answer
+use Rattle.pnet_sender.specs.declared.Sender.{Sender}
+use Rattle.pnet_sender.specs.declared.Sender.the-variants as answer
 
 -- 'each sheet's own' refusals: those of reading, 3 at 0 if it isn't P-NET, 8. No run is lent for a segment: with room for 800 streams, the
 -- most that a sheet has, 13 is never given
