@@ -22,17 +22,19 @@ use Rattle.sheet_record.proofs.Records.{stream-same}
 use Rattle.sheet_record.proofs.Parts.{first-kinds, first-bus, setting-is, setting-kind, ring-streams}
 use Rattle.sheet_ranges.proofs.Ranges.{segment-ranges, pnet-ranges, ring-ranges, ring-stream-ranges}
 use Rattle.sheet_judge.specs.Own.{ownNo, asBus}
+use Rattle.sheet_keep.specs.Steps.{lateNo, countsWith, longestsWith, idsWith}
+use Rattle.sheet_keep.proofs.Late.{not-late-variable}
 use Rattle.sheet_read.specs.Sheets.{Sheet, sheetOf, busIn, given, fits, mostInAll, hasMasters, countOf, overLimit, metBefore}
 use Rattle.sheet_read.specs.Whole.{placeOf, recordsOf, before, firstStream, judge, ended, reading, told, streamsOfMaster, longestOfMaster, byMaster, countsTold, longestsTold, Outcome}
 use Rattle.sheet_read.specs.Whole.Outcome.{Read, Not}
-use Rattle.sheet_read.specs.Steps.{lateNo, countsWith, longestsWith, idsWith, Begun, Opened}
+use Rattle.sheet_read.specs.Steps.{Begun, Opened}
 use Rattle.sheet_read.specs.declared.Reading.the-variants as answer
 use Rattle.sheet_read.proofs.Walk.{head-at, place-next, place-from}
 use Rattle.sheet_read.proofs.Cases.{PassesAt, Upto, passes-then, passes-if, upto-none, upto-more, upto-place, stops-once, ended-empty, ended-no-stream, ended-sheet}
 use Rattle.sheet_read.proofs.Cases.Stops.{by-record, at-end}
 use Rattle.sheet_judge.proofs.Own.{met-some, own-met, own-met-of, as-itself}
 use Rattle.sheet_read.proofs.Judged.{numbered, lateChecks, ownAt, judge-own}
-use Rattle.sheet_read.proofs.Kept.{Figures, Keeps, keeps-none, keeps-more, late-variable, late-stream, variable, no-variable, not-late-variable}
+use Rattle.sheet_read.proofs.Kept.{Figures, Keeps, keeps-none, keeps-more, late-variable, late-stream, variable, no-variable}
 use Rattle.sheet_read.proofs.Order.{no-limits, limits-of, nth, stream-of, fits-first, fits-behind, edition-fits, setting-late, first-passes, head-some, empty-list, how-many, behind-first, adds-stream, adds-setting}
 use Rattle.sheet_read.proofs.Settings.{counted, edition-first}
 

@@ -1,13 +1,13 @@
--- `sheet_read::among` meets its contract. The loop's invariant: x is none of the first i identifiers. Assumes nothing.
+-- `sheet_keep::among` meets its contract. The loop's invariant: x is none of the first i identifiers. Assumes nothing.
 use Prim.Native.Nat.{_≤_, _-_}
 use mathlib.Core.Path.{_≡_, refl, sym}
 use mathlib.Core.Bool.{false}
 use borrow.Author.Needs.{needs}
 use native.Mathlib.Omega.{arith}
-use Rattle.sheet_read.specs.Steps as Steps
-use Rattle.sheet_read.proofs.Kept.{among-no, among-yes}
-use Rattle.sheet_read.proofs.among.Statement.{statement}
-use Rattle.sheet_read.proofs.among.Tie as tie
+use Rattle.sheet_keep.specs.Steps as Steps
+use Rattle.sheet_keep.proofs.Late.{among-no, among-yes}
+use Rattle.sheet_keep.proofs.among.Statement.{statement}
+use Rattle.sheet_keep.proofs.among.Tie as tie
 
 abbrev Inv-loop : tie.InvT-loop
 Inv-loop x n ids i₀ i = (i ≤ n) × (Steps.among x i ids ≡ false)

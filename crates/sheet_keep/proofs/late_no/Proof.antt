@@ -1,10 +1,10 @@
--- `sheet_read::late_no` meets its contract, a law of `Kept` for each answer. Assumes nothing.
+-- `sheet_keep::late_no` meets its contract, a law of `Late` for each answer. Assumes nothing.
 use mathlib.Core.Path.{_∙_, sym}
 use native.Mathlib.Omega.{arith}
 use borrow.Author.Needs.{needs}
-use Rattle.sheet_read.proofs.Kept.{late-variables, late-met, late-new, late-streams, late-master, late-none}
-use Rattle.sheet_read.proofs.late_no.Statement.{statement}
-use Rattle.sheet_read.proofs.late_no.Tie as tie
+use Rattle.sheet_keep.proofs.Late.{late-variables, late-met, late-new, late-streams, late-master, late-none}
+use Rattle.sheet_keep.proofs.late_no.Statement.{statement}
+use Rattle.sheet_keep.proofs.late_no.Tie as tie
 
 returns : tie.Need-returns
 returns c =

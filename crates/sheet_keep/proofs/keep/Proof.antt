@@ -1,11 +1,11 @@
--- `sheet_read::keep` meets its contract: a stream that passed has its place in the arrays. Assumes nothing.
+-- `sheet_keep::keep` meets its contract: a stream that passed has its place in the arrays. Assumes nothing.
 use native.Mathlib.Omega.{arith}
 use borrow.Author.Needs.{needs}
 use borrow.Author.Tests.{eq-eqb, ne-eqb}
-use Rattle.sheet_read.specs.Steps.{countsWith, longestsWith, idsWith}
-use Rattle.sheet_read.proofs.Kept.{not-late-variable, not-late-stream}
-use Rattle.sheet_read.proofs.keep.Statement.{statement}
-use Rattle.sheet_read.proofs.keep.Tie as tie
+use Rattle.sheet_keep.specs.Steps.{countsWith, longestsWith, idsWith}
+use Rattle.sheet_keep.proofs.Late.{not-late-variable, not-late-stream}
+use Rattle.sheet_keep.proofs.keep.Statement.{statement}
+use Rattle.sheet_keep.proofs.keep.Tie as tie
 
 mul-ids : tie.Need-mul-ids
 mul-ids c =
