@@ -1,9 +1,9 @@
--- `pnet_path::cross` meets its contract: the refusals behind 17 in their order, and then the cost. Assumes nothing.
+-- `pnet_crossing::cross` meets its contract: the refusals behind 17 in their order, and then the cost. Assumes nothing.
 use native.Mathlib.Omega.{arith}
 use borrow.Author.Needs.{needs}
-use Rattle.pnet_path.proofs.Checked.{time-out-of-range, deadline-out-of-range, sender-absent, late, in-time}
-use Rattle.pnet_path.proofs.cross.Statement.{statement}
-use Rattle.pnet_path.proofs.cross.Tie as tie
+use Rattle.pnet_crossing.proofs.Checked.{time-out-of-range, deadline-out-of-range, sender-absent, late, in-time}
+use Rattle.pnet_crossing.proofs.cross.Statement.{statement}
+use Rattle.pnet_crossing.proofs.cross.Tie as tie
 
 first-too-long-requires : tie.Need-first-too-long-requires
 first-too-long-requires c κs = search needs

@@ -1,12 +1,12 @@
--- `pnet_path::first_without` meets its contract. The invariant: i is reached, and no segment before it is without a sender. Assumes nothing.
+-- `pnet_crossing::first_without` meets its contract. The invariant: i is reached, and no segment before it is without a sender. Assumes nothing.
 use native.Mathlib.Omega.{arith}
 use Prim.Native.Nat.{_+_, _-_}
 use borrow.Author.Needs.{needs}
 use borrow.Author.Tests.{eq-eqb, ne-eqb}
-use Rattle.pnet_path.specs.Ways.{noBound}
-use Rattle.pnet_path.proofs.Laws.{Searched, searched-none, searched-more, searched-here, searched-end}
-use Rattle.pnet_path.proofs.first_without.Statement.{statement}
-use Rattle.pnet_path.proofs.first_without.Tie as tie
+use Rattle.pnet_crossing.specs.Cost.{noBound}
+use Rattle.pnet_crossing.proofs.Laws.{Searched, searched-none, searched-more, searched-here, searched-end}
+use Rattle.pnet_crossing.proofs.first_without.Statement.{statement}
+use Rattle.pnet_crossing.proofs.first_without.Tie as tie
 
 abbrev Inv-loop : tie.InvT-loop
 Inv-loop n bounds i₀ i = Searched (noBound bounds) n i

@@ -4,17 +4,17 @@ use native.Mathlib.Omega.{arith}
 use borrow.Author.Needs.{needs}
 use borrow.Fn.Kinds.{In}
 use borrow.Fn.PlainCycle.{Measures, is, falls, and}
-use Rattle.pnet_path.specs.Ways.{kept}
-use Rattle.pnet_path.proofs.Laws.{segment-none, segment-more, gateway-none, gateway-more}
-use Rattle.pnet_path.proofs.gateway_step.Reads as gateway-step
-use Rattle.pnet_path.proofs.gateway_step.Kinds as gateway-step-kinds
-use Rattle.pnet_path.proofs.+gateway_step+segment_step.Lts-gateway_step as gateway-step-lts
-use Rattle.pnet_path.proofs.segment_step.Reads as segment-step
-use Rattle.pnet_path.proofs.segment_step.Kinds as segment-step-kinds
-use Rattle.pnet_path.proofs.+gateway_step+segment_step.Lts-segment_step as segment-step-lts
-use Rattle.pnet_path.proofs.wide.Reads as wide-reads
-use Rattle.pnet_path.proofs.+gateway_step+segment_step.{statement}
-use Rattle.pnet_path.proofs.+gateway_step+segment_step.Tie.{close}
+use Rattle.pnet_crossing.specs.Cost.{kept}
+use Rattle.pnet_crossing.proofs.Laws.{segment-none, segment-more, gateway-none, gateway-more}
+use Rattle.pnet_crossing.proofs.gateway_step.Reads as gateway-step
+use Rattle.pnet_crossing.proofs.gateway_step.Kinds as gateway-step-kinds
+use Rattle.pnet_crossing.proofs.+gateway_step+segment_step.Lts-gateway_step as gateway-step-lts
+use Rattle.pnet_crossing.proofs.segment_step.Reads as segment-step
+use Rattle.pnet_crossing.proofs.segment_step.Kinds as segment-step-kinds
+use Rattle.pnet_crossing.proofs.+gateway_step+segment_step.Lts-segment_step as segment-step-lts
+use Rattle.pnet_crossing.proofs.wide.Reads as wide-reads
+use Rattle.pnet_crossing.proofs.+gateway_step+segment_step.{statement}
+use Rattle.pnet_crossing.proofs.+gateway_step+segment_step.Tie.{close}
 
 -- the hops left
 abbrev μ-gateway-step : Measures 0 gateway-step-kinds.ps ℕ

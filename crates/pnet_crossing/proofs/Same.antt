@@ -8,8 +8,8 @@ use lib.Dec.{ltb}
 use Rattle.common.specs.Checks.{Check, verdict}
 use Rattle.common.proofs.Firsts.{first-same}
 use Rattle.common.proofs.Outside.{inside}
-use Rattle.pnet_path.specs.Path.{segmentStep, gatewayStep, costOver, tooLong, pathChecks, costOr, crossingBy}
-use Rattle.pnet_path.proofs.Checked.{too-many}
+use Rattle.pnet_crossing.specs.Cost.{segmentStep, gatewayStep, costOver, tooLong, pathChecks, costOr, crossingBy}
+use Rattle.pnet_crossing.proofs.Checked.{too-many}
 
 -- R, F and who is absent agree on g gateways and g + 1 segments
 pub record Alike (R R' F F' : ℕ → ℕ) (absent absent' : ℕ → Bool) (g : ℕ) : Type 0 where

@@ -1,13 +1,12 @@
--- `pnet_path::first_too_long` meets its contract. The invariant: i is reached, and no gateway before it has a time out of range. Assumes nothing.
+-- `pnet_crossing::first_too_long` meets its contract. The invariant: i is reached, and no gateway before it has a time out of range. Assumes nothing.
 use native.Mathlib.Omega.{arith}
 use Prim.Native.Nat.{_+_, _-_}
 use borrow.Author.Needs.{needs}
 use borrow.Author.Tests.{lt-ltb, le-ltb}
-use Rattle.pnet_path.specs.Path.{tooLong}
-use Rattle.pnet_path.specs.Ways.{kept}
-use Rattle.pnet_path.proofs.Laws.{Searched, searched-none, searched-more, searched-here, searched-end}
-use Rattle.pnet_path.proofs.first_too_long.Statement.{statement}
-use Rattle.pnet_path.proofs.first_too_long.Tie as tie
+use Rattle.pnet_crossing.specs.Cost.{tooLong, kept}
+use Rattle.pnet_crossing.proofs.Laws.{Searched, searched-none, searched-more, searched-here, searched-end}
+use Rattle.pnet_crossing.proofs.first_too_long.Statement.{statement}
+use Rattle.pnet_crossing.proofs.first_too_long.Tie as tie
 
 abbrev Inv-loop : tie.InvT-loop
 Inv-loop n times i₀ i = Searched (tooLong (kept times)) n i

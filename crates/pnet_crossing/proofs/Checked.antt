@@ -13,8 +13,8 @@ use Rattle.common.proofs.Outside.{outside-is}
 use Rattle.sheet_record.specs.Kinds.{within}
 use Rattle.sheet_ranges.proofs.Ranges.{range-within}
 use Rattle.units.specs.Units.{bp}
-use Rattle.pnet_path.specs.Path.{segmentStep, tooLong, costOver, pathChecks, costOr, crossingBy}
-use Rattle.pnet_path.specs.declared.Crossing.the-variants as answer
+use Rattle.pnet_crossing.specs.Cost.{segmentStep, tooLong, costOver, pathChecks, costOr, crossingBy}
+use Rattle.pnet_crossing.specs.declared.Crossing.the-variants as answer
 
 -- ---- Out of range, as the code tests it
 
