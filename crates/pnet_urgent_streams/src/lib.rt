@@ -183,7 +183,7 @@ fn beside(
         × (now (deadlines .exit) ≡ streamRun outcome deadlineOf (now (deadlines .entry))) ⌝ }
 {
     by_deadline(s, first, n, masters, deadlines);
-    let found = pnet_bounds::judge(s, all, first, n, counts, longests);
+    let found = pnet_late::judge(s, all, first, n, counts, longests);
     let late = found.late;
     let bound = late_bound(late, n, masters, counts, found.turn);
     Listed::Accepted {
