@@ -1,4 +1,5 @@
 pub mod Written
 pub mod Kept
 pub mod Captured
+pub mod Beside
 pub mod Case
