@@ -21,10 +21,11 @@ use Rattle.pnet_run.specs.Run.{answer}
 use Rattle.pnet_run.specs.Promise.{Safe, Reached, Accepted, Even}
 use Rattle.pnet_run.proofs.Demand.{each-request-is-answered-within-the-bound, some-run-takes-exactly-the-bound}
 use Rattle.units.specs.Units.{bp}
-use Rattle.pnet_bounds.specs.Sender.{sound}
+use Rattle.pnet_sender.specs.Sender.{sound}
 use Rattle.pnet_bounds.proofs.Bounded.{bounded-passes}
-use Rattle.pnet_path.specs.declared.Crossing.the-variants as crossing
-use Rattle.pnet_path.specs.Path.{Path, gateways, sheetAt, boundFrom, boundAt, senderAt, forwardingAt, segmentStep, gatewayStep, costOver, crossed}
+use Rattle.pnet_crossing.specs.declared.Crossing.the-variants as crossing
+use Rattle.pnet_crossing.specs.Cost.{segmentStep, gatewayStep, costOver}
+use Rattle.pnet_path.specs.Path.{Path, gateways, sheetAt, boundFrom, boundAt, senderAt, forwardingAt, crossed}
 use Rattle.pnet_path.specs.Refusals.{Present, Sender, Accepted as AcceptedPath}
 use Rattle.pnet_path.proofs.Refusals.{accepted-exactly}
 use Rattle.pnet_path.specs.Ways.{answerOf, wayOver}

@@ -21,16 +21,17 @@ abbrev pub worldfipNumber : fip.Plan → ℕ
 worldfipNumber (fipPlan.Accepted microcycle slots rows) = rows
 worldfipNumber (fipPlan.Refused no' place) = 4294967296 + no'
 
-abbrev pub captureNumber : pnet.Plan → ℕ
-captureNumber (pnetPlan.Accepted masters streams) = streams
-captureNumber (pnetPlan.Refused no' place) = 4294967296 + no'
+-- where the runs have a place for each stream: urgent requests first, and beside a capture
+abbrev pub streamsNumber : pnet.Plan → ℕ
+streamsNumber (pnetPlan.Accepted masters streams) = streams
+streamsNumber (pnetPlan.Refused no' place) = 4294967296 + no'
 
 -- of a text or a sheet that was written, its length
 abbrev pub putNumber : Put → ℕ
 putNumber (put.Next n) = n
 putNumber (put.Refused no' place) = 4294967296 + no'
 
--- ---- The place: the refusal's, else 0, or the stream that limits a ring; beside a capture it is pnetPlace too
+-- ---- The place: the refusal's, else 0, or the stream that limits a ring; it is pnetPlace too where urgent requests go first, and beside a capture
 
 abbrev pub pnetPlace : pnet.Plan → ℕ
 pnetPlace (pnetPlan.Accepted masters streams) = 0

@@ -2,16 +2,19 @@
 // the sheet is accepted, else 2^32 and the refusal's number; and a place, in a cell that is lent for it and always set: the refusal's,
 // else 0, or the stream that limits a ring.
 ghost use mathlib.Core.Path.{_≡_};
+ghost use Prim.Native.Nat.{min};
 ghost use lib.ListN.{length};
 ghost use Rattle.sheet_read.specs.Whole.{reading};
 ghost use Rattle.pnet_rules.specs.Segment;
 ghost use Rattle.pnet_rules.specs.Refined;
 ghost use Rattle.pnet_plan.specs.Planned;
+ghost use Rattle.pnet_urgent_rules.specs.Urgent;
+ghost use Rattle.pnet_urgent_rules.specs.Planned.{urgently};
 ghost use Rattle.profibus_plan.specs.Planned as Ring;
 ghost use Rattle.worldfip_plan.specs.Answer;
 ghost use Rattle.capture_compare.specs.Compared.{compared, answeredOf, largestOf, aboveOf, leftOf};
 ghost use Rattle.pnet_bounds.specs.Bounded.{streamRun};
-ghost use Rattle.planner_exports.specs.Numbers.{pnetNumber, profibusNumber, worldfipNumber, captureNumber};
+ghost use Rattle.planner_exports.specs.Numbers.{pnetNumber, profibusNumber, worldfipNumber, streamsNumber};
 ghost use Rattle.planner_exports.specs.Numbers.{pnetPlace, profibusPlace, worldfipPlace};
 ghost use Rattle.sheet_text.specs.Answers.{exportAnswer, exportBytes, importAnswer, importBytes};
 ghost use Rattle.planner_exports.specs.Numbers.{putNumber, putPlace};
@@ -49,6 +52,32 @@ pub extern "C" fn planner_pnet(
             masters,
             streams: _,
         } => told(masters as u64, 0, place),
+        pnet_plan::Plan::Refused { no, place: at } => told(REFUSED + no as u64, at, place),
+    }
+}
+
+// The streams of a P-NET segment whose urgent requests go first; the place in its master's order, x and rounds of each go to the three runs.
+#[no_mangle]
+pub extern "C" fn planner_urgent(
+    s: &[u8],
+    places: &mut [u32],
+    figure: &mut [u32],
+    rounds: &mut [u32],
+    place: &mut u64,
+) -> u64
+    ensures { λ r.
+        let outcome = urgently (now (s .entry)) (min (length (now (places .entry))) (min (length (now (figure .entry))) (length (now (rounds .entry))))) in
+        ⌜ (r ≡ streamsNumber (Planned.planOf outcome))
+        × (now (place .exit) ≡ pnetPlace (Planned.planOf outcome))
+        × (now (places .exit) ≡ streamRun outcome Urgent.place (now (places .entry)))
+        × (now (figure .exit) ≡ streamRun outcome Urgent.figure (now (figure .entry)))
+        × (now (rounds .exit) ≡ streamRun outcome Urgent.rounds (now (rounds .entry))) ⌝ }
+{
+    match pnet_urgent::plan(s, places, figure, rounds) {
+        pnet_plan::Plan::Accepted {
+            masters: _,
+            streams,
+        } => told(streams as u64, 0, place),
         pnet_plan::Plan::Refused { no, place: at } => told(REFUSED + no as u64, at, place),
     }
 }
@@ -95,7 +124,7 @@ pub extern "C" fn planner_capture(
 ) -> u64
     ensures { λ r.
         let outcome = compared (now (s .entry)) (now (c .entry)) (length (now (answers .entry))) (length (now (largest .entry))) (length (now (above .entry))) (length (now (left .entry))) in
-        ⌜ (r ≡ captureNumber (Planned.planOf outcome))
+        ⌜ (r ≡ streamsNumber (Planned.planOf outcome))
         × (now (place .exit) ≡ pnetPlace (Planned.planOf outcome))
         × (now (answers .exit) ≡ streamRun outcome (answeredOf (now (c .entry))) (now (answers .entry)))
         × (now (largest .exit) ≡ streamRun outcome (largestOf (now (c .entry))) (now (largest .entry)))

@@ -27,13 +27,12 @@ use Rattle.sheet_read.proofs.Taken.{Taken, taken, not-taken, taken-ready}
 use Rattle.pnet_rules.specs.Segment.{Stream, Segment, segmentOf, count, turn}
 use Rattle.pnet_rules.specs.Limits.{Declared}
 use Rattle.pnet_rules.proofs.Declares.{declared}
-use Rattle.pnet_rules.proofs.Holds.{turn-at-most, bound-at-most}
 use Rattle.pnet_turn.specs.Turn.{at}
 use Rattle.pnet_plan.specs.Planned.{firstLate, segmentChecks, planOf, atPlace}
 use Rattle.pnet_plan.specs.declared.answer.Plan.{Plan}
 use Rattle.pnet_plan.specs.declared.answer.Plan.the-variants as answer
 use Rattle.pnet_plan.specs.Arrays.{segmentIn, Sheeted}
-use Rattle.pnet_plan.proofs.Bytes.{Here, declares, streams-few, its-master, its-bound}
+use Rattle.pnet_plan.proofs.Bytes.{Here, its-bound}
 use Rattle.pnet_bounds.specs.Bounded.{boundedBy, bounded, boundOf, masterOf, spacingOf, jitterOf, streamRun}
 
 -- ---- What is refused
@@ -168,11 +167,6 @@ module _ {s : List ℕ} {N n first : ℕ} {counts longests : List ℕ} (h : Shee
 
 -- the record r is stream i + 1: its master, what the code multiplies for its bound, its spacing and its jitter
 pub record Placed (s : List ℕ) (i : ℕ) (counts : List ℕ) (v : ℕ) (r : Record) : Type 0 where
-  pub inside : i < 800
-  pub to : r .a ≤ 32
-  pub count-to : at counts (r .a) ≤ 80
-  pub v-to : v ≤ 51040
-  pub small : at counts (r .a) * v ≤ 4083200
   pub master : r .a ≡ atPlace (masterOf (segmentIn s)) i
   pub bounds : at counts (r .a) * v ≡ atPlace (boundOf (segmentIn s)) i
   pub spaced : r .c ≡ atPlace (spacingOf (segmentIn s)) i
@@ -183,18 +177,9 @@ module _ {s : List ℕ} {first n : ℕ} (ready : Ready s pnet first n) (counts :
   pub placed : (i : ℕ) (r : Met) → i < n → Here s i r → Placed s i counts v (r .found)
   unfolding boundOf
   placed i r l h =
-      let S = segmentIn s in
-      let d = declares ready in
-      let m = its-master ready l r h in
-      let e = its-bound ready l r h counts v counts-are ev in
       record {
-        inside = omega (arith, streams-few ready);
-        to = m;
-        count-to = omega (arith, counts-are (r .found .a) m, d .counts (r .found .a));
-        v-to = omega (arith, ev, turn-at-most S d);
-        small = omega (arith, e, bound-at-most S d (S .stream (i + 1) .master));
         master = ap (λ (x : Stream). x .master) (h .stream);
-        bounds = e;
+        bounds = its-bound ready l r h counts v counts-are ev;
         spaced = ap (λ (x : Stream). x .spacing) (h .stream);
         jittered = ap (λ (x : Stream). x .jitter) (h .stream);
       }

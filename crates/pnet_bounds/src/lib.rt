@@ -1,74 +1,18 @@
-// The bounds of a P-NET sheet without a search: for a capture, page 02 'Ask 1', each stream's master, its master's R, its T and its J; for
-// a path, page 02 'Ask 4', R of the master that sends.
+// The bounds of a P-NET sheet without a search, for a capture, page 02 'Ask 1': each stream's master, its master's R, its T and its J.
 use pnet_plan::Plan;
 use sheet_read::MOST;
 use sheet_read::Reading;
-use units::BitPeriods;
 ghost use mathlib.Core.Path.{_≡_};
 ghost use Prim.Native.Nat.{ℕ, _≤_};
 ghost use lib.ListN.{length};
-ghost use lib.Dec.{leb};
 ghost use Rattle.common.specs.Runs.{filled};
-ghost use Rattle.common.specs.Sums.{when};
 ghost use Rattle.sheet_record.specs.Kinds.{pnet};
 ghost use Rattle.sheet_read.specs.Steps.{Ready};
 ghost use Rattle.pnet_rules.specs.Segment;
 ghost use Rattle.pnet_turn.specs.Turn.{at};
 ghost use Rattle.pnet_plan.specs.Arrays.{segmentIn, Sheeted};
-ghost use Rattle.pnet_plan.specs.Planned.{firstLate, planOf, atPlace};
+ghost use Rattle.pnet_plan.specs.Planned.{planOf, atPlace};
 ghost use Rattle.pnet_bounds.specs.Bounded.{bounded, boundOf, masterOf, spacingOf, jitterOf, streamRun};
-ghost use Rattle.pnet_bounds.specs.Sender.{sound, senderOf};
-
-// What the sheet of a segment says of the master that sends there: its R, or the refusal's number and place.
-pub enum Sender {
-    Bound(BitPeriods),
-    Refused { no: u8, place: usize },
-}
-
-// V of a sheet under its edition, and its first stream whose master's R is above its D, the number past the last where there is none.
-struct Judged {
-    turn: u32,
-    late: usize,
-}
-
-// The first of n streams whose master's R is above its D, and n + 1 where there is none; turn is V.
-fn first_late(s: &[u8], first: usize, n: usize, counts: &[u8; 33], turn: u32) -> usize
-    requires { ⌜ Ready (now s) pnet first n ⌝ }
-    requires { ⌜ (turn ≡ Segment.turn (segmentIn (now s))) × ((y : ℕ) → y ≤ 32 → at (now counts) y ≡ Segment.count (segmentIn (now s)) y) ⌝ }
-    ensures { λ r. ⌜ r ≡ firstLate (segmentIn (now (s .entry))) ⌝ }
-{
-    let mut at = first;
-    let mut i: usize = 0;
-    while i < n {
-        let met = sheet_record::pnet_stream_at(s, at);
-        let r = met.found;
-        let bound = counts[r.a as usize] as u32 * turn;
-        if r.d < bound {
-            return i + 1;
-        }
-        at = met.next;
-        i += 1;
-    }
-    n + 1
-}
-
-// A P-NET sheet of N masters and n streams judged.
-fn judge(
-    s: &[u8],
-    all: usize,
-    first: usize,
-    n: usize,
-    counts: &[u8; 33],
-    longests: &[u32; 33],
-) -> Judged
-    requires { ⌜ Sheeted (now s) all n first (now counts) (now longests) ⌝ }
-    ensures { λ r. ⌜ (r .turn ≡ Segment.turn (segmentIn (now (s .entry)))) × (r .late ≡ firstLate (segmentIn (now (s .entry)))) ⌝ }
-{
-    let edition = sheet_read::edition(s);
-    let turn = pnet_turn::turn_of(counts, longests, all, edition).0;
-    let late = first_late(s, first, n, counts, turn);
-    Judged { turn, late }
-}
 
 // Each stream's master, bound, spacing and jitter; turn is V.
 fn by_stream(
@@ -124,7 +68,7 @@ fn bounds_of(
     ensures { λ _. ⌜ now (spacing .exit) ≡ streamRun (bounded (now (s .entry)) room) spacingOf (now (spacing .entry)) ⌝ }
     ensures { λ _. ⌜ now (jitter .exit) ≡ streamRun (bounded (now (s .entry)) room) jitterOf (now (jitter .entry)) ⌝ }
 {
-    let found = judge(s, all, first, n, counts, longests);
+    let found = pnet_late::judge(s, all, first, n, counts, longests);
     let late = found.late;
     if late <= n {
         return Plan::Refused { no: 8, place: late };
@@ -194,71 +138,6 @@ pub fn bounds(
                 spacing,
                 jitter,
             )
-        }
-    }
-}
-
-// How many streams a master has; one above 32 has none.
-fn streams_of(counts: &[u8; 33], master: u8) -> u8
-    ensures { λ r. ⌜ r ≡ when (leb master 32) (at (now (counts .entry)) master) ⌝ }
-{
-    if master > 32 {
-        return 0;
-    }
-    counts[master as usize]
-}
-
-// R of the master that sends on a P-NET segment of N masters and n streams, unless 8 is given.
-fn bound_by(
-    s: &[u8],
-    all: usize,
-    first: usize,
-    n: usize,
-    counts: &[u8; 33],
-    longests: &[u32; 33],
-    master: u8,
-) -> Sender
-    requires { ⌜ Sheeted (now s) all n first (now counts) (now longests) ⌝ }
-    ensures { λ r. ⌜ r ≡ senderOf (sound (now (s .entry))) master ⌝ }
-{
-    let found = judge(s, all, first, n, counts, longests);
-    let late = found.late;
-    if n < late {
-        let own = streams_of(counts, master) as u32;
-        let bound = own * found.turn;
-        return Sender::Bound(BitPeriods(bound));
-    }
-    Sender::Refused { no: 8, place: late }
-}
-
-// The sheet of one segment of a path, and R of the master that sends there: 0 for a master that it does not have, or that has no
-// streams.
-pub fn bound_of(s: &[u8], master: u8) -> Sender
-    ensures { λ r. ⌜ r ≡ senderOf (sound (now (s .entry))) master ⌝ }
-{
-    let mut counts: [u8; 33] = [0; 33];
-    let mut longests: [u32; 33] = [0; 33];
-    let read = sheet_read::read_gathering(s, &mut counts, &mut longests);
-    match read {
-        Reading::Refused { no, place } => Sender::Refused { no, place },
-        Reading::Accepted {
-            head,
-            streams,
-            first,
-        } => {
-            if sheet_record::bus_of(head.kind) == 1 {
-                bound_by(
-                    s,
-                    head.a as usize,
-                    first,
-                    streams,
-                    &counts,
-                    &longests,
-                    master,
-                )
-            } else {
-                Sender::Refused { no: 3, place: 0 }
-            }
         }
     }
 }

@@ -5,8 +5,8 @@ use mathlib.Core.List.{List, [], _∷_}
 use Prim.Native.Nat.{ℕ}
 use lib.Dec.{eqb}
 use Rattle.units.specs.Units.{bp}
+use Rattle.pnet_crossing.specs.declared.Crossing.the-variants as answer
 use Rattle.pnet_path.specs.Path.{Path, crossed}
-use Rattle.pnet_path.specs.declared.Crossing.the-variants as answer
 
 -- N masters, of which the first two have a stream each, C = 203, T = D = 9,999: with N = 2, R is 500 for both
 unfoldable pub sheet : ℕ → List ℕ

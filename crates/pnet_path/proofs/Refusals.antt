@@ -25,13 +25,14 @@ use Rattle.sheet_read.specs.Whole.Outcome.{Read, Not}
 use Rattle.sheet_read.proofs.Known.{both-fail}
 use Rattle.pnet_rules.specs.Segment.{Segment, segmentOf, count}
 use Rattle.units.specs.Units.{bp}
-use Rattle.pnet_path.specs.Path.{Path, gateways, sheetAt, boundAt, forwardingAt, tooLong, absentIn, absentFrom, absentAt, pathChecks, costOr, crossingBy, refusedOr, crossedFrom, crossed}
+use Rattle.pnet_crossing.specs.Cost.{tooLong, pathChecks, costOr, crossingBy}
+use Rattle.pnet_crossing.specs.declared.Crossing.{Crossing}
+use Rattle.pnet_crossing.specs.declared.Crossing.the-variants as answer
+use Rattle.pnet_crossing.proofs.Laws.{Searched, searched-here, searched-end}
+use Rattle.pnet_path.specs.Path.{Path, gateways, sheetAt, boundAt, forwardingAt, absentIn, absentFrom, absentAt, refusedOr, crossedFrom, crossed}
 use Rattle.pnet_path.specs.Refusals.{Between, Each, FirstBad, Taken, Untaken, Few, Short, Long, Dated, Present, Absent, Sender, total, Sheets, Times, Senders, Given, Accepted}
 use Rattle.pnet_path.specs.Refusals.Absent.{not-there, no-streams}
 use Rattle.pnet_path.specs.Refusals.Given.{own, not-few, too-long, undated, no-sender, too-late}
-use Rattle.pnet_path.specs.declared.Crossing.{Crossing}
-use Rattle.pnet_path.specs.declared.Crossing.the-variants as answer
-use Rattle.pnet_path.proofs.Laws.{Searched, searched-here, searched-end}
 
 -- ---- Tests
 

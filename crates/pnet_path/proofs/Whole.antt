@@ -19,20 +19,21 @@ use Rattle.sheet_read.specs.Whole.Outcome.{Read, Not}
 use Rattle.pnet_rules.specs.Segment.{Segment, segmentOf, count, bound}
 use Rattle.pnet_rules.specs.Limits.{Declared}
 use Rattle.pnet_rules.proofs.Holds.{silent-by-bound, count-above-masters, count-of-zero}
-use Rattle.pnet_bounds.specs.Sender.{senderOf}
+use Rattle.pnet_sender.specs.Sender.{senderOf}
 use Rattle.pnet_bounds.proofs.Bounded.{bounded-declared}
 use Rattle.units.specs.Units.{bp}
 use Rattle.units.specs.declared.BitPeriods.{BitPeriods}
-use Rattle.pnet_path.specs.Path.{Path, gateways, sheetAt, boundAt, boundFrom, senderAt, forwardingAt, absentIn, absentFrom, absentAt, crossingBy, crossedFrom, crossed}
+use Rattle.pnet_crossing.specs.Cost.{crossingBy, kept, noBound}
+use Rattle.pnet_crossing.specs.declared.Crossing.the-variants as answer
+use Rattle.pnet_crossing.proofs.Same.{crossing-same}
+use Rattle.pnet_path.specs.Path.{Path, gateways, sheetAt, boundAt, boundFrom, senderAt, forwardingAt, absentIn, absentFrom, absentAt, crossedFrom, crossed}
 use Rattle.pnet_path.specs.Refusals.{Each, FirstBad, Taken, Untaken}
-use Rattle.pnet_path.specs.Ways.{oneMore, further, stopped, overBy, kept, noBound, answerOf, wayOver, HandedOver}
+use Rattle.pnet_path.specs.Ways.{oneMore, further, stopped, overBy, answerOf, wayOver, HandedOver}
 use Rattle.pnet_path.specs.Ways.HandedOver.{whole, up-to-refused}
 use Rattle.pnet_path.specs.declared.Way.{Way}
-use Rattle.pnet_path.specs.declared.Crossing.the-variants as answer
 use Rattle.pnet_path.proofs.Laws.{over-stays, over-goes, answer-of-refused, answer-of-others}
 use Rattle.pnet_path.proofs.Refusals.{behind, refused-own, Looked, looked}
 use Rattle.pnet_path.proofs.Refusals.Looked.{all, up-to}
-use Rattle.pnet_path.proofs.Same.{crossing-same}
 
 -- ---- Absent is who has no bound
 

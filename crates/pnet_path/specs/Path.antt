@@ -1,20 +1,17 @@
--- Page 02, 'Ask 4', several P-NET segments: a path, what it costs, and its refusals in their order. Assumes nothing.
-use Prim.Native.Nat.{ℕ, zero, suc, _+_, _-_, _*_}
-use mathlib.Core.List.{List, [], _∷_}
+-- Page 02, 'Ask 4', several P-NET segments: a path, its figures, and its answer. Assumes nothing.
+use Prim.Native.Nat.{ℕ, zero, suc, _+_, _-_}
+use mathlib.Core.List.{List}
 use mathlib.Core.Bool.{Bool, true, not, _||_}
-use lib.Dec.{eqb, leb, ltb}
-use Rattle.common.specs.Checks.{Check, check, Verdict, verdict}
-use Rattle.common.specs.Checks.Verdict.{Passed, Refused}
-use Rattle.common.specs.Sums.{firstOf}
+use lib.Dec.{eqb}
 use Rattle.sheet_record.specs.Kinds.{within}
 use Rattle.sheet_read.specs.Whole.{Outcome}
 use Rattle.sheet_read.specs.Whole.Outcome.{Read, Not}
-use Rattle.units.specs.Units.{bp}
 use Rattle.pnet_rules.specs.Segment.{Segment, segmentOf, count, bound}
 use Rattle.pnet_bounds.specs.Bounded.{bounded}
-use Rattle.pnet_bounds.specs.Sender.{sound}
-use Rattle.pnet_path.specs.declared.Crossing.{Crossing}
-use Rattle.pnet_path.specs.declared.Crossing.the-variants as answer
+use Rattle.pnet_sender.specs.Sender.{sound}
+use Rattle.pnet_crossing.specs.Cost.{crossingBy}
+use Rattle.pnet_crossing.specs.declared.Crossing.{Crossing}
+use Rattle.pnet_crossing.specs.declared.Crossing.the-variants as answer
 
 -- ---- A path
 
@@ -41,7 +38,7 @@ unfoldable pub sheetAt : Path → ℕ → Outcome
 unfolding bounded
 sheetAt P i = sound (P .hop i .sheet)
 
--- ---- What it costs
+-- ---- Its figures
 
 -- R of master k by a sheet
 abbrev pub boundFrom : Outcome → ℕ → ℕ
@@ -61,30 +58,6 @@ senderAt P i = P .hop i .sender
 unfoldable pub forwardingAt : Path → ℕ → ℕ
 forwardingAt P i = P .hop (i + 1) .forwarding
 
--- 'the segment's bound for the sending master, then the gateway's declared forwarding time, then the rest of the path, the segment step and
--- the gateway step calling for each other until no hop is left; the reply costs the forwarding times once more'. A hop is a segment or a
--- gateway; so many are left at segment i, or at the gateway behind it
-module _ (R F : ℕ → ℕ) where
-  unfoldable mutual
-    pub segmentStep : ℕ → ℕ → ℕ
-    segmentStep zero i = 0
-    segmentStep (suc left) i = R i + gatewayStep left i
-
-    pub gatewayStep : ℕ → ℕ → ℕ
-    gatewayStep zero i = 0
-    gatewayStep (suc left) i = F i + segmentStep left (i + 1) + F i
-
-  -- g gateways and g + 1 segments
-  unfoldable pub costOver : ℕ → ℕ
-  unfolding segmentStep
-  costOver g = segmentStep (2 * g + 1) 1
-
--- ---- Refusals
-
--- gateway i's forwarding time is not 0..1,000,000 bp
-unfoldable pub tooLong : (ℕ → ℕ) → ℕ → Bool
-tooLong F i = ltb 1000000 (F i)
-
 -- master k is absent from a segment, or without streams
 unfoldable pub absentIn : Segment → ℕ → Bool
 unfolding within count
@@ -98,28 +71,7 @@ unfoldable pub absentAt : Path → ℕ → Bool
 unfolding sheetAt absentIn segmentOf
 absentAt P i = absentFrom (sheetAt P i) (P .hop i .sender)
 
--- those behind the sheets' own: of g gateways, with R, F and D, and whether segment i's sender is absent
-unfoldable pub pathChecks : (ℕ → ℕ) → (ℕ → ℕ) → (ℕ → Bool) → ℕ → ℕ → List Check
-unfolding within firstOf tooLong costOver
-pathChecks R F absent g D =
-    check 17 (not (within 1 g 10)) g
-    ∷ check 4 (leb (firstOf (tooLong F) g 1) g) (firstOf (tooLong F) g 1)
-    ∷ check 4 (not (within 1 D 1000000000)) 0
-    ∷ check 18 (leb (firstOf absent (g + 1) 1) (g + 1)) (firstOf absent (g + 1) 1)
-    ∷ check 19 (ltb D (costOver R F g)) 0
-    ∷ []
-
 -- ---- The answer
-
--- what it costs, or the refusal
-abbrev pub costOr : Verdict → ℕ → Crossing
-costOr Passed cost = answer.Within (bp cost)
-costOr (Refused n p) cost = answer.Refused n p
-
--- by R, F and what is absent, where no sheet is refused
-unfoldable pub crossingBy : (ℕ → ℕ) → (ℕ → ℕ) → (ℕ → Bool) → ℕ → ℕ → Crossing
-unfolding verdict pathChecks costOver
-crossingBy R F absent g D = costOr (verdict (pathChecks R F absent g D)) (costOver R F g)
 
 -- a sheet's own refusal, or what follows
 abbrev pub refusedOr : Outcome → Crossing → Crossing

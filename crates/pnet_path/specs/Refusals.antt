@@ -5,7 +5,8 @@ use mathlib.Core.Path.{_≡_}
 use Rattle.sheet_read.specs.Sheets.{Sheet}
 use Rattle.sheet_read.specs.Whole.Outcome.{Read, Not}
 use Rattle.pnet_rules.specs.Segment.{Segment, segmentOf, count}
-use Rattle.pnet_path.specs.Path.{Path, gateways, sheetAt, boundAt, forwardingAt, costOver}
+use Rattle.pnet_crossing.specs.Cost.{costOver}
+use Rattle.pnet_path.specs.Path.{Path, gateways, sheetAt, boundAt, forwardingAt}
 
 -- ---- Words
 

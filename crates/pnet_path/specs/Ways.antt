@@ -2,19 +2,18 @@
 use mathlib.Core.Path.{_≡_}
 use Prim.Native.Nat.{ℕ, zero, suc, _+_, _-_, _^_, _≤_, min}
 use mathlib.Core.List.{List}
-use mathlib.Core.Bool.{Bool, true, false, cond}
-use lib.ListN.{replicate, set, getD}
-use lib.Dec.{eqb}
+use mathlib.Core.Bool.{true, false, cond}
+use lib.ListN.{replicate, set}
 use Rattle.pnet_bounds.specs.Bounded.{bounded}
-use Rattle.pnet_bounds.specs.Sender.{sound, senderOf}
-use Rattle.pnet_bounds.specs.declared.Sender.{Sender}
-use Rattle.pnet_bounds.specs.declared.Sender.the-variants as sender
+use Rattle.pnet_sender.specs.Sender.{sound, senderOf}
+use Rattle.pnet_sender.specs.declared.Sender.{Sender}
+use Rattle.pnet_sender.specs.declared.Sender.the-variants as sender
 use Rattle.units.specs.Units.{bp}
-use Rattle.units.specs.declared.BitPeriods.{BitPeriods}
-use Rattle.pnet_path.specs.Path.{Path, crossingBy}
+use Rattle.pnet_crossing.specs.Cost.{crossingBy, kept, noBound}
+use Rattle.pnet_crossing.specs.declared.Crossing.{Crossing}
+use Rattle.pnet_crossing.specs.declared.Crossing.the-variants as answer
+use Rattle.pnet_path.specs.Path.{Path}
 use Rattle.pnet_path.specs.declared.Way.{Way}
-use Rattle.pnet_path.specs.declared.Crossing.{Crossing}
-use Rattle.pnet_path.specs.declared.Crossing.the-variants as answer
 
 -- ---- What is kept
 
@@ -71,14 +70,6 @@ unfolding bounded further stopped
 overTo w F s k = cond (w .refused) w (overBy w F k (senderOf (sound s) k))
 
 -- ---- The answer
-
--- what stands at place i of a run of counts
-abbrev pub kept : List BitPeriods → ℕ → ℕ
-kept l i = getD l i (bp 0) .0
-
--- no R of a master with streams is 0
-unfoldable pub noBound : List BitPeriods → ℕ → Bool
-noBound l i = eqb (kept l i) 0
 
 unfoldable pub answerOf : Way → ℕ → Crossing
 unfolding crossingBy noBound

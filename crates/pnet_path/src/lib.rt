@@ -1,14 +1,12 @@
 // A path over several P-NET segments, page 02 'Ask 4'. It is handed over segment by segment, each with the gateway that leads to it, so
-// a list of forwarding times of another length cannot be said, and no run is lent. What is kept has a place for each of eleven segments. Its
-// runs of bit periods go by value: a reference to an array of structs would be proved by hand.
-use pnet_bounds::Sender;
+// a list of forwarding times of another length cannot be said, and no run is lent. What is kept has a place for each of eleven segments.
+pub use pnet_crossing::Crossing;
+use pnet_sender::Sender;
 use units::BitPeriods;
 ghost use mathlib.Core.Path.{_≡_};
-ghost use Prim.Native.Nat.{_+_, _-_, _*_, _≤_, _<_};
-ghost use Rattle.common.specs.Sums.{firstOf};
-ghost use Rattle.pnet_path.specs.Path.{segmentStep, gatewayStep, tooLong, crossingBy};
+ghost use Prim.Native.Nat.{_-_};
 ghost use Rattle.pnet_path.specs.Ways;
-ghost use Rattle.pnet_path.specs.Ways.{started, oneMore, overTo, kept, noBound, answerOf};
+ghost use Rattle.pnet_path.specs.Ways.{started, oneMore, overTo, answerOf};
 
 // The segments so far. Place i of `masters` and `bounds` is for segment i, place i of `times` for gateway i, which lies between segments
 // i and i + 1; place 0 is not looked at. Where the sheet of the last segment was refused, it is so with this number and place.
@@ -20,12 +18,6 @@ pub struct Way {
     pub masters: [u8; 12],
     pub bounds: [BitPeriods; 12],
     pub times: [BitPeriods; 11],
-}
-
-// What a path costs, or the refusal's number and place.
-pub enum Crossing {
-    Within(BitPeriods),
-    Refused { no: u8, place: usize },
 }
 
 // No segment yet.
@@ -88,106 +80,11 @@ pub fn over(way: Way, forwarding: BitPeriods, s: &[u8], master: u8) -> Way
     if way.refused {
         return way;
     }
-    let sender = pnet_bounds::bound_of(s, master);
+    let sender = pnet_sender::bound_of(s, master);
     match sender {
         Sender::Bound(bound) => further(way, forwarding, master, bound),
         Sender::Refused { no, place } => stopped(way, no, place),
     }
-}
-
-fn wide(b: BitPeriods) -> u64
-    ensures { λ r. ⌜ (r ≡ b .0) × (r < 4294967296) ⌝ }
-{
-    b.0 as u64
-}
-
-// The segment step: what segment i and all behind it cost, with so many hops left, this one among them.
-fn segment_step(bounds: [BitPeriods; 12], times: [BitPeriods; 11], i: usize, left: usize) -> u64
-    requires { ⌜ i + i + left ≤ 23 ⌝ }
-    ensures { λ r. ⌜ (r ≡ segmentStep (kept bounds) (kept times) left i) × (r ≤ left * 8589934592) ⌝ }
-{
-    if left == 0 {
-        return 0;
-    }
-    let bound = wide(bounds[i]);
-    bound + gateway_step(bounds, times, i, left - 1)
-}
-
-// The gateway step: the gateway behind segment i forwards the request, the rest of the path follows, and it forwards the reply.
-fn gateway_step(bounds: [BitPeriods; 12], times: [BitPeriods; 11], i: usize, left: usize) -> u64
-    requires { ⌜ i + i + left ≤ 22 ⌝ }
-    ensures { λ r. ⌜ (r ≡ gatewayStep (kept bounds) (kept times) left i) × (r ≤ left * 8589934592) ⌝ }
-{
-    if left == 0 {
-        return 0;
-    }
-    let there = wide(times[i]);
-    let rest = segment_step(bounds, times, i + 1, left - 1);
-    let back = wide(times[i]);
-    there + rest + back
-}
-
-// The first of n gateways with a forwarding time out of range, and n + 1 where there is none.
-fn first_too_long(times: [BitPeriods; 11], n: usize) -> usize
-    requires { ⌜ n ≤ 10 ⌝ }
-    ensures { λ r. ⌜ r ≡ firstOf (tooLong (kept times)) n 1 ⌝ }
-{
-    let mut i: usize = 1;
-    while i <= n {
-        let time = times[i];
-        if time.0 > 1_000_000 {
-            return i;
-        }
-        i += 1;
-    }
-    i
-}
-
-// The first of n segments whose sender has no streams, and n + 1 where there is none.
-fn first_without(bounds: [BitPeriods; 12], n: usize) -> usize
-    requires { ⌜ n ≤ 11 ⌝ }
-    ensures { λ r. ⌜ r ≡ firstOf (noBound bounds) n 1 ⌝ }
-{
-    let mut i: usize = 1;
-    while i <= n {
-        let bound = bounds[i];
-        if bound.0 == 0 {
-            return i;
-        }
-        i += 1;
-    }
-    i
-}
-
-// What 1 to 10 gateways answer.
-fn cross(
-    bounds: [BitPeriods; 12],
-    times: [BitPeriods; 11],
-    gateways: usize,
-    deadline: BitPeriods,
-) -> Crossing
-    requires { ⌜ (1 ≤ gateways) × (gateways ≤ 10) ⌝ }
-    ensures { λ r. ⌜ r ≡ crossingBy (kept bounds) (kept times) (noBound bounds) gateways (deadline .0) ⌝ }
-{
-    let long = first_too_long(times, gateways);
-    if long <= gateways {
-        return Crossing::Refused { no: 4, place: long };
-    }
-    if (deadline.0 < 1) | (deadline.0 > 1_000_000_000) {
-        return Crossing::Refused { no: 4, place: 0 };
-    }
-    let without = first_without(bounds, gateways + 1);
-    if without <= gateways + 1 {
-        return Crossing::Refused {
-            no: 18,
-            place: without,
-        };
-    }
-    let cost = segment_step(bounds, times, 1, 2 * gateways + 1);
-    if cost > deadline.0 as u64 {
-        return Crossing::Refused { no: 19, place: 0 };
-    }
-    Crossing::Within(BitPeriods(cost as u32))
 }
 
 fn gateways_of(segments: usize) -> usize
@@ -210,13 +107,7 @@ pub fn answer(way: Way, deadline: BitPeriods) -> Crossing
         };
     }
     let gateways = gateways_of(way.segments);
-    if (gateways < 1) | (gateways > 10) {
-        return Crossing::Refused {
-            no: 17,
-            place: gateways,
-        };
-    }
     let bounds = way.bounds;
     let times = way.times;
-    cross(bounds, times, gateways, deadline)
+    pnet_crossing::over_gateways(bounds, times, gateways, deadline)
 }

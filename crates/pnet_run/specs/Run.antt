@@ -66,7 +66,7 @@ put q m l y = cond (eqb y m) l (q y)
 
 -- ---- The token
 
--- on its way to a master, or with one that serves its oldest request; and the bp left to the arrival, or to the completion
+-- on its way to a master, or with one that serves a request; and the bp left to the arrival, or to the completion
 pub data Token : Type 0 where
   toward : ℕ → ℕ → Token
   serving : ℕ → ℕ → Token

@@ -13,7 +13,8 @@ use Rattle.pnet_run.specs.Promise.{Kept, quiet, other, asks, Spaced}
 use Rattle.pnet_run.proofs.Few.{each}
 use Rattle.pnet_urgent_run.specs.Stack.{Held, held, here, further, MostUrgent, Sends, besides, one, early, Everyone}
 use Rattle.pnet_urgent_run.specs.Promise.{AnsweredOf}
-use Rattle.pnet_urgent_run.proofs.Three.{three, figures-are, stream-1, stream-2, stream-3, most-none, most-and, alone}
+use Rattle.pnet_urgent_run.proofs.Three.{three, figures-are, stream-1, stream-2, stream-3}
+use Rattle.pnet_urgent_run.proofs.Progress.{most-none, most-and, alone}
 use Rattle.pnet_urgent_run.proofs.Steps.{By, starts, down, lap, served}
 
 -- ---- Who is most urgent

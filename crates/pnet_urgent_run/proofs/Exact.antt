@@ -6,15 +6,13 @@ use mathlib.Core.Path.{_≡_, refl}
 use mathlib.Core.Logic.{_⊎_, inr, ⊎-elim}
 use mathlib.Core.List.{List, [], _∷_, List·Memᴰ, List·Memᴰ·head, List·Memᴰ·tail, List·Memᴰ·not-nil, List·Memᴰ·cases-cons}
 use native.Mathlib.Omega.{arith}
-use Rattle.units.specs.declared.BitPeriods.{BitPeriods}
 use Rattle.units.specs.Units.{bp}
-use Rattle.pnet_rules.specs.Segment.{Segment, segmentOf}
-use Rattle.pnet_run.specs.Run.{Belongs, request, answer, toward}
+use Rattle.pnet_rules.specs.Segment.{segmentOf}
+use Rattle.pnet_run.specs.Run.{request, toward}
 use Rattle.pnet_run.specs.Promise.{Kept, quiet, other, asks, Spaced}
 use Rattle.pnet_run.proofs.Few.{each}
-use Rattle.pnet_urgent_run.specs.Stack.{Everyone}
-use Rattle.pnet_urgent_run.specs.Promise.{SafeFor, ReachedFor}
-use Rattle.pnet_urgent_run.proofs.Three.{three}
+use Rattle.pnet_urgent_run.specs.Promise.{ReachedFor}
+use Rattle.pnet_urgent_run.proofs.Three.{three, stream-1, stream-2, stream-3}
 use Rattle.pnet_urgent_run.proofs.Laps.{blocked-came, blocked-went, blocked-run, last-came, last-went, last-run, second-keeps, third-keeps}
 use Rattle.pnet_urgent_run.proofs.Figures.{spaced-up-to}
 
@@ -72,7 +70,7 @@ some-run-takes-x-of-stream-1 = record {
   came = blocked-came;
   went = blocked-went;
   run = blocked-run 500 0 .1;
-  spaced = blocked-spaced;
+  spaced = spaced-up-to three (stream-1 500 0) (blocked-spaced 1);
   slow = request 1 0;
   own = refl;
   arrived = List·Memᴰ·tail (List·Memᴰ·tail (List·Memᴰ·head refl));
@@ -87,7 +85,7 @@ some-run-takes-x-of-stream-2 = record {
   came = blocked-came;
   went = blocked-went;
   run = blocked-run 500 0 .1;
-  spaced = blocked-spaced;
+  spaced = spaced-up-to three (stream-2 500 0) (blocked-spaced 1);
   slow = request 2 0;
   own = refl;
   arrived = List·Memᴰ·tail (List·Memᴰ·head refl);
@@ -102,15 +100,9 @@ some-run-takes-x-of-stream-3 = record {
   came = last-came;
   went = last-went;
   run = last-run 500 0 .1;
-  spaced = last-spaced;
+  spaced = spaced-up-to three (stream-3 500 0) (last-spaced 1);
   slow = request 3 0;
   own = refl;
   arrived = List·Memᴰ·tail (List·Memᴰ·head refl);
   exact = List·Memᴰ·head refl;
 }
-
--- ---- So no lower figure would be true
-
-pub reached-is-least : {S : Segment} {i : ℕ} (R Q : BitPeriods) → Belongs S (S .stream i .master) i → ReachedFor R S i → SafeFor Q S i → R .0 ≤ Q .0
-reached-is-least {S} {i} R Q b x safe =
-    omega (arith, safe .ever {Urgent = Everyone} tt (x .run) (spaced-up-to S b (x .spaced _)) .in-time (answer (x .slow) _) (x .exact) (x .own))

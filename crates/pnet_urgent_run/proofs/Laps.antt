@@ -11,7 +11,8 @@ use Rattle.pnet_urgent_rules.specs.Urgent.{ahead}
 use Rattle.pnet_run.specs.Run.{Request, request, Answer, answer, put, toward, on-way, RunBy, arrive}
 use Rattle.pnet_run.specs.Promise.{Kept, quiet, other, asks}
 use Rattle.pnet_urgent_run.specs.Stack.{Held, held, Taken, here, further, MostUrgent, Everyone, one, stacked}
-use Rattle.pnet_urgent_run.proofs.Three.{threeOf, stream-1, stream-2, stream-3, most-none, most-and, alone}
+use Rattle.pnet_urgent_run.proofs.Three.{threeOf, stream-1, stream-2, stream-3}
+use Rattle.pnet_urgent_run.proofs.Progress.{most-none, most-and, alone}
 use Rattle.pnet_urgent_run.proofs.Steps.{starts, down, lap, served}
 
 -- ---- What comes and what is answered

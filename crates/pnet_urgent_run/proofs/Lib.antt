@@ -10,3 +10,5 @@ pub mod Early
 pub mod Laps
 pub mod Exact
 pub mod Needs
+pub mod Turns
+pub mod Slowest

@@ -37,6 +37,16 @@ use Rattle.pnet_urgent_run.proofs.Kept.{stacked-keeps, length-snoc}
 
 -- ---- Of those that wait, one is most urgent
 
+module _ (S : Segment) (r : Request) where
+  pub most-none : MostUrgent S r []
+  most-none p j = absurd (List·Memᴰ·not-nil j)
+
+  pub most-and : {a : Request} {l : List Request} → ahead S (r .of) (a .of) ≡ false → MostUrgent S r l → MostUrgent S r (a ∷ l)
+  most-and {a} {l} e m p j = ⊎-elim (λ (q : p ≡ a). rw q e) (λ (c : List·Memᴰ p l). m p c) (List·Memᴰ·cases-cons j)
+
+  pub alone : MostUrgent S r (r ∷ [])
+  alone = most-and (ahead-itself S (r .of)) most-none
+
 pub record Picked (S : Segment) (l : List Request) : Type 0 where
   pub picked : Request
   pub rest : List Request

@@ -3,8 +3,7 @@
 use Prim.Native.Nat.{ℕ, _≤_}
 use mathlib.Core.Path.{_≡_, refl}
 use mathlib.Core.Bool.{true, false}
-use mathlib.Core.Logic.{⊎-elim}
-use mathlib.Core.List.{List, [], _∷_, List·Memᴰ, List·Memᴰ·not-nil, List·Memᴰ·cases-cons}
+use mathlib.Core.List.{[], _∷_}
 use native.Mathlib.Omega.{arith}
 use Rattle.sheet_record.specs.declared.Record.{Record}
 use Rattle.sheet_record.specs.Kinds.{isStreamOf, inRange}
@@ -13,11 +12,9 @@ use Rattle.units.specs.Units.{bp}
 use Rattle.pnet_rules.specs.Segment.{Segment, streamOf, segmentOf, bound, late}
 use Rattle.pnet_rules.specs.Limits.{Ranged, Declared}
 use Rattle.pnet_rules.proofs.Declares.{stream-ranged}
-use Rattle.pnet_urgent_rules.specs.Urgent.{ahead, figure, unmet}
-use Rattle.pnet_urgent_rules.proofs.Order.{ahead-itself}
-use Rattle.pnet_run.specs.Run.{Belongs, Request}
+use Rattle.pnet_urgent_rules.specs.Urgent.{figure, unmet}
+use Rattle.pnet_run.specs.Run.{Belongs}
 use Rattle.pnet_run.proofs.Few.{each, limits, declared-if-few}
-use Rattle.pnet_urgent_run.specs.Stack.{MostUrgent}
 use Rattle.pnet_urgent_run.specs.Promise.{SafeFor}
 use Rattle.pnet_urgent_run.proofs.Figures.{each-request-is-answered-within-its-figure}
 
@@ -85,15 +82,3 @@ each-is-safe = (rw (figures-are .0) at (of (stream-1 500 0)), rw (figures-are .1
 pub first-come-is-late : (bound three 1 ≡ 750) × (late three 1 ≡ true)
 unfolding segmentOf bound late
 first-come-is-late = (refl, refl)
-
--- ---- Who is most urgent
-
-module _ (S : Segment) (r : Request) where
-  pub most-none : MostUrgent S r []
-  most-none p j = absurd (List·Memᴰ·not-nil j)
-
-  pub most-and : {a : Request} {l : List Request} → ahead S (r .of) (a .of) ≡ false → MostUrgent S r l → MostUrgent S r (a ∷ l)
-  most-and {a} {l} e m p j = ⊎-elim (λ (q : p ≡ a). rw q e) (λ (c : List·Memᴰ p l). m p c) (List·Memᴰ·cases-cons j)
-
-  pub alone : MostUrgent S r (r ∷ [])
-  alone = most-and (ahead-itself S (r .of)) most-none

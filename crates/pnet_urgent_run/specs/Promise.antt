@@ -8,7 +8,7 @@ use Rattle.units.specs.declared.BitPeriods.{BitPeriods}
 use Rattle.pnet_rules.specs.Segment.{Segment}
 use Rattle.pnet_urgent_rules.specs.Urgent.{ahead}
 use Rattle.pnet_run.specs.Run.{Request, Answer, answer, Token, RunBy}
-use Rattle.pnet_run.specs.Promise.{Kept, Spaced, Lasts}
+use Rattle.pnet_run.specs.Promise.{Kept, Lasts}
 use Rattle.pnet_urgent_run.specs.Stack.{Held, Everyone, stacked}
 
 -- stream j is stream i, or goes ahead of it
@@ -31,7 +31,7 @@ pub record SafeFor (R : BitPeriods) (S : Segment) (i : ℕ) : Type 1 where
   pub ever : {Urgent : ℕ → Type 0} {t : ℕ} {y : Token} {q : ℕ → Held} {came : List Request} {went : List Answer}
       → Urgent (S .stream i .master) → RunBy (stacked S Urgent) S t y q came went → SpacedUpTo S i came → AnsweredOf R i t y came went
 
--- some run, in which every master hands down the most urgent first and every stream keeps its spacing, answers a request of stream i at its arrival plus R
+-- some such run, in which every master hands down the most urgent first, answers a request of stream i at its arrival plus R
 pub record ReachedFor (R : BitPeriods) (S : Segment) (i : ℕ) : Type 0 where
   pub now : ℕ
   pub token : Token
@@ -39,7 +39,7 @@ pub record ReachedFor (R : BitPeriods) (S : Segment) (i : ℕ) : Type 0 where
   pub came : List Request
   pub went : List Answer
   pub run : RunBy (stacked S Everyone) S now token kept came went
-  pub spaced : (k : ℕ) → Spaced S k came
+  pub spaced : SpacedUpTo S i came
   pub slow : Request
   pub own : slow .of ≡ i
   pub arrived : List·Memᴰ slow came

@@ -10,9 +10,10 @@ use Rattle.sheet_read.specs.Whole.{Outcome, reading}
 use Rattle.sheet_read.proofs.Lengths.{reading-prefix}
 use Rattle.units.specs.Units.{bp}
 use Rattle.pnet_bounds.specs.Bounded.{bounded, boundedBy}
-use Rattle.pnet_path.specs.Path.{Path, gateways, sheetAt, boundFrom, boundAt, senderAt, forwardingAt, absentFrom, absentAt, crossingBy, refusedOr, crossedFrom, crossed}
-use Rattle.pnet_path.specs.declared.Crossing.{Crossing}
-use Rattle.pnet_path.specs.declared.Crossing.the-variants as crossing
+use Rattle.pnet_crossing.specs.Cost.{crossingBy}
+use Rattle.pnet_path.specs.Path.{Path, gateways, sheetAt, boundFrom, boundAt, senderAt, forwardingAt, absentFrom, absentAt, refusedOr, crossedFrom, crossed}
+use Rattle.pnet_crossing.specs.declared.Crossing.{Crossing}
+use Rattle.pnet_crossing.specs.declared.Crossing.the-variants as crossing
 use Rattle.report_path.specs.Told.{pathText}
 use Rattle.report_path.specs.Report.{pathLines, answerText, sheetOr, reportFrom, pathReport, isWithin, pathAccepts}
 

@@ -11,9 +11,9 @@ use Rattle.common.proofs.Outside.{inside}
 use Rattle.units.specs.declared.BitPeriods.{BitPeriods}
 use Rattle.pnet_path.specs.Ways.{answerOf}
 use Rattle.pnet_path.specs.declared.Way.{Way}
-use Rattle.pnet_path.specs.declared.Crossing.{Crossing}
-use Rattle.pnet_path.specs.declared.Crossing.the-variants as crossing
-use Rattle.pnet_path.proofs.Checked.{too-many}
+use Rattle.pnet_crossing.specs.declared.Crossing.{Crossing}
+use Rattle.pnet_crossing.specs.declared.Crossing.the-variants as crossing
+use Rattle.pnet_crossing.proofs.Checked.{too-many}
 use Rattle.pnet_path.proofs.Laws.{answer-of-refused, answer-of-others}
 use Rattle.text.specs.Text.{Wrote}
 use Rattle.text.proofs.Writing.{wrote-front}

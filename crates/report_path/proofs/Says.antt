@@ -8,8 +8,8 @@ use native.Mathlib.Nat.{zero-add, add-zero}
 use native.Mathlib.Omega.{arith}
 use Rattle.sheet_read.specs.Whole.{Outcome}
 use Rattle.units.specs.Units.{bp}
-use Rattle.pnet_path.specs.declared.Crossing.{Crossing}
-use Rattle.pnet_path.specs.declared.Crossing.the-variants as crossing
+use Rattle.pnet_crossing.specs.declared.Crossing.{Crossing}
+use Rattle.pnet_crossing.specs.declared.Crossing.the-variants as crossing
 use Rattle.pnet_path.specs.Path.{Path, crossed}
 use Rattle.pnet_path.specs.Refusals.{Each, FirstBad, Taken, Untaken, Sheets, Given, Accepted}
 use Rattle.pnet_path.proofs.Refusals.{refused-exactly, accepted-exactly}

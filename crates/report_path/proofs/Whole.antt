@@ -9,8 +9,8 @@ use lib.ListN.{length, drop}
 use Rattle.units.specs.Units.{bp}
 use Rattle.units.specs.declared.BitPeriods.{BitPeriods}
 use Rattle.pnet_path.specs.declared.Way.{Way}
-use Rattle.pnet_path.specs.declared.Crossing.{Crossing}
-use Rattle.pnet_path.specs.declared.Crossing.the-variants as crossing
+use Rattle.pnet_crossing.specs.declared.Crossing.{Crossing}
+use Rattle.pnet_crossing.specs.declared.Crossing.the-variants as crossing
 use Rattle.pnet_path.specs.Path.{Path, gateways, boundAt, senderAt, forwardingAt, crossed}
 use Rattle.pnet_path.specs.Ways.{wayOver, HandedOver}
 use Rattle.pnet_path.proofs.Refusals.{accepted-exactly, Looked, looked}

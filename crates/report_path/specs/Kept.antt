@@ -8,8 +8,8 @@ use Rattle.units.specs.Units.{bp}
 use Rattle.units.specs.declared.BitPeriods.{BitPeriods}
 use Rattle.pnet_path.specs.Ways.{answerOf}
 use Rattle.pnet_path.specs.declared.Way.{Way}
-use Rattle.pnet_path.specs.declared.Crossing.{Crossing}
-use Rattle.pnet_path.specs.declared.Crossing.the-variants as crossing
+use Rattle.pnet_crossing.specs.declared.Crossing.{Crossing}
+use Rattle.pnet_crossing.specs.declared.Crossing.the-variants as crossing
 use Rattle.text.specs.Text.{item}
 use Rattle.report_path_lines.specs.Lines.{sheetRefusal, pathRefusal}
 use Rattle.report_path.specs.declared.Reported.{Reported}

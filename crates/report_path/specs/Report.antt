@@ -8,8 +8,8 @@ use Rattle.sheet_read.specs.Whole.Outcome.{Read, Not}
 use Rattle.units.specs.Units.{bp}
 use Rattle.units.specs.declared.BitPeriods.{BitPeriods}
 use Rattle.pnet_path.specs.Path.{Path, gateways, sheetAt, boundAt, senderAt, forwardingAt, crossed}
-use Rattle.pnet_path.specs.declared.Crossing.{Crossing}
-use Rattle.pnet_path.specs.declared.Crossing.the-variants as crossing
+use Rattle.pnet_crossing.specs.declared.Crossing.{Crossing}
+use Rattle.pnet_crossing.specs.declared.Crossing.the-variants as crossing
 use Rattle.report_path_lines.specs.Lines.{sheetRefusal, pathRefusal}
 use Rattle.report_path.specs.Told.{pathText}
 

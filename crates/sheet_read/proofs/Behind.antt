@@ -21,16 +21,20 @@ use Rattle.sheet_record.proofs.Tables.{both-true}
 use Rattle.sheet_record.proofs.Records.{stream-same}
 use Rattle.sheet_record.proofs.Parts.{first-kinds, first-bus, setting-is, setting-kind, ring-streams}
 use Rattle.sheet_ranges.proofs.Ranges.{segment-ranges, pnet-ranges, ring-ranges, ring-stream-ranges}
+use Rattle.sheet_judge.specs.Own.{ownNo, asBus}
+use Rattle.sheet_keep.specs.Steps.{lateNo, countsWith, longestsWith, idsWith}
+use Rattle.sheet_keep.proofs.Late.{not-late-variable}
 use Rattle.sheet_read.specs.Sheets.{Sheet, sheetOf, busIn, given, fits, mostInAll, hasMasters, countOf, overLimit, metBefore}
 use Rattle.sheet_read.specs.Whole.{placeOf, recordsOf, before, firstStream, judge, ended, reading, told, streamsOfMaster, longestOfMaster, byMaster, countsTold, longestsTold, Outcome}
 use Rattle.sheet_read.specs.Whole.Outcome.{Read, Not}
-use Rattle.sheet_read.specs.Steps.{ownNo, lateNo, countsWith, longestsWith, idsWith, Begun, Opened}
+use Rattle.sheet_read.specs.Steps.{Begun, Opened}
 use Rattle.sheet_read.specs.declared.Reading.the-variants as answer
 use Rattle.sheet_read.proofs.Walk.{head-at, place-next, place-from}
 use Rattle.sheet_read.proofs.Cases.{PassesAt, Upto, passes-then, passes-if, upto-none, upto-more, upto-place, stops-once, ended-empty, ended-no-stream, ended-sheet}
 use Rattle.sheet_read.proofs.Cases.Stops.{by-record, at-end}
-use Rattle.sheet_read.proofs.Judged.{numbered, met-some, own-met, own-met-of, lateChecks, ownAt, judge-own}
-use Rattle.sheet_read.proofs.Kept.{Figures, Keeps, keeps-none, keeps-more, late-variable, late-stream, variable, no-variable, not-late-variable}
+use Rattle.sheet_judge.proofs.Own.{met-some, own-met, own-met-of, as-itself}
+use Rattle.sheet_read.proofs.Judged.{numbered, lateChecks, ownAt, judge-own}
+use Rattle.sheet_read.proofs.Kept.{Figures, Keeps, keeps-none, keeps-more, late-variable, late-stream, variable, no-variable}
 use Rattle.sheet_read.proofs.Order.{no-limits, limits-of, nth, stream-of, fits-first, fits-behind, edition-fits, setting-late, first-passes, head-some, empty-list, how-many, behind-first, adds-stream, adds-setting}
 use Rattle.sheet_read.proofs.Settings.{counted, edition-first}
 
@@ -302,20 +306,20 @@ pub record ReadsOn (s : List ℕ) (head : Record) (first bus : ℕ) (g : Given) 
   pub i : ℕ
   pub reads : Reads s head first bus g counts longests ids i n at
 
--- the bus is one of the three
-pub bus-kinds : {s : List ℕ} {head : Record} {first bus : ℕ} {g : Given} {counts longests ids : List ℕ} {i n at : ℕ} → Reads s head first bus g counts longests ids i n at
-    → bus ≡ 1 ⊎ bus ≡ 3 ⊎ bus ≡ 5
-bus-kinds {head = head} r =
+-- the bus is that of the first record, one of the three
+bus-as : {s : List ℕ} {head : Record} {first bus : ℕ} {g : Given} {counts longests ids : List ℕ} {i n at : ℕ} → Reads s head first bus g counts longests ids i n at
+    → asBus bus ≡ busOf (head .kind)
+bus-as {head = head} {bus = bus} r =
     let f = head-first (r .behind) in
-    rw (r .is-bus ∙ first-bus (head .kind) f) (first-kinds (head .kind) f)
+    as-itself bus (rw (r .is-bus ∙ first-bus (head .kind) f) (first-kinds (head .kind) f)) ∙ r .is-bus
 
 -- the reader comes to a record: what it meets, whether that is right and in range, and the refusal of it by itself
 pub record Meets (s : List ℕ) (head : Record) (first : ℕ) (counts longests ids : List ℕ) (i n at bus : ℕ) (g : Given) (met : Met) (right ranged : Bool) (own : ℕ) : Type 0 where
   pub reads : Reads s head first bus g counts longests ids i n at
   pub inside : at < length s
-  pub is-right : right ≡ isStreamOf bus (getD s at 0)
-  pub is-met : met ≡ streamMet s at bus
-  pub is-ranged : ranged ≡ (isStreamOf bus (met .found .kind) && inRange g (met .found))
+  pub is-right : right ≡ isStreamOf (asBus bus) (getD s at 0)
+  pub is-met : met ≡ streamMet s at (asBus bus)
+  pub is-ranged : ranged ≡ (isStreamOf (asBus bus) (met .found .kind) && inRange g (met .found))
   pub is-own : own ≡ ownNo (known (getD s at 0)) right (not (eqb (met .next) at)) ranged
 
 module _ {s : List ℕ} {head : Record} {first : ℕ} {counts longests ids : List ℕ} {i n at bus : ℕ} {g : Given} {met : Met} {right ranged : Bool} {own : ℕ}
@@ -332,7 +336,7 @@ module _ {s : List ℕ} {head : Record} {first : ℕ} {counts longests ids : Lis
   own-is : own ≡ ownAt s (suc i)
   unfolding ownAt
   own-is =
-      rw (m .is-own, m .is-right, m .is-ranged, m .is-met, m .reads .is-bus, m .reads .is-given, m .reads .behind .is-at, own-met-of s (placeOf s (suc i)), right-is, head-at s i, m .reads .behind .is-head)
+      rw (m .is-own, m .is-right, m .is-ranged, m .is-met, bus-as (m .reads), m .reads .is-given, m .reads .behind .is-at, own-met-of s (placeOf s (suc i)), right-is, head-at s i, m .reads .behind .is-head)
 
   pub refused-own : (own ≡ 0 → ⊥) → answer.Refused own at ≡ told s (reading s)
   refused-own h =
@@ -356,7 +360,7 @@ module _ {s : List ℕ} {head : Record} {first : ℕ} {counts longests ids : Lis
     stream-here = rw (m .reads .behind .is-at) (sym right-is ∙ own-all .1)
 
     met-is : met ≡ record { found = decode s at; next = at + sizeOf (getD s at 0) }
-    met-is = m .is-met ∙ (rw (m .reads .is-bus) (stream-same s at (busOf (head .kind)) stream-here) ∙ met-some s at whole-here)
+    met-is = m .is-met ∙ (rw (bus-as (m .reads)) (stream-same s at (busOf (head .kind)) stream-here) ∙ met-some s at whole-here)
 
     -- the stream, and the place just after it
     stream-is : met .found ≡ nth s (suc i)

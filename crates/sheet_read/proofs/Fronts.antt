@@ -20,7 +20,7 @@ use Rattle.sheet_read.specs.Whole.Outcome.{Not}
 use Rattle.sheet_read.proofs.Walk.{place-next, place-order}
 use Rattle.sheet_read.proofs.Cases.{Upto, passes-if, passes-then, stops-once}
 use Rattle.sheet_read.proofs.Cases.Stops.{by-record}
-use Rattle.sheet_read.proofs.Judged.{size-some}
+use Rattle.sheet_judge.proofs.Own.{size-some}
 
 -- ---- The refusals of one record
 

@@ -1,22 +1,17 @@
 -- The numbers that the parts of the reader answer at a record are the verdict on that record. Assumes nothing.
-use mathlib.Core.Path.{_≡_, refl, ap, _∙_}
-use mathlib.Core.Bool.{Bool, true, false, not, _&&_}
+use mathlib.Core.Path.{_≡_, refl}
+use mathlib.Core.Bool.{Bool, true, false, not}
 use mathlib.Core.List.{List, [], _∷_}
-use Prim.Native.Nat.{ℕ, zero, suc, _+_, _≤_}
-use native.Mathlib.Omega.{arith}
-use borrow.Author.Tests.{ne-eqb, eq-eqb, leb-true, leb-false, lt-ltb, le-ltb}
+use Prim.Native.Nat.{ℕ, zero, suc, _+_}
+use borrow.Author.Tests.{leb-true, leb-false, lt-ltb, le-ltb}
 use lib.ListN.{length, getD}
-use lib.Dec.{eqb, leb, ltb}
+use lib.Dec.{leb, ltb}
 use Rattle.common.specs.Checks.{Check, check, Verdict, verdict}
 use Rattle.common.specs.Checks.Verdict.{Refused}
-use Rattle.sheet_record.specs.declared.Met.{Met}
-use Rattle.sheet_record.specs.declared.Record.{Record}
-use Rattle.sheet_record.specs.declared.Given.{Given}
-use Rattle.sheet_record.specs.Kinds.{known, sizeOf, decode, inRange, whole, metAt, isStreamOf, streamMet, nothing}
-use Rattle.sheet_record.proofs.Records.{stream-same}
+use Rattle.sheet_record.specs.Kinds.{known, sizeOf, decode, inRange}
+use Rattle.sheet_judge.specs.Own.{ownNo}
 use Rattle.sheet_read.specs.Sheets.{given, fits, overLimit, metBefore}
 use Rattle.sheet_read.specs.Whole.{placeOf, before, recordChecks, judge}
-use Rattle.sheet_read.specs.Steps.{ownNo}
 
 -- a number that is not 0 is a refusal
 unfoldable pub numbered : ℕ → ℕ → Verdict → Verdict
@@ -33,27 +28,6 @@ above m n = split (leb m n) refl
 
 -- ---- 2, 3, 1, 4
 
-module _ (isKnown isRight isWhole isRanged : Bool) where
-  pub own-unknown : isKnown ≡ false → 2 ≡ ownNo isKnown isRight isWhole isRanged
-  unfolding ownNo
-  own-unknown a = rw a
-
-  pub own-wrong : isKnown ≡ true → isRight ≡ false → 3 ≡ ownNo isKnown isRight isWhole isRanged
-  unfolding ownNo
-  own-wrong a b = rw (a, b)
-
-  pub own-cut : isKnown ≡ true → isRight ≡ true → isWhole ≡ false → 1 ≡ ownNo isKnown isRight isWhole isRanged
-  unfolding ownNo
-  own-cut a b c = rw (a, b, c)
-
-  pub own-out : isKnown ≡ true → isRight ≡ true → isWhole ≡ true → isRanged ≡ false → 4 ≡ ownNo isKnown isRight isWhole isRanged
-  unfolding ownNo
-  own-out a b c d = rw (a, b, c, d)
-
-  pub own-none : isKnown ≡ true → isRight ≡ true → isWhole ≡ true → isRanged ≡ true → 0 ≡ ownNo isKnown isRight isWhole isRanged
-  unfolding ownNo
-  own-none a b c d = rw (a, b, c, d)
-
 own-first : (isKnown isRight isWhole isRanged : Bool) (p : ℕ) (rest : List Check)
     → verdict (check 2 (not isKnown) p ∷ check 3 (not isRight) p ∷ check 1 (not isWhole) p ∷ check 4 (not isRanged) p ∷ rest)
     ≡ numbered (ownNo isKnown isRight isWhole isRanged) p (verdict rest)
@@ -63,73 +37,6 @@ own-first true false isWhole isRanged p rest = refl
 own-first true true false isRanged p rest = refl
 own-first true true true false p rest = refl
 own-first true true true true p rest = refl
-
--- a record has its kind byte at least
-pub size-some : (k : ℕ) → 1 ≤ sizeOf k
-unfolding sizeOf
-size-some k = omega arith
-
--- the later two tests matter only where the earlier ones passed
-own-same : (isKnown isRight isWhole isRanged isWhole' isRanged' : Bool) → (isKnown ≡ true → isRight ≡ true → isWhole ≡ isWhole')
-    → (isKnown ≡ true → isRight ≡ true → isWhole' ≡ true → isRanged ≡ isRanged')
-    → ownNo isKnown isRight isWhole isRanged ≡ ownNo isKnown isRight isWhole' isRanged'
-unfolding ownNo
-own-same false r w g w' g' ew eg = refl
-own-same true false w g w' g' ew eg = refl
-own-same true true w g false g' ew eg = rw (ew refl refl)
-own-same true true w g true g' ew eg = rw (ew refl refl, eg refl refl refl)
-
--- the record that is met at a place tells the same as the bytes there
-module _ (s : List ℕ) (at : ℕ) where
-  pub met-some : whole s at ≡ true → metAt s at ≡ record { found = decode s at; next = at + sizeOf (getD s at 0) }
-  unfolding metAt
-  met-some e = rw e
-
-  pub met-none : whole s at ≡ false → metAt s at ≡ record { found = nothing; next = at }
-  unfolding metAt
-  met-none e = rw e
-
-  -- it ends elsewhere exactly if it is whole, and then it is the record of the bytes
-  next-tells : known (getD s at 0) ≡ true → not (eqb (metAt s at .next) at) ≡ leb (at + sizeOf (getD s at 0)) (length s)
-  unfolding whole
-  next-tells e = split (leb (at + sizeOf (getD s at 0)) (length s)) refl
-    where
-      split : (l : Bool) → leb (at + sizeOf (getD s at 0)) (length s) ≡ l → not (eqb (metAt s at .next) at) ≡ leb (at + sizeOf (getD s at 0)) (length s)
-      split true f =
-          let w : whole s at ≡ true = rw (e, f) in
-          let n : eqb (at + sizeOf (getD s at 0)) at ≡ false = ne-eqb (at + sizeOf (getD s at 0)) at (λ q. omega (arith, size-some (getD s at 0))) in
-          rw (met-some w, n, f)
-      split false f =
-          let w : whole s at ≡ false = rw (e, f) in
-          rw (met-none w, eq-eqb at at refl, f)
-
-  found-tells : known (getD s at 0) ≡ true → leb (at + sizeOf (getD s at 0)) (length s) ≡ true → metAt s at .found ≡ decode s at
-  unfolding whole
-  found-tells e f = let w : whole s at ≡ true = rw (e, f) in ap (λ (m : Met). m .found) (met-some w)
-
-  pub own-met : (isRight : Bool) (g : Given)
-      → ownNo (known (getD s at 0)) isRight (not (eqb (metAt s at .next) at)) (inRange g (metAt s at .found))
-      ≡ ownNo (known (getD s at 0)) isRight (leb (at + sizeOf (getD s at 0)) (length s)) (inRange g (decode s at))
-  own-met isRight g =
-      own-same (known (getD s at 0)) isRight _ _ _ _ (λ k r. next-tells k) (λ k r w. ap (inRange g) (found-tells k w))
-
-  -- the same where a stream of a bus alone is asked for: any other record is refused before anything else is looked at
-  pub own-met-of : (bus : ℕ) (g : Given)
-      → ownNo (known (getD s at 0)) (isStreamOf bus (getD s at 0)) (not (eqb (streamMet s at bus .next) at))
-      (isStreamOf bus (streamMet s at bus .found .kind) && inRange g (streamMet s at bus .found))
-      ≡ ownNo (known (getD s at 0)) (isStreamOf bus (getD s at 0)) (leb (at + sizeOf (getD s at 0)) (length s)) (inRange g (decode s at))
-  unfolding decode
-  own-met-of bus g = own-same (known (getD s at 0)) (isStreamOf bus (getD s at 0)) _ _ _ _ ends ranged
-    where
-      ends : known (getD s at 0) ≡ true → isStreamOf bus (getD s at 0) ≡ true
-          → not (eqb (streamMet s at bus .next) at) ≡ leb (at + sizeOf (getD s at 0)) (length s)
-      ends k r = ap (λ (m : Met). not (eqb (m .next) at)) (stream-same s at bus r) ∙ next-tells k
-
-      ranged : known (getD s at 0) ≡ true → isStreamOf bus (getD s at 0) ≡ true → leb (at + sizeOf (getD s at 0)) (length s) ≡ true
-          → (isStreamOf bus (streamMet s at bus .found .kind) && inRange g (streamMet s at bus .found)) ≡ inRange g (decode s at)
-      ranged k r w =
-          let e : streamMet s at bus .found ≡ decode s at = ap (λ (m : Met). m .found) (stream-same s at bus r) ∙ found-tells k w in
-          ap (λ (x : Record). isStreamOf bus (x .kind) && inRange g x) e ∙ ap (λ (b : Bool). b && inRange g (decode s at)) r
 
 -- ---- A record of the sheet
 

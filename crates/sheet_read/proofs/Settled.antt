@@ -11,7 +11,7 @@ use Rattle.sheet_read.specs.Whole.{placeOf, reading}
 use Rattle.sheet_read.specs.Whole.Outcome.{Not}
 use Rattle.sheet_read.specs.Refusals.{Given}
 use Rattle.sheet_read.specs.Refusals.Given.{empty, at-record, no-stream}
-use Rattle.sheet_read.proofs.Judged.{size-some}
+use Rattle.sheet_judge.proofs.Own.{size-some}
 use Rattle.sheet_read.proofs.Fronts.{SameFront, refused-by-record, refused-by-kind}
 use Rattle.sheet_read.proofs.Refusals.{given-then, refused-at}
 

@@ -24,7 +24,7 @@ use Rattle.sheet_read.specs.Records.{recordsIn, bytesOf, Follows, Right}
 use Rattle.sheet_read.proofs.Walk.{length-records, record-at, records-front}
 use Rattle.sheet_read.proofs.Cases.{PassesAt, Upto, upto-front, stops-once, ended-sheet}
 use Rattle.sheet_read.proofs.Cases.Stops.{at-end}
-use Rattle.sheet_read.proofs.Judged.{size-some}
+use Rattle.sheet_judge.proofs.Own.{size-some}
 use Rattle.sheet_read.proofs.Order.{no-limits, limits-of, Placed, fits-then, fits-first, first-some, head-some, in-order}
 use Rattle.sheet_read.proofs.Order.Placed.{as-first, as-setting, as-stream}
 use Rattle.sheet_read.proofs.Known.{ReadsTo, reading-whole}

@@ -1,12 +1,11 @@
--- Page 01, 'Numbered refusals': what the parts of the reader answer at a record, a refusal's number or 0 for none, and what it keeps
--- of the streams behind it: how many each master has and the longest C of them, or the identifiers in sheet order. Then what the parts of a planner go by.
+-- Page 01, 'Sheet records': what the parts of the reader go by behind the first record, and then what the parts of a planner go by.
 -- Words of inner contracts alone. Assumes nothing.
-use Prim.Native.Nat.{ℕ, zero, suc, _+_, _≤_, _<_, max}
+use Prim.Native.Nat.{ℕ, suc, _+_, _≤_, _<_}
 use mathlib.Core.Path.{_≡_}
 use mathlib.Core.List.{List, []}
-use mathlib.Core.Bool.{Bool, true, false, cond, _||_}
-use lib.ListN.{length, getD, set}
-use lib.Dec.{leb, eqb}
+use mathlib.Core.Bool.{true, false, cond}
+use lib.ListN.{length, getD}
+use lib.Dec.{eqb}
 use Rattle.sheet_record.specs.declared.Record.{Record}
 use Rattle.sheet_record.specs.declared.Met.{Met}
 use Rattle.sheet_record.specs.Kinds.{isSetting, decode, metOf}
@@ -14,32 +13,6 @@ use Rattle.common.specs.Checks.Verdict.{Passed}
 use Rattle.sheet_read.specs.Sheets.{Sheet, busIn, sheetOf, fits}
 use Rattle.sheet_read.specs.Whole.{Outcome, placeOf, before, firstStream, judge, reading}
 use Rattle.sheet_read.specs.Whole.Outcome.{Read, Not}
-
--- by the record itself: known, right for its position, whole, every field in its range
-unfoldable pub ownNo : Bool → Bool → Bool → Bool → ℕ
-ownNo isKnown isRight isWhole isRanged = cond isKnown (cond isRight (cond isWhole (cond isRanged 0 4) 1) 3) 2
-
--- x stands among the first n identifiers
-unfoldable pub among : ℕ → ℕ → List ℕ → Bool
-among x zero ids = false
-among x (suc n) ids = among x n ids || eqb (getD ids n 0) x
-
--- by the n streams before it
-unfoldable pub lateNo : List ℕ → List ℕ → ℕ → Record → ℕ
-unfolding among
-lateNo counts ids n r =
-    cond (eqb (r .kind) 6) (cond (leb 64 n) 5 (cond (among (r .a) n ids) 7 0))
-    (cond (leb 800 n) 5 (cond (leb 80 (getD counts (r .a) 0)) 5 0))
-
--- what is kept once it passed
-unfoldable pub countsWith : List ℕ → Record → List ℕ
-countsWith counts r = cond (eqb (r .kind) 6) counts (set counts (r .a) (getD counts (r .a) 0 + 1))
-
-unfoldable pub longestsWith : List ℕ → Record → List ℕ
-longestsWith longests r = cond (eqb (r .kind) 6) longests (set longests (r .a) (max (getD longests (r .a) 0) (r .b)))
-
-unfoldable pub idsWith : List ℕ → ℕ → Record → List ℕ
-idsWith ids n r = cond (eqb (r .kind) 6) (set ids n (r .a)) ids
 
 -- the first record of the sheet passed: it is `head`, and the place behind it is `first`
 pub record Begun (s : List ℕ) (head : Record) (first : ℕ) : Type 0 where

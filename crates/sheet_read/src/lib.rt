@@ -1,20 +1,10 @@
 // Reading a whole sheet, page 01 'Sheet records' and 'Numbered refusals' 1..7, and page 02 'Ask 7' and 'Ask 10'.
+pub use sheet_keep::MOST;
 use sheet_record::Given;
-use sheet_record::Met;
 use sheet_record::Record;
 ghost use mathlib.Core.Path.{_≡_};
-ghost use mathlib.Core.Bool.{_&&_};
-ghost use mathlib.Core.Logic.{_⊎_};
-ghost use Prim.Native.Nat.{_≤_, max};
-ghost use lib.Dec.{eqb};
-ghost use lib.ListN.{getD};
-ghost use Rattle.sheet_record.specs.Kinds.{pnet, profibus, worldfip, known, isStreamOf, inRange, streamMet};
-ghost use Rattle.sheet_read.specs.Steps;
-ghost use Rattle.sheet_read.specs.Steps.{ownNo, lateNo, countsWith, longestsWith, idsWith, editionAt, Begun, Opened};
+ghost use Rattle.sheet_read.specs.Steps.{editionAt, Begun, Opened};
 ghost use Rattle.sheet_read.specs.Whole.{told, countsTold, longestsTold, reading};
-
-// No sheet of P-NET or PROFIBUS has more streams.
-pub const MOST: usize = 800;
 
 // What reading a sheet answers.
 pub enum Reading {
@@ -29,133 +19,6 @@ pub enum Reading {
         no: u8,
         place: usize,
     },
-}
-
-// The refusal of a record by itself, in the order 2, 3, 1, 4; 0 if there is none.
-fn own_no(kind: u8, right: bool, whole: bool, ranged: bool) -> u8
-    ensures { λ no. ⌜ no ≡ ownNo (known kind) right whole ranged ⌝ }
-{
-    if !sheet_record::known(kind) {
-        return 2;
-    }
-    if !right {
-        return 3;
-    }
-    if !whole {
-        return 1;
-    }
-    if !ranged {
-        return 4;
-    }
-    0
-}
-
-// Whether x stands among the first n identifiers.
-fn among(x: u32, n: usize, ids: &[u32; 64]) -> bool
-    requires { ⌜ n ≤ 64 ⌝ }
-    ensures { λ r. ⌜ r ≡ Steps.among x n (now (ids .entry)) ⌝ }
-{
-    let mut i: usize = 0;
-    while i < n {
-        if ids[i] == x {
-            return true;
-        }
-        i += 1;
-    }
-    false
-}
-
-// The refusal of a stream by the n before it: one too many, or an identifier met before; 0 if there is none.
-fn late_no(counts: &[u8; 33], ids: &[u32; 64], n: usize, r: Record) -> u8
-    requires { ⌜ ((r .kind ≡ 6 → ⊥) → r .a ≤ 32) ⌝ }
-    ensures { λ no. ⌜ no ≡ lateNo (now (counts .entry)) (now (ids .entry)) n r ⌝ }
-{
-    if r.kind == 6 {
-        if 64 <= n {
-            return 5;
-        }
-        if among(r.a, n, ids) {
-            return 7;
-        }
-        return 0;
-    }
-    if MOST <= n {
-        return 5;
-    }
-    let master = r.a as usize;
-    if 80 <= counts[master] {
-        return 5;
-    }
-    0
-}
-
-fn larger(a: u32, b: u32) -> u32
-    ensures { λ r. ⌜ r ≡ max a b ⌝ }
-{
-    if a < b { b } else { a }
-}
-
-// Keeps a stream that passed: one more of its master, and the longest C of those, or its identifier.
-fn keep(counts: &mut [u8; 33], longests: &mut [u32; 33], ids: &mut [u32; 64], n: usize, r: Record)
-    requires { ⌜ lateNo (now counts) (now ids) n r ≡ 0 ⌝ }
-    requires { ⌜ ((r .kind ≡ 6 → ⊥) → r .a ≤ 32) ⌝ }
-    ensures { λ _. ⌜ now (counts .exit) ≡ countsWith (now (counts .entry)) r ⌝ }
-    ensures { λ _. ⌜ now (longests .exit) ≡ longestsWith (now (longests .entry)) r ⌝ }
-    ensures { λ _. ⌜ now (ids .exit) ≡ idsWith (now (ids .entry)) n r ⌝ }
-{
-    if r.kind == 6 {
-        ids[n] = r.a;
-    } else {
-        let master = r.a as usize;
-        counts[master] += 1;
-        longests[master] = larger(longests[master], r.b);
-    }
-}
-
-// A stream of a bus is of this kind.
-fn is_stream(bus: u8, kind: u8) -> bool
-    requires { ⌜ bus ≡ pnet ⊎ (bus ≡ profibus ⊎ bus ≡ worldfip) ⌝ }
-    ensures { λ r. ⌜ r ≡ isStreamOf bus kind ⌝ }
-{
-    match bus {
-        1 => sheet_record::is_pnet_stream(kind),
-        3 => kind == 4,
-        _ => kind == 6,
-    }
-}
-
-// The stream of a bus at a place. The bus is a constant in each arm, so that the compiler makes a reader of its own for each.
-fn stream_at(s: &[u8], at: usize, bus: u8) -> Met
-    requires { ⌜ bus ≡ pnet ⊎ (bus ≡ profibus ⊎ bus ≡ worldfip) ⌝ }
-    ensures { λ r. ⌜ r ≡ streamMet (now (s .entry)) at bus ⌝ }
-{
-    match bus {
-        1 => sheet_record::pnet_stream_at(s, at),
-        3 => sheet_record::ring_stream_at(s, at),
-        _ => sheet_record::variable_at(s, at),
-    }
-}
-
-// A P-NET stream with every field in its range, with release jitter or without.
-fn pnet_in_range(given: Given, r: Record) -> bool
-    ensures { λ ok. ⌜ ok ≡ (isStreamOf pnet (r .kind) && inRange given r) ⌝ }
-{
-    if r.kind == 7 {
-        return sheet_ranges::in_range_of(7, given, r);
-    }
-    sheet_ranges::in_range_of(2, given, r)
-}
-
-// A stream of a bus with every field in its range.
-fn stream_in_range(bus: u8, given: Given, r: Record) -> bool
-    requires { ⌜ bus ≡ pnet ⊎ (bus ≡ profibus ⊎ bus ≡ worldfip) ⌝ }
-    ensures { λ ok. ⌜ ok ≡ (isStreamOf bus (r .kind) && inRange given r) ⌝ }
-{
-    match bus {
-        1 => pnet_in_range(given, r),
-        3 => sheet_ranges::in_range_of(4, given, r),
-        _ => sheet_ranges::in_range_of(6, given, r),
-    }
 }
 
 // Reads the streams behind a first record and settings that passed, up to the sheet's end or the first refusal.
@@ -183,22 +46,22 @@ fn read_streams(
     let mut at = first;
     while at < s.len() {
         let kind = s[at];
-        let right = is_stream(bus, kind);
-        let met = stream_at(s, at, bus);
+        let right = sheet_judge::is_stream(bus, kind);
+        let met = sheet_judge::stream_at(s, at, bus);
         let stream = met.found;
-        let ranged = stream_in_range(bus, given, stream);
-        let own = own_no(kind, right, met.next != at, ranged);
+        let ranged = sheet_judge::stream_in_range(bus, given, stream);
+        let own = sheet_judge::own_no(kind, right, met.next != at, ranged);
         if own != 0 {
             return Reading::Refused { no: own, place: at };
         }
-        let late = late_no(&counts, &ids, n, stream);
+        let late = sheet_keep::late_no(&counts, &ids, n, stream);
         if late != 0 {
             return Reading::Refused {
                 no: late,
                 place: at,
             };
         }
-        keep(&mut counts, &mut longests, &mut ids, n, stream);
+        sheet_keep::keep(&mut counts, &mut longests, &mut ids, n, stream);
         n += 1;
         at = met.next;
     }
@@ -221,16 +84,6 @@ fn read_streams(
     accepted
 }
 
-// Behind a first record of this kind, the record of the edition stands at a place: page 02, Ask 10, allows it behind a P-NET segment.
-fn edition_stands(first: u8, s: &[u8], at: usize) -> bool
-    ensures { λ r. ⌜ r ≡ (eqb first 1 && eqb (getD (now (s .entry)) at 0) 8) ⌝ }
-{
-    if s.len() <= at {
-        return false;
-    }
-    (first == 1) & (s[at] == 8)
-}
-
 // Reads what stands behind a first record that passed: the edition, where it is given, and the streams.
 fn read_behind(
     s: &[u8],
@@ -245,14 +98,14 @@ fn read_behind(
     ensures { λ _. ⌜ now (longests .exit) ≡ longestsTold (reading (now (s .entry))) (now (longests .entry)) ⌝ }
 {
     let mut streams = first;
-    if edition_stands(head.kind, s, first) {
+    if sheet_judge::edition_stands(head.kind, s, first) {
         let met = sheet_record::record_at(s, first);
         let given = Given {
             masters: head.a,
             message: head.c,
         };
         let ranged = sheet_ranges::in_range(given, met.found);
-        let own = own_no(8, true, met.next != first, ranged);
+        let own = sheet_judge::own_no(8, true, met.next != first, ranged);
         if own != 0 {
             return Reading::Refused {
                 no: own,
@@ -284,7 +137,7 @@ pub fn read_gathering(s: &[u8], counts: &mut [u8; 33], longests: &mut [u32; 33])
         message: 0,
     };
     let ranged = sheet_ranges::in_range(none, head);
-    let own = own_no(kind, right, met.next != 0, ranged);
+    let own = sheet_judge::own_no(kind, right, met.next != 0, ranged);
     if own != 0 {
         return Reading::Refused { no: own, place: 0 };
     }

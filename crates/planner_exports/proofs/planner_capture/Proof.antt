@@ -1,6 +1,6 @@
 -- `planner_exports::planner_capture` meets its contract: the answer on a capture as a number and a place, and its runs. Assumes nothing.
 use mathlib.Core.Path.{sym, ap, _∙_}
-use Rattle.planner_exports.specs.Numbers.{captureNumber, pnetPlace}
+use Rattle.planner_exports.specs.Numbers.{streamsNumber, pnetPlace}
 use borrow.Author.Needs.{needs}
 use Rattle.planner_exports.proofs.planner_capture.Statement.{statement}
 use Rattle.planner_exports.proofs.planner_capture.Tie as tie
@@ -42,7 +42,7 @@ returns : tie.Need-returns
 returns c =
     let known = c .before .before .before .before .before .before .before .before .before .before .before .before .before .compare .ensures in
     let answer = sym (c .before .before .before .streams .given .1) ∙ known .0 in
-    (c .told .ensures .0 ∙ ap captureNumber answer, c .told .ensures .1 ∙ ap pnetPlace answer, known .1, known .2, known .3, known .4)
+    (c .told .ensures .0 ∙ ap streamsNumber answer, c .told .ensures .1 ∙ ap pnetPlace answer, known .1, known .2, known .3, known .4)
 
 same-length-5 : tie.Need-same-length-5
 same-length-5 c = search needs
@@ -60,7 +60,7 @@ returns-2 : tie.Need-returns-2
 returns-2 c =
     let known = c .before .before .before .before .before .before .before .before .before .before .before .before .before .compare .ensures in
     let answer = sym (c .before .before .before .no .given .1) ∙ known .0 in
-    (c .told2 .ensures .0 ∙ ap captureNumber answer, c .told2 .ensures .1 ∙ ap pnetPlace answer, known .1, known .2, known .3, known .4)
+    (c .told2 .ensures .0 ∙ ap streamsNumber answer, c .told2 .ensures .1 ∙ ap pnetPlace answer, known .1, known .2, known .3, known .4)
 
 pub planner-capture-spec : {M : Type 1} → statement M
 planner-capture-spec =

@@ -9,6 +9,7 @@ use Rattle.sheet_read.specs.Steps.{streamPlace}
 use Rattle.pnet_plan.specs.Planned.{atPlace}
 use Rattle.pnet_plan.specs.Arrays.{segmentIn}
 use Rattle.pnet_plan.proofs.Bytes.{Here, here}
+use Rattle.pnet_late.proofs.Small.{Small, stays-small}
 use Rattle.pnet_bounds.specs.Bounded.{masterOf, boundOf, spacingOf, jitterOf}
 use Rattle.pnet_bounds.proofs.Bounded.{Placed, placed}
 use Rattle.pnet_bounds.proofs.by_stream.Statement.{statement}
@@ -40,6 +41,14 @@ its c =
     here (c .before .before .before .before .before .before .before .before .pre .0 .0) (l .i) (l .at) (c .pnet-stream-at .result) (omega arith) (l .inv .1)
     (c .pnet-stream-at .ensures)
 
+-- its master and what is multiplied for its bound are small
+small : (c : tie.After-pnet-stream-at Inv-loop μ-loop)
+    → Small (c .before .before .loop .i) (c .before .before .before .before .before .before .before .before .args .counts .now) (c .before .before .before .before .before .before .before .before .args .turn)
+    (c .pnet-stream-at .result .found)
+small c =
+    let start = c .before .before .before .before .before .before .before .before in
+    stays-small (start .pre .0 .0) (start .args .counts .now) (start .args .turn) (start .pre .1 .0) (start .pre .1 .1) (c .before .before .loop .i) (c .pnet-stream-at .result) (omega arith) (its c)
+
 -- and its master, bound, spacing and jitter are those that the code has
 stream : (c : tie.After-pnet-stream-at Inv-loop μ-loop)
     → Placed (c .before .before .before .before .before .before .before .before .args .s .now) (c .before .before .loop .i) (c .before .before .before .before .before .before .before .before .args .counts .now) (c .before .before .before .before .before .before .before .before .args .turn)
@@ -49,37 +58,37 @@ stream c =
     placed (start .pre .0 .0) (start .args .counts .now) (start .args .turn) (start .pre .1 .0) (start .pre .1 .1) (c .before .before .loop .i) (c .pnet-stream-at .result) (omega arith) (its c)
 
 cast-masters : tie.Need-cast-masters Inv-loop μ-loop
-cast-masters c = omega (arith, stream (c .before .before))
+cast-masters c = omega (arith, small (c .before .before))
 
 slice-write-masters : tie.Need-slice-write-masters Inv-loop μ-loop
 slice-write-masters c = search needs
 
 cast-bound : tie.Need-cast-bound Inv-loop μ-loop
-cast-bound c = omega (arith, stream (c .before .before .before))
+cast-bound c = omega (arith, small (c .before .before .before))
 
 element-copy-out-bound : tie.Need-element-copy-out-bound Inv-loop μ-loop
-element-copy-out-bound c = omega (arith, stream (c .before .before .before))
+element-copy-out-bound c = omega (arith, small (c .before .before .before))
 
 cast-bound-2 : tie.Need-cast-bound-2 Inv-loop μ-loop
-cast-bound-2 c = omega (arith, stream (c .before .before .before .before))
+cast-bound-2 c = omega (arith, small (c .before .before .before .before))
 
 mul-bound : tie.Need-mul-bound Inv-loop μ-loop
-mul-bound c = omega (arith, stream (c .before .before .before .before))
+mul-bound c = omega (arith, small (c .before .before .before .before))
 
 mul-bound-2 : tie.Need-mul-bound-2 Inv-loop μ-loop
-mul-bound-2 c = omega (arith, stream (c .before .before .before .before))
+mul-bound-2 c = omega (arith, small (c .before .before .before .before))
 
 slice-write-bound : tie.Need-slice-write-bound Inv-loop μ-loop
 slice-write-bound c = search needs
 
 mul-spacing : tie.Need-mul-spacing Inv-loop μ-loop
-mul-spacing c = omega (arith, stream (c .before .before .before .before))
+mul-spacing c = omega (arith, small (c .before .before .before .before))
 
 slice-write-spacing : tie.Need-slice-write-spacing Inv-loop μ-loop
 slice-write-spacing c = search needs
 
 mul-jitter : tie.Need-mul-jitter Inv-loop μ-loop
-mul-jitter c = omega (arith, stream (c .before .before .before .before))
+mul-jitter c = omega (arith, small (c .before .before .before .before))
 
 slice-write-jitter : tie.Need-slice-write-jitter Inv-loop μ-loop
 slice-write-jitter c = search needs

@@ -6,7 +6,7 @@ use native.Mathlib.Omega.{arith}
 use borrow.Author.Needs.{needs}
 use lib.ListN.{length}
 use Rattle.sheet_record.specs.Kinds.{busOf}
-use Rattle.sheet_read.proofs.Behind.{ReadsOn, bus-kinds, opened, fewer-streams, Meets, master-here, not-late, reads-more, next-later}
+use Rattle.sheet_read.proofs.Behind.{ReadsOn, opened, fewer-streams, Meets, master-here, not-late, reads-more, next-later}
 use Rattle.sheet_read.proofs.Behind.{refused-own, refused-late, refused-keeps, ends-empty, ends-accepted, ends-counted, ends-longest, ends-uncounted}
 use Rattle.sheet_read.proofs.read_streams.Statement.{statement}
 use Rattle.sheet_read.proofs.read_streams.Tie as tie
@@ -30,13 +30,13 @@ shared-slice-read-kind : tie.Need-shared-slice-read-kind Inv-loop μ-loop
 shared-slice-read-kind c = search needs
 
 is-stream-requires : tie.Need-is-stream-requires Inv-loop μ-loop
-is-stream-requires c κs = bus-kinds (c .before .before .loop .inv .reads)
+is-stream-requires c κs = search needs
 
 stream-at-requires : tie.Need-stream-at-requires Inv-loop μ-loop
-stream-at-requires c κs = bus-kinds (c .before .before .before .loop .inv .reads)
+stream-at-requires c κs = search needs
 
 stream-in-range-requires : tie.Need-stream-in-range-requires Inv-loop μ-loop
-stream-in-range-requires c κs = bus-kinds (c .before .before .before .before .before .loop .inv .reads)
+stream-in-range-requires c κs = search needs
 
 own-no-requires : tie.Need-own-no-requires Inv-loop μ-loop
 own-no-requires c κs = search needs
