@@ -27,7 +27,8 @@ use Rattle.demands.proofs.PageCase.{sheet, bytes, lent, page, accepts}
 use Rattle.demands.proofs.Captured.{the-capture-passes}
 use Rattle.demands.proofs.CapturedBytes.{the-capture-is-accepted}
 use Rattle.demands.proofs.Watched.{no-request-too-soon, no-request-open-beyond-the-bound}
-use Rattle.demands.proofs.WatchedBytes.{zeros, no-request-counts-as-too-soon}
+use Rattle.demands.proofs.Beside.{zeros}
+use Rattle.demands.proofs.WatchedBytes.{no-request-counts-as-too-soon}
 
 -- the token is at master 1 when its stream 1 asks: 7 bp reaction, 203 bp message
 unfoldable pub run : Run page 210 (toward (next (page .masters) 1) 40) (put (join (λ y. []) 1 (request 1 0)) 1 []) (request 1 0 ∷ [])

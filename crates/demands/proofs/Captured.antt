@@ -8,14 +8,13 @@ use mathlib.Core.List.{List}
 use lib.ListN.{length}
 use Rattle.common.specs.Checks.Verdict.{Passed}
 use Rattle.pnet_rules.specs.Segment.{Segment, bound}
-use Rattle.pnet_run.specs.Run.{Belongs, Request, Answer, Queues, Token, firstCome, Run}
+use Rattle.pnet_run.specs.Run.{Belongs, Request, Answer, Queues, Token, Run}
 use Rattle.pnet_run.specs.Promise.{Spaced, Accepted}
-use Rattle.pnet_run.proofs.Queues.{first-come-keeps}
 use Rattle.capture_log.specs.Log.{fresh, largest, above}
 use Rattle.capture_log.specs.Records.{size, eventsIn, taken, heard}
 use Rattle.demands.specs.Logged.{logOf}
-use Rattle.demands.proofs.Matching.{Punctual, above-none, largest-most, all-within}
-use Rattle.demands.proofs.FirstCome.{first-come-counts, AllSpaced, punctual, punctual-among-all}
+use Rattle.demands.proofs.Matching.{above-none, largest-most, all-within}
+use Rattle.demands.proofs.FirstCome.{first-come-counts, punctual, each-punctual}
 use Rattle.demands.proofs.Passing.{all-pass, all-taken, none-refused}
 
 -- a run of the accepted segment S, and the counter at its start
@@ -33,13 +32,10 @@ module _ (S : Segment) (accepted : Accepted S) {now : ℕ} {token : Token} {queu
 
   -- Every master keeps its spacing. The bytes c are a capture with n records, those of the log.
   module _ (spaced : (k : ℕ) → Spaced S k came) (c : List ℕ) (n : ℕ) (long : length c ≡ size * n) (logged : eventsIn c n ≡ logOf z run) where
-    each : (m i : ℕ) (own : Belongs S m i) → Punctual firstCome first-come-keeps S m i (bound S (S .stream i .master)) (AllSpaced S)
-    each m i own = rw (own .own) (punctual-among-all accepted own)
-
     -- no record is refused
     pub the-capture-passes : heard c (S .number) fresh ≡ Passed
-    the-capture-passes = none-refused c (S .number) n long (rw logged (all-pass first-come-counts (λ i. bound S (S .stream i .master)) each z run spaced))
+    the-capture-passes = none-refused c (S .number) n long (rw logged (all-pass first-come-counts (λ i. bound S (S .stream i .master)) (each-punctual accepted) z run spaced))
 
     -- and all are taken
     pub the-capture-is-taken : taken c (S .number) fresh ≡ n
-    the-capture-is-taken = all-taken c (S .number) n long (rw logged (all-pass first-come-counts (λ i. bound S (S .stream i .master)) each z run spaced))
+    the-capture-is-taken = all-taken c (S .number) n long (rw logged (all-pass first-come-counts (λ i. bound S (S .stream i .master)) (each-punctual accepted) z run spaced))

@@ -1,18 +1,17 @@
 -- Page 02, 'Ask 1', from the bytes of a sheet and of a capture: where a capture is the log of a fault-free run of the model on an accepted
 -- sheet whose masters keep their spacing, the count of answers above the bound is 0. `planned` is what the planner answers, `compared` what
 -- laying the capture beside the sheet answers, and `streamRun` what a lent run then holds: all are words of contracts. Assumes nothing.
-use Prim.Native.Nat.{ℕ, _+_, _-_, _*_, _≤_}
+use Prim.Native.Nat.{ℕ, _-_, _*_, _≤_}
 use mathlib.Core.Path.{_≡_, refl, ap, _∙_}
 use mathlib.Core.List.{List}
 use native.Mathlib.Omega.{arith}
 use lib.ListN.{length, getD}
 use Rattle.common.specs.Sums.{up}
-use Rattle.common.proofs.Runs.{filled-at}
 use Rattle.sheet_read.specs.Sheets.{Sheet}
 use Rattle.sheet_read.specs.Whole.{Outcome}
 use Rattle.sheet_read.specs.Whole.Outcome.{Read}
-use Rattle.pnet_rules.specs.Segment.{Segment, segmentOf, bound}
-use Rattle.pnet_plan.specs.Planned.{planned, atPlace}
+use Rattle.pnet_rules.specs.Segment.{segmentOf, bound}
+use Rattle.pnet_plan.specs.Planned.{planned}
 use Rattle.pnet_plan.proofs.Refusals as pnet
 use Rattle.pnet_run.specs.Run.{Belongs, Request, Answer, Queues, Token, Run}
 use Rattle.pnet_run.specs.Promise.{Spaced, Accepted}
@@ -26,14 +25,8 @@ use Rattle.capture_compare.specs.Refusals.{Room}
 use Rattle.capture_compare.proofs.Refusals.{accepted-exactly}
 use Rattle.demands.specs.Logged.{logOf}
 use Rattle.demands.proofs.Demand3.{accepted-as-demanded}
+use Rattle.demands.proofs.Beside.{at-its-place}
 use Rattle.demands.proofs.Captured.{no-answer-above-the-bound, each-largest-within-the-bound, the-capture-passes}
-
--- what a run that is lent for a figure of each stream holds at the place of stream i
-pub at-its-place : {given : Outcome} {H : Sheet} → given ≡ Read H → (i : ℕ) → 1 ≤ i → i ≤ length (H .streams) → (figure : Segment → ℕ → ℕ) (old : List ℕ)
-    → getD (streamRun given figure old) (i - 1) 0 ≡ figure (segmentOf H) i
-at-its-place {H = H} is i from to figure old =
-    let e : i - 1 + 1 ≡ i = omega arith in
-    rw is (filled-at (atPlace (figure (segmentOf H))) (length (H .streams)) (i - 1) old (omega arith) ∙ ap (figure (segmentOf H)) e)
 
 -- the bytes s, and the planner's three lent runs; it accepts the sheet H that the bytes say
 module _ (s bounds refined rounds : List ℕ) (H : Sheet) (accepts : planned s (length bounds) (length refined) (length rounds) ≡ Read H)

@@ -16,7 +16,7 @@ use Rattle.pnet_run.proofs.Queues.{first-come-keeps}
 use Rattle.pnet_run.proofs.Answering.{NotLate}
 use Rattle.pnet_run.proofs.Bound.{waits-in-time}
 use Rattle.pnet_run.proofs.Spacing.{spaced-before, spaced-apart}
-use Rattle.demands.proofs.Matching.{Counts, Punctual, punctual-if}
+use Rattle.demands.proofs.Matching.{Counts, Punctual, punctual-if, AllSpaced}
 
 -- ---- How many requests of stream i are in a list
 
@@ -67,10 +67,6 @@ first-come-counts = record {
 
 -- ---- None waits longer than the bound
 
--- the arrivals of every master are spaced
-abbrev pub AllSpaced : Segment → List Request → Type 0
-AllSpaced S came = (k : ℕ) → Spaced S k came
-
 module _ {S : Segment} (accepted : Accepted S) {k i : ℕ} (own : Belongs S k i) where
   -- how far apart the requests of a stream are at least
   abbrev far : ℕ → ℕ
@@ -104,3 +100,6 @@ module _ {S : Segment} (accepted : Accepted S) {k i : ℕ} (own : Belongs S k i)
   -- the same, where every master keeps its spacing
   pub punctual-among-all : Punctual firstCome first-come-keeps S k i (bound S k) (AllSpaced S)
   punctual-among-all = punctual-if (λ came spaced. spaced k) (λ r came spaced y. spaced-before (spaced y)) punctual
+
+pub each-punctual : {S : Segment} → Accepted S → (m i : ℕ) → Belongs S m i → Punctual firstCome first-come-keeps S m i (bound S (S .stream i .master)) (AllSpaced S)
+each-punctual accepted m i own = rw (own .own) (punctual-among-all accepted own)

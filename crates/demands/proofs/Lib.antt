@@ -9,8 +9,9 @@ pub mod Matching
 pub mod FirstCome
 pub mod Passing
 pub mod Captured
-pub mod CapturedBytes
 pub mod Clocked
+pub mod Beside
+pub mod CapturedBytes
 pub mod Watched
 pub mod WatchedBytes
 pub mod CaptureCase

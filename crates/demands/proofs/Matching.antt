@@ -33,7 +33,7 @@ use Rattle.pnet_run.specs.Run.{
   serve,
   skip,
 }
-use Rattle.pnet_run.specs.Promise.{Kept}
+use Rattle.pnet_run.specs.Promise.{Kept, Spaced}
 use Rattle.pnet_run.proofs.Keeping.{Keeps, put-same, put-relates, owned-by, kept-came, sent-kept}
 use Rattle.pnet_run.proofs.Answering.{NotLate}
 use Rattle.pnet_run.proofs.Bound.{apart-latest}
@@ -151,6 +151,10 @@ punctual-if less before P = record {
   earlier = before;
   waits = λ t y q came went run s. P .waits t y q came went run (less came s);
 }
+
+-- a kind of arrivals: every master keeps its spacing
+abbrev pub AllSpaced : Segment → List Request → Type 0
+AllSpaced S came = (k : ℕ) → Spaced S k came
 
 -- ---- The capture and what is kept
 

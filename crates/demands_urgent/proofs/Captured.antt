@@ -32,8 +32,8 @@ use Rattle.capture_log.specs.Log.{fresh}
 use Rattle.capture_log.specs.Records.{size, eventsIn, records, events, taken, heard}
 use Rattle.capture_ages.specs.Ages.{beyond}
 use Rattle.demands.specs.Logged.{logOf, instantsOf, Close}
-use Rattle.demands.proofs.Matching.{Counts, Punctual, punctual-if, all-within, above-none, largest-most}
-use Rattle.demands.proofs.FirstCome.{manyOf, many-of-none, many-of-behind, many-of-first, many-of-in, many-of-some, AllSpaced}
+use Rattle.demands.proofs.Matching.{Counts, Punctual, punctual-if, AllSpaced, all-within, above-none, largest-most}
+use Rattle.demands.proofs.FirstCome.{manyOf, many-of-none, many-of-behind, many-of-first, many-of-in, many-of-some}
 use Rattle.demands.proofs.Clocked.{open-within}
 use Rattle.demands.proofs.Passing.{all-pass, none-refused, all-taken}
 use Rattle.demands_urgent.specs.Written.{roomIn}
@@ -131,21 +131,22 @@ module _ (S : Segment) (declared : Declared S) where
         → beyond (figure S i) (logOf z run) i ≡ false
     no-request-open-beyond-x {U} urgent run close spaced z = open-within (stacked-counts S U) (punctual S declared U urgent its-own met) z run close spaced
 
-  -- Every stream is accepted, every master hands down the most urgent request first and keeps its spacing. The bytes c are a capture with n records, those of the log.
-  module _ (met : (i : ℕ) → 1 ≤ i → i ≤ S .number → unmet S i ≡ false) (U : ℕ → Type 0) (urgent : (m : ℕ) → U m)
-      {t : ℕ} {y : Token} {q : ℕ → Held} {came : List Request} {went : List Answer} (run : RunBy (stacked S U) S t y q came went) (spaced : AllSpaced S came) (z : ℕ)
-      (c : List ℕ) (n : ℕ) (long : length c ≡ size * n) (logged : eventsIn c n ≡ logOf z run) where
-    each : (m i : ℕ) → Belongs S m i → Punctual (stacked S U) (stacked-keeps S U) S m i (figure S i) (AllSpaced S)
-    each m i own =
+  -- every stream is accepted, and every master hands down the most urgent request first
+  module _ (met : (i : ℕ) → 1 ≤ i → i ≤ S .number → unmet S i ≡ false) (U : ℕ → Type 0) (urgent : (m : ℕ) → U m) where
+    pub each-punctual : (m i : ℕ) → Belongs S m i → Punctual (stacked S U) (stacked-keeps S U) S m i (figure S i) (AllSpaced S)
+    each-punctual m i own =
         punctual-if (all-spaced-up-to S i) (λ r l s k. spaced-earlier (s k)) (punctual S declared U (urgent m) own (met i (own .from-one) (own .to-last)))
 
-    -- no record is refused
-    pub the-capture-passes : heard c (S .number) fresh ≡ Passed
-    the-capture-passes = none-refused c (S .number) n long (rw logged (all-pass (stacked-counts S U) (figure S) each z run spaced))
+    -- a run in which all keep their spacing; the bytes c are a capture with n records, those of the log
+    module _ {t : ℕ} {y : Token} {q : ℕ → Held} {came : List Request} {went : List Answer} (run : RunBy (stacked S U) S t y q came went) (spaced : AllSpaced S came) (z : ℕ)
+        (c : List ℕ) (n : ℕ) (long : length c ≡ size * n) (logged : eventsIn c n ≡ logOf z run) where
+      -- no record is refused
+      pub the-capture-passes : heard c (S .number) fresh ≡ Passed
+      the-capture-passes = none-refused c (S .number) n long (rw logged (all-pass (stacked-counts S U) (figure S) each-punctual z run spaced))
 
-    -- and all are taken
-    pub the-capture-is-taken : taken c (S .number) fresh ≡ n
-    the-capture-is-taken = all-taken c (S .number) n long (rw logged (all-pass (stacked-counts S U) (figure S) each z run spaced))
+      -- and all are taken
+      pub the-capture-is-taken : taken c (S .number) fresh ≡ n
+      the-capture-is-taken = all-taken c (S .number) n long (rw logged (all-pass (stacked-counts S U) (figure S) each-punctual z run spaced))
 
 -- ---- From the bytes of a sheet and of a capture
 
