@@ -1,6 +1,6 @@
 -- How long a count with its units is at most, and a refusal without the line's end. Assumes nothing.
 use mathlib.Core.List.{List, [], _++_}
-use mathlib.Core.Bool.{Bool, true, false, cond}
+use mathlib.Core.Bool.{Bool, true, false, cond, _||_}
 use Prim.Native.Nat.{ℕ, _+_, _^_, _≤_, _<_}
 use native.Mathlib.Omega.{arith}
 use lib.Dec.{leb, eqb}
@@ -48,7 +48,7 @@ two-most m first a second b s t =
 
 place-most : (n p : ℕ) → length (placeText n p) ≤ 34
 unfolding placeText
-place-most n p = split (leb n 7) (leb n 9) (eqb n 12) (eqb n 23)
+place-most n p = split (leb n 7) (leb n 9 || eqb n 21) (eqb n 12) (eqb n 23)
   where
     split : (a b c d : Bool)
         → length

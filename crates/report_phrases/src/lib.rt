@@ -65,7 +65,7 @@ fn put_place(out: &mut [u8], at: usize, number: u8, place: u64, after: &[u8]) ->
     if number <= 7 {
         return put_counted(out, at, b" at byte ", place, after);
     }
-    if number <= 9 {
+    if (number <= 9) | (number == 21) {
         return put_counted(out, at, b" at stream ", place, after);
     }
     if number == 12 {
