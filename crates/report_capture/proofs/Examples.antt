@@ -5,9 +5,9 @@ use mathlib.Core.Bool.{false}
 use Rattle.common.specs.Sums.{sum, up, firstOf}
 use Rattle.units.specs.Units.{bp, nanosUp}
 use Rattle.text.specs.Text.{word, _·_, places, holds, widthOf, decimal, item, texts}
-use Rattle.report_phrases.specs.Phrases.{inBp, inNs, inBoth, twoCounts, nameOf}
+use Rattle.report_phrases.specs.Phrases.{inBp, inNs, inBoth, twoCounts, nameOf, whoseText}
 use Rattle.report_faults.specs.Faults.{exceeds, exceeding, first, streamsLine, soonLine, agesLines, silenceLine, faultLines, clean, lastLines}
-use Rattle.report_capture.specs.Shown.{whoseText, countsText, streamLine, streamAt, captureText, captureRefusal}
+use Rattle.report_capture.specs.Shown.{countsText, streamLine, streamAt, captureText, captureRefusal}
 
 -- ---- Whole reports
 

@@ -7,21 +7,15 @@ use native.Mathlib.Omega.{arith}
 use lib.ListN.{length, length-append}
 use Rattle.units.specs.declared.BitPeriods.{BitPeriods}
 use Rattle.text.specs.Text.{word, texts}
-use Rattle.text.proofs.Numbers.{length-places}
 use Rattle.text.proofs.Lengths.{decimal-most}
 use Rattle.text.proofs.Writing.{texts-more}
-use Rattle.report_phrases.specs.Phrases.{nameOf, twoCounts}
-use Rattle.report_phrases.proofs.Lengths.{both-most, two-most}
+use Rattle.report_phrases.specs.Phrases.{whoseText, twoCounts}
+use Rattle.report_phrases.proofs.Lengths.{both-most, two-most, whose-most}
 use Rattle.report_faults.specs.Faults.{lastLines}
 use Rattle.report_faults.proofs.Lengths.{last-most}
-use Rattle.report_capture.specs.Shown.{mostCapture, mostLine, whoseText, countsText, streamLine, streamAt, captureText}
+use Rattle.report_capture.specs.Shown.{mostCapture, mostLine, countsText, streamLine, streamAt, captureText}
 
 -- ---- One stream
-
-whose-most : (number master : ℕ) → number ≤ 800 → length (whoseText number master) ≤ 14
-unfolding whoseText nameOf
-whose-most number master few =
-    simp length-append (omega (arith, decimal-most 3 number (omega arith) (omega arith) (omega arith), length-places 2 master))
 
 counts-most : (answers above left : ℕ) → answers < 2 ^ 64 → above < 2 ^ 64 → left < 2 ^ 8 → length (countsText answers above left) ≤ 66
 unfolding countsText

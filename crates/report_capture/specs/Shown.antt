@@ -6,7 +6,7 @@ use mathlib.Core.Bool.{Bool}
 use Rattle.units.specs.Units.{bp}
 use Rattle.units.specs.declared.BitPeriods.{BitPeriods}
 use Rattle.text.specs.Text.{word, decimal, _·_, texts}
-use Rattle.report_phrases.specs.Phrases.{nameOf, twoCounts}
+use Rattle.report_phrases.specs.Phrases.{whoseText, twoCounts}
 use Rattle.report_faults.specs.Faults.{lastLines}
 
 -- no capture's report of at most 800 streams is longer
@@ -19,15 +19,11 @@ mostLine = 158
 
 -- ---- One stream
 
--- its number and its master
-unfoldable pub whoseText : ℕ → ℕ → List ℕ
-whoseText number master = word "stream " · decimal number · word " " · nameOf master
-
 -- its answers, those of them above the bound, and the requests left open
 unfoldable pub countsText : ℕ → ℕ → ℕ → List ℕ
 countsText answers above left = word " " · decimal answers · word " answers " · decimal above · word " above " · decimal left · word " open\n"
 
--- between them its bound, and the largest response that the capture shows
+-- behind its number and its master its bound, and the largest response that the capture shows
 unfoldable pub streamLine : ℕ → ℕ → BitPeriods → BitPeriods → ℕ → ℕ → ℕ → List ℕ
 streamLine number master bound largest answers above left =
     whoseText number master · twoCounts (word " bound ") bound (word " largest ") largest · countsText answers above left

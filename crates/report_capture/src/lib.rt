@@ -2,8 +2,8 @@
 // out; each function answers the place just after what it wrote.
 use report_faults::put_last;
 use report_faults::shown;
-use report_phrases::put_name;
 use report_phrases::put_two;
+use report_phrases::put_whose;
 use sheet_read::MOST;
 use text::put_counted;
 use text::put_word;
@@ -12,7 +12,7 @@ ghost use mathlib.Core.Path.{_≡_};
 ghost use Prim.Native.Nat.{_*_, _≤_, min};
 ghost use lib.ListN.{length};
 ghost use Rattle.text.specs.Text.{Zeros, Wrote, item, texts};
-ghost use Rattle.report_capture.specs.Shown.{mostCapture, mostLine, whoseText, countsText, streamLine, streamAt, captureText, captureRefusal};
+ghost use Rattle.report_capture.specs.Shown.{mostCapture, mostLine, countsText, streamLine, streamAt, captureText, captureRefusal};
 
 // No report of a capture is longer.
 pub const MOST_TEXT: usize = 126_660;
@@ -30,14 +30,6 @@ fn put_counts(out: &mut [u8], at: usize, answers: u64, above: u64, left: u8) -> 
     let next = put_counted(out, at, b" ", answers, b" answers ");
     let rest = put_counted(out, next, b"", above, b" above ");
     put_counted(out, rest, b"", left as u64, b" open\n")
-}
-
-// The number and the master of a stream.
-fn put_whose(out: &mut [u8], at: usize, number: u64, master: u8) -> usize
-    ensures { λ r. ⌜ Wrote (now (out .entry)) at (whoseText number master) (now (out .exit)) r ⌝ }
-{
-    let name = put_counted(out, at, b"stream ", number, b" ");
-    put_name(out, name, master as u64)
 }
 
 fn put_stream(

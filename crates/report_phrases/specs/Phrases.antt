@@ -29,11 +29,15 @@ inBoth b = inBp b · word " " · inNs (nanosUp b)
 unfoldable pub twoCounts : List ℕ → BitPeriods → List ℕ → BitPeriods → List ℕ
 twoCounts first a second b = first · inBoth a · second · inBoth b
 
--- ---- Masters
+-- ---- Masters and streams
 
 -- master numbers have two digits
 unfoldable pub nameOf : ℕ → List ℕ
 nameOf k = word "M" · places 2 k
+
+-- a stream's number and its master
+unfoldable pub whoseText : ℕ → ℕ → List ℕ
+whoseText number master = word "stream " · decimal number · word " " · nameOf master
 
 -- ---- Refusals
 
