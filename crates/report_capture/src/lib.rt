@@ -1,4 +1,4 @@
-// The report of a tester's capture beside the bounds of a P-NET sheet, page 02 'Ask 1'. What does not fit into the lent run is left
+// The report of a tester's capture beside the bounds of a P-NET sheet, page 02 'Ask 1' and 'Ask 11'. What does not fit into the lent run is left
 // out; each function answers the place just after what it wrote.
 use report_faults::put_last;
 use report_faults::shown;
@@ -12,10 +12,10 @@ ghost use mathlib.Core.Path.{_≡_};
 ghost use Prim.Native.Nat.{_*_, _≤_, min};
 ghost use lib.ListN.{length};
 ghost use Rattle.text.specs.Text.{Zeros, Wrote, item, texts};
-ghost use Rattle.report_capture.specs.Shown.{mostCapture, mostLine, countsText, streamLine, streamAt, captureText, captureRefusal};
+ghost use Rattle.report_capture.specs.Shown.{mostCapture, mostLine, countsText, streamLine, streamAt, heading, captureText, captureRefusal};
 
 // No report of a capture is longer.
-pub const MOST_TEXT: usize = 126_660;
+pub const MOST_TEXT: usize = 126_673;
 
 // Room for every report of a capture.
 pub fn text_buffer() -> [u8; MOST_TEXT]
@@ -89,9 +89,20 @@ fn put_streams(
     next
 }
 
+// The heading, with the rule that the bounds are of.
+fn put_heading(out: &mut [u8], urgent: bool) -> usize
+    ensures { λ r. ⌜ Wrote (now (out .entry)) 0 (heading urgent) (now (out .exit)) r ⌝ }
+{
+    if urgent {
+        return put_word(out, 0, b"P-NET capture urgent first\n");
+    }
+    put_word(out, 0, b"P-NET capture\n")
+}
+
 // Writes the report at the start of the lent run. More than 800 streams count as 800.
 pub fn put_capture(
     out: &mut [u8],
+    urgent: bool,
     streams: usize,
     masters: &[u8; MOST],
     bound: &[u32; MOST],
@@ -105,11 +116,11 @@ pub fn put_capture(
     broken: bool,
 ) -> usize
     ensures { λ r.
-        let text = captureText (item (now (masters .entry))) (item (now (bound .entry))) (item (now (largest .entry))) (item (now (answers .entry))) (item (now (above .entry))) (item (now (left .entry))) (item (now (late .entry))) soon whose broken (min streams 800) in
+        let text = captureText urgent (item (now (masters .entry))) (item (now (bound .entry))) (item (now (largest .entry))) (item (now (answers .entry))) (item (now (above .entry))) (item (now (left .entry))) (item (now (late .entry))) soon whose broken (min streams 800) in
         ⌜ Wrote (now (out .entry)) 0 text (now (out .exit)) r × (length text ≤ mostCapture) ⌝ }
 {
     let n = shown(streams);
-    let lines = put_word(out, 0, b"P-NET capture\n");
+    let lines = put_heading(out, urgent);
     let last = put_streams(out, lines, n, masters, bound, largest, answers, above, left);
     put_last(
         out,
