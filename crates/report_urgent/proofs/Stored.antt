@@ -1,0 +1,21 @@
+-- A report that is stored in a run with room for every one: its length, and what the run then is. Assumes nothing.
+use Prim.Native.Nat.{ℕ, _≤_}
+use mathlib.Core.Path.{_≡_}
+use mathlib.Core.List.{List}
+use native.Mathlib.Omega.{arith}
+use lib.ListN.{length, length-append}
+use Rattle.text.specs.Text.{word, Wrote}
+use Rattle.text.proofs.Writing.{wrote-front}
+use Rattle.report_phrases.specs.Phrases.{refusedText, refusalText}
+use Rattle.report_phrases.proofs.Lengths.{refused-most}
+use Rattle.report_urgent_lines.specs.Lines.{mostUrgent}
+use Rattle.report_urgent.specs.Stored.{over}
+
+pub stored : {t old new : List ℕ} {n : ℕ} → Wrote old 0 t new n → length t ≤ mostUrgent → length old ≡ mostUrgent → (n ≡ length t) × (new ≡ over t old)
+unfolding over
+stored w few long = wrote-front w (omega (arith, few, long))
+
+-- a refusal has room
+pub refusal-fits : (n p : ℕ) → length (refusalText n p) ≤ mostUrgent
+unfolding refusalText
+refusal-fits n p = omega (arith, length-append (refusedText n p) (word "\n"), refused-most n p)
