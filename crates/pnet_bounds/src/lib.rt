@@ -26,9 +26,9 @@ pub enum Sender {
 }
 
 // V of a sheet under its edition, and its first stream whose master's R is above its D, the number past the last where there is none.
-struct Judged {
-    turn: u32,
-    late: usize,
+pub struct Judged {
+    pub turn: u32,
+    pub late: usize,
 }
 
 // The first of n streams whose master's R is above its D, and n + 1 where there is none; turn is V.
@@ -53,7 +53,7 @@ fn first_late(s: &[u8], first: usize, n: usize, counts: &[u8; 33], turn: u32) ->
 }
 
 // A P-NET sheet of N masters and n streams judged.
-fn judge(
+pub fn judge(
     s: &[u8],
     all: usize,
     first: usize,

@@ -1,8 +1,8 @@
 -- Page 02, 'Ask 11': what x and its rounds are, for every stream of a segment whose V is not 0. The figure is the least solution where the stream is accepted, and a stream is accepted exactly if
 -- there is a least solution of at most D. Assumes nothing.
-use mathlib.Core.Path.{_≡_, refl, sym, _∙_}
+use mathlib.Core.Path.{_≡_, refl}
 use mathlib.Core.Logic.{_↔_, _⊎_, inl, inr}
-use mathlib.Core.Bool.{Bool, true, false}
+use mathlib.Core.Bool.{true, false}
 use Prim.Native.Nat.{ℕ, _+_, _*_, _≤_, _<_}
 use native.Mathlib.Nat.{mul-comm, mul-le-mul}
 use native.Mathlib.Omega.{arith}

@@ -1,10 +1,10 @@
 -- Page 02, 'Ask 11', the right side for x: it never falls as x grows and is never below V, so no solution is; and V of a segment with streams is at least 48. Assumes nothing.
 use mathlib.Core.Path.{_≡_}
 use mathlib.Core.Bool.{Bool, true, false}
-use Prim.Native.Nat.{ℕ, _+_, _*_, _≤_}
+use Prim.Native.Nat.{ℕ, _+_, _≤_}
 use native.Mathlib.Nat.{mul-one, mul-le-mul}
 use native.Mathlib.Omega.{arith}
-use Rattle.common.specs.Sums.{when, upto, up}
+use Rattle.common.specs.Sums.{when}
 use Rattle.common.proofs.Sums.{upto-mono, upto-term, up-rises}
 use Rattle.pnet_rules.specs.Segment.{Segment, charged, turnBy, turn}
 use Rattle.pnet_rules.specs.Limits.{Declared}

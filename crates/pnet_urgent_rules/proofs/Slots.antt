@@ -1,6 +1,6 @@
 -- Page 02, 'Ask 11': the search for x in slots. A slot is one turn of the token, V bp. Every value of the search is a number of slots, so a search from one slot by a right
 -- side in slots finds x and its rounds. Assumes nothing.
-use mathlib.Core.Path.{_≡_, refl, sym, ap, _∙_}
+use mathlib.Core.Path.{_≡_, sym, ap, _∙_}
 use mathlib.Core.Logic.{_⊎_, inl, inr}
 use mathlib.Core.Bool.{true, false}
 use Prim.Native.Nat.{ℕ, zero, suc, _+_, _*_, _/_, _≤_, _<_}
@@ -8,7 +8,7 @@ use native.Mathlib.Nat.{mul-one, mul-comm, mul-div-cancel-left, div-lt-iff-lt-mu
 use native.Mathlib.Omega.{arith}
 use borrow.Author.Tests.{lt-ltb, le-ltb}
 use Rattle.pnet_rules.specs.Segment.{Segment, turn}
-use Rattle.pnet_rules.specs.Search.{valueFrom, roundsFrom, Settles}
+use Rattle.pnet_rules.specs.Search.{valueFrom, Settles}
 use Rattle.pnet_rules.proofs.Sequence.{settles-is-rounds, settles-or-passes, moves-up}
 use Rattle.pnet_urgent_rules.specs.Urgent.{right, rounds, figure, unmet}
 use Rattle.pnet_urgent_rules.proofs.Right.{right-rises, right-from}

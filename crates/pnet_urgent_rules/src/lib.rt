@@ -1,1 +1,1 @@
-// The P-NET rules of page 01 as definitions and laws; no code.
+// Page 02, 'Ask 11', urgent requests first, as definitions and laws; no code.

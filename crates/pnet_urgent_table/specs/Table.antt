@@ -28,7 +28,7 @@ pub record Slow (V' : ℕ) (Ts Js : List ℕ) (K : ℕ) : Type 0 where
   pub spacing-to : (j : ℕ) → j < K → at Ts j ≤ 1000000000
   pub jitter-to : (j : ℕ) → j < K → at Js j < at Ts j
 
--- what is kept of each stream behind slot a: the last slot before it asks once more, and how many bp behind that slot's end it does so
+-- what is kept of each stream behind slot a: the last slot before it asks once more, and how many bp behind that slot's end it does so; up to that slot it asks no more than up to a
 pub record Due (V' : ℕ) (Ts Js : List ℕ) (K a : ℕ) (nexts rests : List ℕ) : Type 0 where
   pub nexts-long : K ≤ length nexts
   pub rests-long : K ≤ length rests
@@ -36,6 +36,7 @@ pub record Due (V' : ℕ) (Ts Js : List ℕ) (K a : ℕ) (nexts rests : List ℕ
   pub to : (j : ℕ) → j < K → at nexts j ≤ a + 20833333
   pub rest-to : (j : ℕ) → j < K → at rests j < V'
   pub asks : (j : ℕ) → j < K → V' * at nexts j + at rests j + at Js j ≡ (beyondOnce V' (at Ts j) (at Js j) (at nexts j) + 1) * at Ts j
+  pub still : (j : ℕ) → j < K → beyondOnce V' (at Ts j) (at Js j) (at nexts j) ≡ beyondOnce V' (at Ts j) (at Js j) a
 
 -- the block of 512 slots behind slot a: place t has Q at slot a + t + 1
 pub record Laid (V' : ℕ) (Ts Js : List ℕ) (K a : ℕ) (table : List ℕ) : Type 0 where

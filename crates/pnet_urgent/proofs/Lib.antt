@@ -1,0 +1,5 @@
+pub mod Spreads
+pub mod Tied
+pub mod Searching
+pub mod Solving
+pub mod Answers

@@ -1,0 +1,5 @@
+pub mod Loads
+pub mod Alike
+pub mod Walks
+pub mod Carries
+pub mod Blocks
