@@ -14,6 +14,7 @@ use Rattle.pnet_bounds.proofs.Bounded.{bounded-late, bounded-read}
 use Rattle.pnet_urgent_rules.specs.Urgent.{figure}
 use Rattle.pnet_urgent_rules.specs.Planned.{urgently}
 use Rattle.pnet_urgent_rules.proofs.Cases.{urgently-passes, urgently-on-bus, urgently-fits}
+use Rattle.pnet_urgent_streams.specs.Listed.{deadlineOf}
 use Rattle.report_urgent_lines.specs.Lines.{lateLine, lateText}
 
 module _ (s : List ℕ) (H : Sheet) (e : urgently s 800 ≡ Read H) where
@@ -22,11 +23,11 @@ module _ (s : List ℕ) (H : Sheet) (e : urgently s 800 ≡ Read H) where
 
   -- the last line of the report
   abbrev last-line : List ℕ
-  last-line = lateText (atPlace (figure S)) (atPlace (λ i. S .stream i .deadline)) (firstLate S) (bp (boundOf S (firstLate S))) (length (H .streams))
+  last-line = lateText (atPlace (figure S)) (atPlace (deadlineOf S)) (firstLate S) (bp (boundOf S (firstLate S))) (length (H .streams))
 
   pub spoken-of : firstLate S ≤ length (H .streams)
       → (bounded s 800 ≡ Not 8 (firstLate S))
-      × (last-line ≡ lateLine (firstLate S) (bp (boundOf S (firstLate S))) (bp (atPlace (figure S) (firstLate S - 1))) (bp (atPlace (λ i. S .stream i .deadline) (firstLate S - 1))))
+      × (last-line ≡ lateLine (firstLate S) (bp (boundOf S (firstLate S))) (bp (atPlace (figure S) (firstLate S - 1))) (bp (atPlace (deadlineOf S) (firstLate S - 1))))
   unfolding lateText
   spoken-of l = (
     bounded-late s 800 H (urgently-passes s 800 H e .0) (urgently-on-bus s 800 H e) (urgently-fits s 800 H e) (firstLate S) refl l,

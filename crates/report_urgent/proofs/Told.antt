@@ -21,6 +21,9 @@ use Rattle.pnet_bounds.specs.Bounded.{boundOf, masterOf, streamRun}
 use Rattle.pnet_urgent_rules.specs.Urgent.{place, figure, rounds}
 use Rattle.pnet_urgent_rules.specs.Planned.{urgently}
 use Rattle.pnet_urgent_rules.proofs.Cases.{urgently-declared}
+use Rattle.pnet_urgent_streams.specs.declared.answer.Listed.the-variants as listed
+use Rattle.pnet_urgent_streams.specs.Listed.{deadlineOf, lateBound, listedOf}
+use Rattle.report_phrases.specs.Phrases.{refusalText}
 use Rattle.report_faults.proofs.Same.{Agree}
 use Rattle.report_urgent_lines.specs.Lines.{lateLine, lateText, streamAt, urgentText}
 use Rattle.report_urgent_lines.proofs.Same.{urgent-same}
@@ -59,26 +62,47 @@ module _ (s : List ℕ) (H : Sheet) (e : urgently s 800 ≡ Read H) where
   all-shown = omega (arith, urgently-declared s 800 H e .number-to)
 
   module _ (masters places figures rounds' deadlines old : List ℕ) (m : masters ≡ streamRun (Read H) masterOf old) (p : places ≡ streamRun (Read H) place old)
-      (x : figures ≡ streamRun (Read H) figure old) (r : rounds' ≡ streamRun (Read H) rounds old) (d : deadlines ≡ streamRun (Read H) (λ T i. T .stream i .deadline) old) where
+      (x : figures ≡ streamRun (Read H) figure old) (r : rounds' ≡ streamRun (Read H) rounds old) (d : deadlines ≡ streamRun (Read H) deadlineOf old) where
     at : (F : Segment → ℕ → ℕ) (run : List ℕ) → run ≡ streamRun (Read H) F old → Agree n (item run) (atPlace (F S))
     at F run q i l = ap (λ (t : List ℕ). item t i) q ∙ filled-at (atPlace (F S)) n i old l
 
-    pub accepted-text : urgentText (item masters) (item places) (item figures) (item rounds') (item deadlines) (firstLate S) (bp (boundOf S (firstLate S))) (min n 800)
-        ≡ urgentReport s
-    unfolding urgentReport streamsText segmentOf
+    accepted-text : urgentText (item masters) (item places) (item figures) (item rounds') (item deadlines) (firstLate S) (bp (lateBound S)) (min n 800) ≡ urgentReport s
+    unfolding urgentReport streamsText segmentOf lateBound
     accepted-text =
         rw all-shown
-        (urgent-same n (item figures) (atPlace (figure S)) (item deadlines) (atPlace (λ i. S .stream i .deadline)) (at figure figures x) (at (λ T i. T .stream i .deadline) deadlines d)
-        (firstLate S) (late-from S) (bp (boundOf S (firstLate S))) (item masters) (atPlace (masterOf S)) (item places) (atPlace (place S)) (item rounds') (atPlace (rounds S))
-        (at masterOf masters m) (at place places p) (at rounds rounds' r))
-        ∙ ap answerText (sym e)
+        (shown-bound (item masters) (item places) (item figures) (item rounds') (item deadlines) (firstLate S) (boundOf S (firstLate S)) n
+        ∙ (urgent-same n (item figures) (atPlace (figure S)) (item deadlines) (atPlace (deadlineOf S)) (at figure figures x) (at deadlineOf deadlines d) (firstLate S)
+        (late-from S) (bp (boundOf S (firstLate S))) (item masters) (atPlace (masterOf S)) (item places) (atPlace (place S)) (item rounds') (atPlace (rounds S))
+        (at masterOf masters m) (at place places p) (at rounds rounds' r)
+        ∙ ap answerText (sym e)))
 
--- and whether it is
-module _ (s : List ℕ) where
-  pub read-accepts : (H : Sheet) → urgently s 800 ≡ Read H → urgentAccepts s ≡ true
+-- ---- From what is listed
+
+module _ (s masters places figures rounds' deadlines old : List ℕ) where
+  -- the text that is made of it, and the verdict
+  abbrev Said : Outcome → Type 0
+  Said o = (number late' : ℕ) (bound : BitPeriods) → listedOf o ≡ listed.Accepted number late' bound → masters ≡ streamRun o masterOf old
+      → places ≡ streamRun o place old → figures ≡ streamRun o figure old → rounds' ≡ streamRun o rounds old → deadlines ≡ streamRun o deadlineOf old
+      → (urgentText (item masters) (item places) (item figures) (item rounds') (item deadlines) late' bound (min number 800) ≡ urgentReport s) × (urgentAccepts s ≡ true)
+
+  pub accepted-told : Said (urgently s 800)
   unfolding urgentAccepts
-  read-accepts H e = ap isRead e
+  accepted-told = by (urgently s 800) refl
+    where
+      by : (o : Outcome) → urgently s 800 ≡ o → Said o
+      by (Not k q) e number late' bound l m p x r d = let z : _≡_ {A = ℕ} 0 1 = cc in absurd (omega arith)
+      by (Read H) e number late' bound l m p x r d =
+          let count : number ≡ length (H .streams) = cc in
+          let first : late' ≡ firstLate (segmentOf H) = cc in
+          let there : bound ≡ bp (lateBound (segmentOf H)) = cc in
+          (rw (count, first, there) (accepted-text s H e masters places figures rounds' deadlines old m p x r d), ap isRead e)
 
-  pub refused-says : (k q : ℕ) → urgently s 800 ≡ Not k q → (urgentReport s ≡ answerText (Not k q)) × (urgentAccepts s ≡ false)
-  unfolding urgentReport urgentAccepts
-  refused-says k q e = (ap answerText e, ap isRead e)
+pub refused-told : (s : List ℕ) (k q : ℕ) → listedOf (urgently s 800) ≡ listed.Refused k q → (urgentReport s ≡ refusalText k q) × (urgentAccepts s ≡ false)
+unfolding urgentReport urgentAccepts
+refused-told s k q l =
+    let e = by (urgently s 800) l in
+    (ap answerText e, ap isRead e)
+  where
+    by : (o : Outcome) → listedOf o ≡ listed.Refused k q → o ≡ Not k q
+    by (Read H) f = let z : _≡_ {A = ℕ} 0 1 = cc in absurd (omega arith)
+    by (Not a b) f = cc

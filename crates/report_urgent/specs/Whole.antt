@@ -11,13 +11,14 @@ use Rattle.pnet_plan.specs.Planned.{firstLate, atPlace}
 use Rattle.pnet_bounds.specs.Bounded.{boundOf, masterOf}
 use Rattle.pnet_urgent_rules.specs.Urgent.{place, figure, rounds}
 use Rattle.pnet_urgent_rules.specs.Planned.{urgently}
+use Rattle.pnet_urgent_streams.specs.Listed.{deadlineOf}
 use Rattle.report_phrases.specs.Phrases.{refusalText}
 use Rattle.report_urgent_lines.specs.Lines.{urgentText}
 
 -- each stream, and the first whose R is above its D, which is what first-come queues refuse with 8
 unfoldable pub streamsText : Segment → List ℕ
 streamsText S =
-    urgentText (atPlace (masterOf S)) (atPlace (place S)) (atPlace (figure S)) (atPlace (rounds S)) (atPlace (λ i. S .stream i .deadline)) (firstLate S)
+    urgentText (atPlace (masterOf S)) (atPlace (place S)) (atPlace (figure S)) (atPlace (rounds S)) (atPlace (deadlineOf S)) (firstLate S)
     (bp (boundOf S (firstLate S))) (S .number)
 
 abbrev pub answerText : Outcome → List ℕ
