@@ -1,8 +1,9 @@
 // Reads a sheet from standard input, or from the file that its argument names, and writes its report to standard output. With a
-// second name it lays that capture beside the sheet's bounds; behind a command's word it does what the help lists. How the call ended it
+// second name it lays that capture beside the sheet's bounds; both, with urgent requests first, behind a command's word too; behind the others it does what the help lists. How the call ended it
 // says last, on descriptor 3.
 mod along;
 mod exchange;
+mod urgent;
 
 use libc::STDIN_FILENO;
 use planner_complaints::complain;
@@ -19,7 +20,10 @@ use report_sheet::Reported;
 
 // ---- Reports
 
-fn write_report(s: &[u8]) -> u8 {
+fn write_report(s: &[u8], urgent_first: bool) -> u8 {
+    if urgent_first {
+        return urgent::report(s);
+    }
     let mut text = report_sheet::text_buffer();
     match report_sheet::report(s, &mut text) {
         Reported::Accepted(n) => output::report(&text, n, ACCEPTED),
@@ -29,7 +33,7 @@ fn write_report(s: &[u8]) -> u8 {
 }
 
 // Plans what can be read; bytes behind a full buffer change no report.
-fn plan(fd: i32, name: &[u8]) -> u8 {
+fn plan(fd: i32, name: &[u8], urgent: bool) -> u8 {
     let mut sheet = sheet_pieces::sheet_buffer();
     let given = read_sheet(fd, name, &mut sheet, false);
     if given.failed {
@@ -39,15 +43,16 @@ fn plan(fd: i32, name: &[u8]) -> u8 {
         return output::bad_line(given.line);
     }
     let n = given.length;
-    write_report(&sheet[..n])
+    write_report(&sheet[..n], urgent)
 }
 
 // Does with a sheet what the command of this number is for; no command plans it.
 fn serve(number: usize, fd: i32, name: &[u8]) -> u8 {
     match number {
-        2 => exchange::exchange(fd, name, false),
-        3 => exchange::exchange(fd, name, true),
-        _ => plan(fd, name),
+        2 => plan(fd, name, true),
+        3 => exchange::exchange(fd, name, false),
+        4 => exchange::exchange(fd, name, true),
+        _ => plan(fd, name, false),
     }
 }
 
@@ -62,7 +67,7 @@ fn serve_file(number: usize, name: &[u8]) -> u8 {
 }
 
 // Reads the sheet; then the capture is heard.
-fn compare(sheet_fd: i32, sheet_name: &[u8], fd: i32, name: &[u8]) -> u8 {
+fn compare(sheet_fd: i32, sheet_name: &[u8], urgent: bool, fd: i32, name: &[u8]) -> u8 {
     let mut sheet = sheet_pieces::sheet_buffer();
     let given = read_sheet(sheet_fd, sheet_name, &mut sheet, false);
     if given.failed {
@@ -72,10 +77,10 @@ fn compare(sheet_fd: i32, sheet_name: &[u8], fd: i32, name: &[u8]) -> u8 {
         return output::bad_line(given.line);
     }
     let n = given.length;
-    planner_beside::compare(&sheet[..n], fd, name)
+    planner_beside::compare(&sheet[..n], urgent, fd, name)
 }
 
-fn compare_files(sheet_name: &[u8], name: &[u8]) -> u8 {
+fn compare_files(sheet_name: &[u8], urgent: bool, name: &[u8]) -> u8 {
     let sheet_fd = open(sheet_name);
     if sheet_fd < 0 {
         return FAILED;
@@ -84,7 +89,7 @@ fn compare_files(sheet_name: &[u8], name: &[u8]) -> u8 {
     if fd < 0 {
         return FAILED;
     }
-    let status = compare(sheet_fd, sheet_name, fd, name);
+    let status = compare(sheet_fd, sheet_name, urgent, fd, name);
     libc::close(fd);
     libc::close(sheet_fd);
     status
@@ -111,7 +116,7 @@ fn by_one(number: usize, i: usize) -> u8 {
     serve_file(number, &name[..n])
 }
 
-fn by_two(sheet: usize, capture: usize) -> u8 {
+fn by_two(urgent: bool, sheet: usize, capture: usize) -> u8 {
     let mut first = io::buffer();
     let n = os::arg(sheet, &mut first);
     if os::errno() != 0 {
@@ -122,13 +127,13 @@ fn by_two(sheet: usize, capture: usize) -> u8 {
     if os::errno() != 0 {
         return words::too_long(capture);
     }
-    compare_files(&first[..n], &second[..m])
+    compare_files(&first[..n], urgent, &second[..m])
 }
 
-// One name or two, from word i on: a sheet, or a sheet and a capture.
-fn by_names(i: usize, count: usize) -> u8 {
+// One name or two, from word i on, for the command of this number or for none: a sheet, or a sheet and a capture.
+fn by_names(number: usize, i: usize, count: usize) -> u8 {
     if count <= i {
-        return by_none(0);
+        return by_none(number);
     }
     let last = count - 1;
     if last - i > 1 {
@@ -141,22 +146,22 @@ fn by_names(i: usize, count: usize) -> u8 {
         return FAILED;
     }
     if i == last {
-        by_one(0, i)
+        by_one(number, i)
     } else {
-        by_two(i, last)
+        by_two(number == 2, i, last)
     }
 }
 
 // Names with no `--` before them: one that begins as an option does is none that there is.
-fn by_plain_names(count: usize) -> u8 {
-    let mut i: usize = 1;
+fn by_plain_names(number: usize, first: usize, count: usize) -> u8 {
+    let mut i = first;
     while i < count {
         if words::is_option(i) {
             return words::unknown(i);
         }
         i += 1;
     }
-    by_names(1, count)
+    by_names(number, first, count)
 }
 
 // The name behind a command that takes one at most.
@@ -184,11 +189,12 @@ fn by_words(count: usize) -> u8 {
     let number = words::command(1);
     match number {
         1 => along::plan(count),
-        2 | 3 => by_command(number, count),
-        4 | 5 => unless_cut(help::help(), ACCEPTED),
-        6 => unless_cut(help::version(), ACCEPTED),
-        7 => by_names(2, count),
-        _ => by_plain_names(count),
+        2 => by_plain_names(number, 2, count),
+        3 | 4 => by_command(number, count),
+        5 | 6 => unless_cut(help::help(), ACCEPTED),
+        7 => unless_cut(help::version(), ACCEPTED),
+        8 => by_names(0, 2, count),
+        _ => by_plain_names(0, 1, count),
     }
 }
 

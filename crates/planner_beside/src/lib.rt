@@ -1,4 +1,4 @@
-// A tester's capture beside the bounds of a sheet, read piece by piece: nothing is kept of a capture but what `report_beside::hear` keeps.
+// A tester's capture beside the bounds of a sheet, by the rule of urgent requests first or by that of first-come queues, read piece by piece: nothing is kept of a capture but what `report_beside::hear` keeps.
 use planner_complaints::complain;
 use planner_io::input::read_all;
 use planner_io::output;
@@ -19,8 +19,8 @@ ghost use Rattle.report_beside.specs.Kept.{Holds, Shows, Tells};
 const PIECE: usize = 65_534;
 
 // Writes the report of the sheet beside what was read of the capture.
-fn write(sheet: &[u8], text: &[u8; MOST_TEXT], n: usize, accepted: bool) -> u8
-    requires { ⌜ Tells (now sheet) (now text) n accepted ⌝ }
+fn write(sheet: &[u8], urgent: bool, text: &[u8; MOST_TEXT], n: usize, accepted: bool) -> u8
+    requires { ⌜ Tells urgent (now sheet) (now text) n accepted ⌝ }
 {
     let status = if accepted { ACCEPTED } else { REFUSED };
     output::report(text, n, status)
@@ -29,6 +29,7 @@ fn write(sheet: &[u8], text: &[u8; MOST_TEXT], n: usize, accepted: bool) -> u8
 // The whole capture was heard.
 fn finish(
     sheet: &[u8],
+    urgent: bool,
     text: &mut [u8; MOST_TEXT],
     heard: Hearing,
     masters: &[u8; MOST],
@@ -39,7 +40,7 @@ fn finish(
     above: &[u64; MOST],
     asked: &[u64; MOST],
 ) -> u8
-    requires { ⌜ Shows (now sheet) heard (now masters) (now bound) (now left) (now answers) (now largest) (now above) (now asked) ⌝ }
+    requires { ⌜ Shows urgent (now sheet) heard (now masters) (now bound) (now left) (now answers) (now largest) (now above) (now asked) ⌝ }
 {
     match report_beside::report(
         text,
@@ -52,14 +53,15 @@ fn finish(
         above,
         asked,
     ) {
-        Reported::Clean(n) => write(sheet, text, n, true),
-        Reported::Faulty(n) => write(sheet, text, n, false),
+        Reported::Clean(n) => write(sheet, urgent, text, n, true),
+        Reported::Faulty(n) => write(sheet, urgent, text, n, false),
     }
 }
 
 // Hears the capture behind a descriptor to its end or its first refusal, and writes the report.
 fn listen(
     sheet: &[u8],
+    urgent: bool,
     fd: i32,
     name: &[u8],
     text: &mut [u8; MOST_TEXT],
@@ -76,7 +78,7 @@ fn listen(
     asked: &mut [u64; MOST],
     lead: &mut [u32; MOST],
 ) -> u8
-    requires { ⌜ Holds (now sheet) begun (now masters) (now bound) (now spacing) (now jitter) (tally (now left) (now since) (now answers) (now largest) (now above) (now asked) (now lead)) ⌝ }
+    requires { ⌜ Holds urgent (now sheet) begun (now masters) (now bound) (now spacing) (now jitter) (tally (now left) (now since) (now answers) (now largest) (now above) (now asked) (now lead)) ⌝ }
 {
     let mut heard = begun;
     let mut piece = [0u8; PIECE];
@@ -103,7 +105,7 @@ fn listen(
             lead,
         );
         match told {
-            Heard::Refused(m) => return write(sheet, text, m, false),
+            Heard::Refused(m) => return write(sheet, urgent, text, m, false),
             Heard::TooLong => {
                 complain(b"planner: the capture is too long to be counted\n");
                 return FAILED;
@@ -112,6 +114,7 @@ fn listen(
                 if n < PIECE {
                     return finish(
                         sheet,
+                        urgent,
                         text,
                         next,
                         masters,
@@ -130,7 +133,7 @@ fn listen(
 }
 
 // Lays the capture behind a descriptor beside the bounds of a sheet.
-pub fn compare(sheet: &[u8], fd: i32, name: &[u8]) -> u8 {
+pub fn compare(sheet: &[u8], urgent: bool, fd: i32, name: &[u8]) -> u8 {
     let mut text = report_capture::text_buffer();
     let mut masters = [0u8; MOST];
     let mut bound = [0u32; MOST];
@@ -145,6 +148,7 @@ pub fn compare(sheet: &[u8], fd: i32, name: &[u8]) -> u8 {
     let mut lead = [0u32; MOST];
     let begun = report_beside::begin(
         sheet,
+        urgent,
         &mut text,
         &mut masters,
         &mut bound,
@@ -159,9 +163,10 @@ pub fn compare(sheet: &[u8], fd: i32, name: &[u8]) -> u8 {
         &mut lead,
     );
     match begun {
-        Begun::Refused(n) => write(sheet, &text, n, false),
+        Begun::Refused(n) => write(sheet, urgent, &text, n, false),
         Begun::On(heard) => listen(
             sheet,
+            urgent,
             fd,
             name,
             &mut text,

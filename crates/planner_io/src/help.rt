@@ -5,7 +5,7 @@ use crate::output::put;
 use planner_complaints::complain;
 
 // The version of the project.
-const VERSION: [u8; 14] = *b"planner 1.8.0
+const VERSION: [u8; 14] = *b"planner 1.9.0
 ";
 
 // How the program is called, but for its commands.
@@ -21,8 +21,9 @@ planner COMMAND ..       with a command, a word of the list below
 ";
 
 // The commands, a line for each: its word, what follows, what it does. A command's number is its line's, from 1 (`main` knows it by that).
-pub(crate) const COMMANDS: [u8; 506] =
+pub(crate) const COMMANDS: [u8; 585] =
     *b"--path DEADLINE bp SHEET MASTER TIME bp SHEET MASTER ..  the report of a path
+--urgent [SHEET] [CAPTURE]                               urgent requests first
 --export [SHEET]                                         the sheet as text
 --import [TEXT]                                          the sheet of a text
 --help                                                   this text
@@ -143,6 +144,30 @@ in bp and in ns, rounded up. rounds: of the search for refined.
     )
 }
 
+fn urgents() -> bool {
+    put(
+        b"
+--urgent plans a P-NET sheet whose masters send urgent requests first: of what
+waits at a master, the request of the smallest deadline, and of equal ones that
+of the stream which stands first on the sheet. Its report has a line for each
+stream. place: in its master's order. figure: each of its requests is answered
+within it, if it and the streams before it in that order keep their spacing,
+however often all others ask. rounds: of the search for figure. Where queues
+that serve first what came first refuse the sheet with 8, a last line says at
+which stream, with its bound there and its figure here. Beside a capture the
+figures stand as the bounds. Of the sheet of three records above it says:
+
+   P-NET urgent first
+   stream 1 M01 place 1 figure 500 bp 6510417 ns 0 rounds deadline 1000 bp
+   stream 2 M02 place 1 figure 500 bp 6510417 ns 0 rounds deadline 2000 bp
+
+The figure holds for a driver that hands its next request to the communication
+stack only when the answer to the last one is complete. With a stack that is
+refilled while a message is under way the figure does not hold.
+",
+    )
+}
+
 fn captures() -> bool {
     put(
         b"
@@ -190,7 +215,7 @@ A sheet that cannot be planned is refused with a number and a place:
   14  a stream that is not on the sheet      15  an answer with no request open
   16  a request while one is open            17  a path of not 1 to 10 gateways
   18  a MASTER absent or without streams     19  a path's total above DEADLINE
-  23  a line that is not of a text's form
+  21  a P-NET figure above a deadline        23  a line not of a text's form
 
 In a capture 1 is a record that is cut, 2 a kind that is neither 16 nor 17, and
 the place is a byte of the capture. In a path 4 is a TIME or the DEADLINE out of
@@ -208,7 +233,7 @@ fn sheets() -> bool {
 
 // What the reports show.
 fn reports() -> bool {
-    figures() & captures() & paths()
+    figures() & urgents() & captures() & paths()
 }
 
 // All of it; whether it was written whole.

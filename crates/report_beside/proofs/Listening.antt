@@ -46,10 +46,10 @@ module _ (p R T J old : List ℕ) (h : Hearing) (k : Tally) where
 
   module _ (l : h .bytes < last) where
     pub answered-all : (w : Watch) (k' : Tally) → answer ≡ taken.All → w ≡ new-watch → k' ≡ new-tally
-        → Answered (told.On (record { streams = h .streams; bytes = h .bytes + length p; watch = w })) old k'
+        → Answered (told.On (record { urgent = h .urgent; streams = h .streams; bytes = h .bytes + length p; watch = w })) old k'
     answered-all w k' e q s =
         by true taken.All (lt-ltb (h .bytes) last l) e _ old k'
-        (ap (λ (x : Watch). told.On (record { streams = h .streams; bytes = h .bytes + length p; watch = x })) q) refl s
+        (ap (λ (x : Watch). told.On (record { urgent = h .urgent; streams = h .streams; bytes = h .bytes + length p; watch = x })) q) refl s
 
     pub answered-refused : (r q n : ℕ) (new : List ℕ) (k' : Tally) → answer ≡ taken.Refused r q → n ≡ length (captureRefusal r (h .bytes + q))
         → new ≡ over (captureRefusal r (h .bytes + q)) old → k' ≡ heardTally true (taken.Refused r q) new-tally k → Answered (told.Refused n) new k'
@@ -67,7 +67,7 @@ module _ (p R T J old : List ℕ) (h : Hearing) (k : Tally) where
       × (above ≡ then .above)
       × (asked ≡ then .asked)
       × (lead ≡ then .lead))
-      × ((s c masters : List ℕ) → Kept s c h masters R T J k → Hears s c p x old new masters R T J (tally left since answers largest above asked lead))
+      × ((urgent : Bool) (s c masters : List ℕ) → Kept urgent s c h masters R T J k → Hears urgent s c p x old new masters R T J (tally left since answers largest above asked lead))
   promised x new left since answers largest above asked lead a = (
     (
       a .0,
@@ -80,5 +80,5 @@ module _ (p R T J old : List ℕ) (h : Hearing) (k : Tally) where
       ap (λ (t : Tally). t .asked) (a .2),
       ap (λ (t : Tally). t .lead) (a .2),
     ),
-    λ s c masters kept. hears kept p x old new (tally left since answers largest above asked lead) (a .0) (a .1) (a .2),
+    λ urgent s c masters kept. hears kept p x old new (tally left since answers largest above asked lead) (a .0) (a .1) (a .2),
   )

@@ -3,6 +3,7 @@
 use Prim.Native.Nat.{ℕ, zero, suc, _+_, _-_, _/_, _^_, _≤_, _<_, min}
 use mathlib.Core.Path.{_≡_, refl, sym, ap, subst, fun-ext, _∙_}
 use mathlib.Core.List.{List}
+use mathlib.Core.Bool.{Bool}
 use native.Mathlib.Decide.{decLt}
 use native.Mathlib.Omega.{arith}
 use lib.ListN.{length, getD, drop, replicate, length-replicate, List·getD-eq-default}
@@ -20,7 +21,7 @@ use Rattle.sheet_read.specs.Whole.{Outcome}
 use Rattle.sheet_read.specs.Whole.Outcome.{Read, Not}
 use Rattle.pnet_rules.specs.Segment.{Segment, segmentOf, streamAt}
 use Rattle.pnet_plan.specs.Planned.{atPlace}
-use Rattle.pnet_bounds.specs.Bounded.{boundOf, masterOf, spacingOf, jitterOf}
+use Rattle.pnet_bounds.specs.Bounded.{masterOf, spacingOf, jitterOf}
 use Rattle.capture_log.specs.declared.Event.{Event}
 use Rattle.capture_log.specs.Log.{fresh, left, answered, largest, above}
 use Rattle.capture_log.specs.Records.{events, size, eventsIn, heard}
@@ -33,7 +34,7 @@ use Rattle.capture_watch.proofs.Means.{ofStream, Keeps, overdue-means}
 use Rattle.capture_watch.proofs.Passed.{passed-count, passed-means}
 use Rattle.report_faults.proofs.Same.{Agree, clean-same}
 use Rattle.report_capture.proofs.Same.{capture-same}
-use Rattle.report_beside.specs.Whole.{none, seenAfter, lateOf, textOf, cleanOf, laid, figures, tallyOf, watchOf, heardReport, heardClean, laidReport, laidClean, besideReport, besideClean}
+use Rattle.report_beside.specs.Whole.{none, seenAfter, lateOf, textOf, cleanOf, laid, limitOf, figures, tallyOf, watchOf, heardReport, heardClean, laidReport, laidClean, besideReport, besideClean}
 use Rattle.report_beside.specs.Recorded.{aboveAt, lateAt, recordedText, recordedClean, shownReport, shownClean, sheetReport, sheetClean, recordedReport, recordedAccepted}
 use Rattle.report_beside.proofs.Kept.{streams-few}
 
@@ -84,10 +85,10 @@ module _ (H : Sheet) where
 
 -- ---- A capture that passes
 
-module _ (s c : List ℕ) (H : Sheet) (is-laid : laid s ≡ Read H) (passes : heard c (length (H .streams)) fresh ≡ Passed) (small : length c < 2 ^ 64)
+module _ (urgent : Bool) (s c : List ℕ) (H : Sheet) (is-laid : laid urgent s ≡ Read H) (passes : heard c (length (H .streams)) fresh ≡ Passed) (small : length c < 2 ^ 64)
     (short : clock (events c) < 2 ^ 64) where
   few : n H ≤ most
-  few = streams-few s H is-laid
+  few = streams-few urgent s H is-laid
 
   abbrev T : List ℕ
   T = figures H spacingOf
@@ -108,29 +109,29 @@ module _ (s c : List ℕ) (H : Sheet) (is-laid : laid s ≡ Read H) (passes : he
       subst (λ (es : List Event). Keeps T J es kept) events-are
       (passed-means c (n H) passes few T J none (length-replicate {A = ℕ} most 0) (λ i l. zero-at most i) small (subst (λ (es : List Event). clock es < 2 ^ 64) (sym events-are) short))
 
-  left-at : (i : ℕ) → i < most → getD (tallyOf H c .left) i 0 ≡ left fresh (events c) (i + 1)
+  left-at : (i : ℕ) → i < most → getD (tallyOf urgent H c .left) i 0 ≡ left fresh (events c) (i + 1)
   unfolding tallyOf none
   left-at i l = left-whole c i l
 
-  answers-at : Agree (n H) (item (tallyOf H c .answers)) (atPlace (answered (events c)))
+  answers-at : Agree (n H) (item (tallyOf urgent H c .answers)) (atPlace (answered (events c)))
   unfolding tallyOf none
   answers-at i l = answers-whole c i (omega (arith, few)) small
 
-  largest-at : Agree (n H) (item (tallyOf H c .largest)) (atPlace (largest fresh (events c)))
+  largest-at : Agree (n H) (item (tallyOf urgent H c .largest)) (atPlace (largest fresh (events c)))
   unfolding tallyOf none
   largest-at i l = largest-whole c i (omega (arith, few))
 
-  above-at : Agree (n H) (item (tallyOf H c .above)) (aboveAt H (events c))
+  above-at : Agree (n H) (item (tallyOf urgent H c .above)) (aboveAt urgent H (events c))
   unfolding tallyOf none aboveAt
   above-at i l =
-      above-whole c i (omega (arith, few)) small (figures H boundOf)
-      ∙ ap (λ (R : ℕ). above fresh R (events c) (i + 1)) (figure-at H boundOf i l)
+      above-whole c i (omega (arith, few)) small (figures H (limitOf urgent))
+      ∙ ap (λ (R : ℕ). above fresh R (events c) (i + 1)) (figure-at H (limitOf urgent) i l)
 
-  late-at : Agree (n H) (item (lateOf (figures H boundOf) (watchOf H c) (tallyOf H c))) (lateAt H (events c))
+  late-at : Agree (n H) (item (lateOf (figures H (limitOf urgent)) (watchOf H c) (tallyOf urgent H c))) (lateAt urgent H (events c))
   unfolding tallyOf watchOf lateAt
   late-at i l =
-      overdue-means keeps short (figures H boundOf) (tallyOf H c .left) left-at i (omega (arith, few))
-      ∙ ap (λ (R : ℕ). when (beyond R (events c) (i + 1)) 1) (figure-at H boundOf i l)
+      overdue-means keeps short (figures H (limitOf urgent)) (tallyOf urgent H c .left) left-at i (omega (arith, few))
+      ∙ ap (λ (R : ℕ). when (beyond R (events c) (i + 1)) 1) (figure-at H (limitOf urgent) i l)
 
   soon-is : watchOf H c .soon ≡ soon (spacingOf (segmentOf H)) (jitterOf (segmentOf H)) (events c)
   unfolding watchOf
@@ -147,38 +148,38 @@ module _ (s c : List ℕ) (H : Sheet) (is-laid : laid s ≡ Read H) (passes : he
   all-shown : min (n H) most ≡ n H
   all-shown = omega (arith, few)
 
-  text-recorded : textOf (n H) (figures H masterOf) (figures H boundOf) (watchOf H c) (tallyOf H c) ≡ recordedText H (events c)
+  text-recorded : textOf urgent (n H) (figures H masterOf) (figures H (limitOf urgent)) (watchOf H c) (tallyOf urgent H c) ≡ recordedText urgent H (events c)
   unfolding textOf recordedText
   text-recorded =
       rw (all-shown, soon-is, whose-is, broken-is)
-      (capture-same (n H) _ (aboveAt H (events c)) _ (lateAt H (events c)) _ (atPlace (answered (events c))) above-at late-at answers-at _ _ _ _
-      (atPlace (masterOf (segmentOf H))) _ (atPlace (boundOf (segmentOf H))) _ (atPlace (largest fresh (events c))) _ (atPlace (left fresh (events c)))
-      (figure-at H masterOf) (figure-at H boundOf) largest-at (λ i l. left-at i (omega (arith, few))))
+      (capture-same (n H) _ (aboveAt urgent H (events c)) _ (lateAt urgent H (events c)) _ (atPlace (answered (events c))) above-at late-at answers-at _ _ _ urgent _
+      (atPlace (masterOf (segmentOf H))) _ (atPlace (limitOf urgent (segmentOf H))) _ (atPlace (largest fresh (events c))) _ (atPlace (left fresh (events c)))
+      (figure-at H masterOf) (figure-at H (limitOf urgent)) largest-at (λ i l. left-at i (omega (arith, few))))
 
-  clean-recorded : cleanOf (n H) (figures H boundOf) (watchOf H c) (tallyOf H c) ≡ recordedClean H (events c)
+  clean-recorded : cleanOf (n H) (figures H (limitOf urgent)) (watchOf H c) (tallyOf urgent H c) ≡ recordedClean urgent H (events c)
   unfolding cleanOf recordedClean
   clean-recorded =
       rw (all-shown, soon-is, broken-is)
-      (clean-same (n H) _ (aboveAt H (events c)) _ (lateAt H (events c)) _ (atPlace (answered (events c))) above-at late-at answers-at _ 0 _)
+      (clean-same (n H) _ (aboveAt urgent H (events c)) _ (lateAt urgent H (events c)) _ (atPlace (answered (events c))) above-at late-at answers-at _ 0 _)
 
 -- ---- Any sheet and capture
 
-module _ (s c : List ℕ) (small : length c < 2 ^ 64) (short : clock (events c) < 2 ^ 64) where
-  as-recorded : (besideReport s c ≡ recordedReport s c) × (besideClean s c ≡ recordedAccepted s c)
+module _ (urgent : Bool) (s c : List ℕ) (small : length c < 2 ^ 64) (short : clock (events c) < 2 ^ 64) where
+  as-recorded : (besideReport urgent s c ≡ recordedReport urgent s c) × (besideClean urgent s c ≡ recordedAccepted urgent s c)
   unfolding besideReport recordedReport besideClean recordedAccepted
-  as-recorded = by (laid s) refl
+  as-recorded = by (laid urgent s) refl
     where
-      by : (o : Outcome) → laid s ≡ o → (laidReport o c ≡ sheetReport o c) × (laidClean o c ≡ sheetClean o c)
+      by : (o : Outcome) → laid urgent s ≡ o → (laidReport urgent o c ≡ sheetReport urgent o c) × (laidClean urgent o c ≡ sheetClean urgent o c)
       by (Not m p) e = (refl, refl)
       by (Read H) e = on (heard c (length (H .streams)) fresh) refl
         where
           on : (v : Verdict) → heard c (length (H .streams)) fresh ≡ v
-              → (heardReport v H c ≡ shownReport v H (events c)) × (heardClean v H c ≡ shownClean v H (events c))
+              → (heardReport urgent v H c ≡ shownReport urgent v H (events c)) × (heardClean urgent v H c ≡ shownClean urgent v H (events c))
           on (Refused m p) q = (refl, refl)
-          on Passed q = (text-recorded s c H e q small short, clean-recorded s c H e q small short)
+          on Passed q = (text-recorded urgent s c H e q small short, clean-recorded urgent s c H e q small short)
 
-  pub report-as-recorded : besideReport s c ≡ recordedReport s c
+  pub report-as-recorded : besideReport urgent s c ≡ recordedReport urgent s c
   report-as-recorded = as-recorded .0
 
-  pub clean-as-recorded : besideClean s c ≡ recordedAccepted s c
+  pub clean-as-recorded : besideClean urgent s c ≡ recordedAccepted urgent s c
   clean-as-recorded = as-recorded .1

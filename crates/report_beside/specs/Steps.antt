@@ -31,9 +31,9 @@ over t old = t ++ drop (length t) old
 
 -- ---- Beginning with a sheet
 
-abbrev pub begunAs : Outcome → Begun
-begunAs (Read H) = begun.On (record { streams = length (H .streams); bytes = 0; watch = began })
-begunAs (Not n p) = begun.Refused (length (refusalText n p))
+abbrev pub begunAs : Bool → Outcome → Begun
+begunAs urgent (Read H) = begun.On (record { urgent = urgent; streams = length (H .streams); bytes = 0; watch = began })
+begunAs urgent (Not n p) = begun.Refused (length (refusalText n p))
 
 abbrev pub begunText : Outcome → List ℕ → List ℕ
 begunText (Read H) old = old
@@ -44,7 +44,7 @@ begunText (Not n p) old = over (refusalText n p) old
 -- `short` says whether its place is counted, and `answer` how it was taken, with the refusal's place in the piece
 abbrev pub heardAs : Bool → Taken → Hearing → ℕ → Watch → Heard
 heardAs false answer h m w = told.TooLong
-heardAs true taken.All h m w = told.On (record { streams = h .streams; bytes = h .bytes + m; watch = w })
+heardAs true taken.All h m w = told.On (record { urgent = h .urgent; streams = h .streams; bytes = h .bytes + m; watch = w })
 heardAs true (taken.Refused n q) h m w = told.Refused (length (captureRefusal n (h .bytes + q)))
 
 abbrev pub heardText : Bool → Taken → ℕ → List ℕ → List ℕ

@@ -1,8 +1,9 @@
--- Page 02, 'Ask 1', with docs/DECISIONS.md, 'What a capture's bounds rest on': the whole report of a capture beside a P-NET sheet, from the
--- bytes s of the sheet and the bytes c of the capture alone. Runs have 800 places, place i for stream i + 1. Assumes nothing.
+-- Page 02, 'Ask 1' and 'Ask 11', with docs/DECISIONS.md, 'What a capture's bounds rest on': the whole report of a capture beside a P-NET sheet, from the
+-- bytes s of the sheet and the bytes c of the capture alone. Runs have 800 places, place i for stream i + 1. `urgent`
+-- says by which rule the sheet is planned: urgent requests first, or queues that serve first what came first. Assumes nothing.
 use Prim.Native.Nat.{ℕ, _/_, min}
 use mathlib.Core.List.{List}
-use mathlib.Core.Bool.{Bool, false}
+use mathlib.Core.Bool.{Bool, false, cond}
 use lib.ListN.{length, replicate}
 use Rattle.common.specs.Checks.{Verdict}
 use Rattle.common.specs.Checks.Verdict.{Passed, Refused}
@@ -12,6 +13,8 @@ use Rattle.sheet_read.specs.Whole.{Outcome}
 use Rattle.sheet_read.specs.Whole.Outcome.{Read, Not}
 use Rattle.pnet_rules.specs.Segment.{Segment}
 use Rattle.pnet_bounds.specs.Bounded.{bounded, boundOf, masterOf, spacingOf, jitterOf, streamRun}
+use Rattle.pnet_urgent_rules.specs.Urgent as Urgent
+use Rattle.pnet_urgent_rules.specs.Planned.{urgently}
 use Rattle.capture_log.specs.Log.{Before, fresh}
 use Rattle.capture_log.specs.Records.{size, heard}
 use Rattle.capture_tally.specs.Pieces.{most, before, leftAfter, sinceAfter, answersAfter, largestAfter, aboveAfter}
@@ -74,9 +77,9 @@ abbrev pub lateOf : List ℕ → Watch → Tally → List ℕ
 lateOf R w k = overdueRun (w .clock) R (k .left) (k .asked)
 
 -- of n streams
-unfoldable pub textOf : ℕ → List ℕ → List ℕ → Watch → Tally → List ℕ
-textOf n masters R w k =
-    captureText (item masters) (item R) (item (k .largest)) (item (k .answers)) (item (k .above)) (item (k .left)) (item (lateOf R w k)) (w .soon) (w .whose)
+unfoldable pub textOf : Bool → ℕ → List ℕ → List ℕ → Watch → Tally → List ℕ
+textOf urgent n masters R w k =
+    captureText urgent (item masters) (item R) (item (k .largest)) (item (k .answers)) (item (k .above)) (item (k .left)) (item (lateOf R w k)) (w .soon) (w .whose)
     (w .broken) (min n most)
 
 -- nothing is wrong
@@ -86,16 +89,20 @@ cleanOf n R w k = clean (item (k .above)) (item (lateOf R w k)) (item (k .answer
 -- ---- Sheet and capture
 
 -- with room for 800 streams, the most that a sheet has, 13 is never given
-abbrev pub laid : List ℕ → Outcome
-laid s = bounded s most
+abbrev pub laid : Bool → List ℕ → Outcome
+laid urgent s = cond urgent (urgently s most) (bounded s most)
+
+-- a stream's bound: R of its master, or its figure x
+abbrev pub limitOf : Bool → Segment → ℕ → ℕ
+limitOf urgent = cond urgent Urgent.figure boundOf
 
 -- a figure of each stream of a sheet
 abbrev pub figures : Sheet → (Segment → ℕ → ℕ) → List ℕ
 figures H figure = streamRun (Read H) figure none
 
 -- what the whole capture leaves
-unfoldable pub tallyOf : Sheet → List ℕ → Tally
-tallyOf H c = after c (figures H boundOf) (figures H spacingOf) (figures H jitterOf) began unheard
+unfoldable pub tallyOf : Bool → Sheet → List ℕ → Tally
+tallyOf urgent H c = after c (figures H (limitOf urgent)) (figures H spacingOf) (figures H jitterOf) began unheard
 
 unfoldable pub watchOf : Sheet → List ℕ → Watch
 watchOf H c = seenAfter c (figures H spacingOf) (figures H jitterOf) began none none .watch
@@ -103,27 +110,27 @@ watchOf H c = seenAfter c (figures H spacingOf) (figures H jitterOf) began none 
 -- ---- The report
 
 -- the capture's first refusal, with its place in the capture; or what it shows
-abbrev pub heardReport : Verdict → Sheet → List ℕ → List ℕ
-heardReport (Refused n p) H c = captureRefusal n p
-heardReport Passed H c = textOf (length (H .streams)) (figures H masterOf) (figures H boundOf) (watchOf H c) (tallyOf H c)
+abbrev pub heardReport : Bool → Verdict → Sheet → List ℕ → List ℕ
+heardReport urgent (Refused n p) H c = captureRefusal n p
+heardReport urgent Passed H c = textOf urgent (length (H .streams)) (figures H masterOf) (figures H (limitOf urgent)) (watchOf H c) (tallyOf urgent H c)
 
-abbrev pub heardClean : Verdict → Sheet → List ℕ → Bool
-heardClean (Refused n p) H c = false
-heardClean Passed H c = cleanOf (length (H .streams)) (figures H boundOf) (watchOf H c) (tallyOf H c)
+abbrev pub heardClean : Bool → Verdict → Sheet → List ℕ → Bool
+heardClean urgent (Refused n p) H c = false
+heardClean urgent Passed H c = cleanOf (length (H .streams)) (figures H (limitOf urgent)) (watchOf H c) (tallyOf urgent H c)
 
 -- the sheet's own refusal comes first
-abbrev pub laidReport : Outcome → List ℕ → List ℕ
-laidReport (Not n p) c = refusalText n p
-laidReport (Read H) c = heardReport (heard c (length (H .streams)) fresh) H c
+abbrev pub laidReport : Bool → Outcome → List ℕ → List ℕ
+laidReport urgent (Not n p) c = refusalText n p
+laidReport urgent (Read H) c = heardReport urgent (heard c (length (H .streams)) fresh) H c
 
-abbrev pub laidClean : Outcome → List ℕ → Bool
-laidClean (Not n p) c = false
-laidClean (Read H) c = heardClean (heard c (length (H .streams)) fresh) H c
+abbrev pub laidClean : Bool → Outcome → List ℕ → Bool
+laidClean urgent (Not n p) c = false
+laidClean urgent (Read H) c = heardClean urgent (heard c (length (H .streams)) fresh) H c
 
 -- the whole text
-unfoldable pub besideReport : List ℕ → List ℕ → List ℕ
-besideReport s c = laidReport (laid s) c
+unfoldable pub besideReport : Bool → List ℕ → List ℕ → List ℕ
+besideReport urgent s c = laidReport urgent (laid urgent s) c
 
 -- the call ends as one that is accepted: sheet and capture are not refused, and the capture shows nothing wrong
-unfoldable pub besideClean : List ℕ → List ℕ → Bool
-besideClean s c = laidClean (laid s) c
+unfoldable pub besideClean : Bool → List ℕ → List ℕ → Bool
+besideClean urgent s c = laidClean urgent (laid urgent s) c

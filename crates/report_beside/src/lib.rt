@@ -1,4 +1,4 @@
-// The report of a tester's capture beside a P-NET sheet, page 02 'Ask 1', from the bytes of both. The capture comes piece by piece, each but the
+// The report of a tester's capture beside a P-NET sheet, page 02 'Ask 1' and 'Ask 11', from the bytes of both. The capture comes piece by piece, each but the
 // last ended by a record: `begin` with the sheet, `hear` each piece, `report` behind the last. What is kept between is one place for each
 // stream in eleven runs, which the caller lends to all three.
 use capture_ages::Watch;
@@ -8,22 +8,25 @@ use report_capture::MOST_TEXT;
 use sheet_read::MOST;
 ghost use mathlib.Core.Path.{_≡_};
 ghost use mathlib.Core.List.{List};
+ghost use mathlib.Core.Bool.{Bool};
 ghost use Prim.Native.Nat.{ℕ, _+_, _^_, _<_};
 ghost use lib.Dec.{ltb};
 ghost use lib.ListN.{length};
-ghost use Rattle.pnet_bounds.specs.Bounded.{boundOf, masterOf, spacingOf, jitterOf, streamRun};
+ghost use Rattle.pnet_bounds.specs.Bounded.{masterOf, spacingOf, jitterOf, streamRun};
+ghost use Rattle.pnet_plan.specs.Planned.{planOf};
 ghost use Rattle.capture_tally.specs.Pieces.{answerTo};
 ghost use Rattle.report_phrases.specs.Phrases.{refusalText};
 ghost use Rattle.report_capture.specs.Shown.{captureRefusal};
-ghost use Rattle.report_beside.specs.Whole.{tally, none, seenAfter, waiting, after, laid, textOf, cleanOf};
+ghost use Rattle.report_beside.specs.Whole.{tally, none, seenAfter, waiting, after, laid, limitOf, textOf, cleanOf};
 ghost use Rattle.report_beside.specs.Steps.{last, over, begunAs, begunText, heardAs, heardText, heardTally, reportedAs};
 ghost use Rattle.report_beside.specs.Kept.{Kept, Begins, Hears, Reports};
 
 // A piece that begins at this byte of a capture or behind it is not heard, 2^63: its places could not be counted.
 const LAST: usize = 9_223_372_036_854_775_808;
 
-// What goes from step to step beside the runs: how many streams the sheet has, how many bytes of the capture were heard, and the clock.
+// What goes from step to step beside the runs: whether urgent requests go first, how many streams the sheet has, how many bytes of the capture were heard, and the clock.
 pub struct Hearing {
+    pub urgent: bool,
     pub streams: usize,
     pub bytes: usize,
     pub watch: Watch,
@@ -65,9 +68,31 @@ fn refuse_capture(out: &mut [u8; MOST_TEXT], no: u8, before: usize, place: usize
     report_capture::put_capture_refusal(out, no, at as u64)
 }
 
+// Each stream's master, bound, spacing and jitter under the rule that the sheet is planned by.
+fn lay(
+    s: &[u8],
+    urgent: bool,
+    masters: &mut [u8; MOST],
+    bound: &mut [u32; MOST],
+    spacing: &mut [u32; MOST],
+    jitter: &mut [u32; MOST],
+) -> Plan
+    ensures { λ r. ⌜ r ≡ planOf (laid urgent (now (s .entry))) ⌝ }
+    ensures { λ _. ⌜ now (masters .exit) ≡ streamRun (laid urgent (now (s .entry))) masterOf (now (masters .entry)) ⌝ }
+    ensures { λ _. ⌜ now (bound .exit) ≡ streamRun (laid urgent (now (s .entry))) (limitOf urgent) (now (bound .entry)) ⌝ }
+    ensures { λ _. ⌜ now (spacing .exit) ≡ streamRun (laid urgent (now (s .entry))) spacingOf (now (spacing .entry)) ⌝ }
+    ensures { λ _. ⌜ now (jitter .exit) ≡ streamRun (laid urgent (now (s .entry))) jitterOf (now (jitter .entry)) ⌝ }
+{
+    if urgent {
+        return pnet_urgent_streams::figures(s, MOST, masters, bound, spacing, jitter);
+    }
+    pnet_bounds::bounds(s, MOST, masters, bound, spacing, jitter)
+}
+
 // Begins with the bytes of a sheet: nothing of a capture is heard yet. What the runs held is forgotten.
 pub fn begin(
     s: &[u8],
+    urgent: bool,
     out: &mut [u8; MOST_TEXT],
     masters: &mut [u8; MOST],
     bound: &mut [u32; MOST],
@@ -82,11 +107,11 @@ pub fn begin(
     lead: &mut [u32; MOST],
 ) -> Begun
     ensures { λ r.
-        let sheet = laid (now (s .entry)) in
-        ⌜ (r ≡ begunAs sheet)
+        let sheet = laid urgent (now (s .entry)) in
+        ⌜ (r ≡ begunAs urgent sheet)
         × (now (out .exit) ≡ begunText sheet (now (out .entry)))
         × (now (masters .exit) ≡ streamRun sheet masterOf none)
-        × (now (bound .exit) ≡ streamRun sheet boundOf none)
+        × (now (bound .exit) ≡ streamRun sheet (limitOf urgent) none)
         × (now (spacing .exit) ≡ streamRun sheet spacingOf none)
         × (now (jitter .exit) ≡ streamRun sheet jitterOf none)
         × (now (left .exit) ≡ none)
@@ -98,7 +123,7 @@ pub fn begin(
         × (now (lead .exit) ≡ none) ⌝ }
     ensures { λ r.
         let then = tally (now (left .exit)) (now (since .exit)) (now (answers .exit)) (now (largest .exit)) (now (above .exit)) (now (asked .exit)) (now (lead .exit)) in
-        ⌜ Begins (now (s .entry)) r (now (out .entry)) (now (out .exit)) (now (masters .exit)) (now (bound .exit)) (now (spacing .exit)) (now (jitter .exit)) then ⌝ }
+        ⌜ Begins urgent (now (s .entry)) r (now (out .entry)) (now (out .exit)) (now (masters .exit)) (now (bound .exit)) (now (spacing .exit)) (now (jitter .exit)) then ⌝ }
 {
     *masters = [0; MOST];
     *bound = [0; MOST];
@@ -111,11 +136,12 @@ pub fn begin(
     *above = [0; MOST];
     *asked = [0; MOST];
     *lead = [0; MOST];
-    match pnet_bounds::bounds(s, MOST, masters, bound, spacing, jitter) {
+    match lay(s, urgent, masters, bound, spacing, jitter) {
         Plan::Accepted {
             masters: _,
             streams,
         } => Begun::On(Hearing {
+            urgent,
             streams,
             bytes: 0,
             watch: capture_ages::start(),
@@ -161,7 +187,7 @@ pub fn hear(
         let J = now (jitter .entry) in
         let was = tally (now (left .entry)) (now (since .entry)) (now (answers .entry)) (now (largest .entry)) (now (above .entry)) (now (asked .entry)) (now (lead .entry)) in
         let then = tally (now (left .exit)) (now (since .exit)) (now (answers .exit)) (now (largest .exit)) (now (above .exit)) (now (asked .exit)) (now (lead .exit)) in
-        ⌜ ((s c masters : List ℕ) → Kept s c heard masters R T J was → Hears s c (now (piece .entry)) r (now (out .entry)) (now (out .exit)) masters R T J then) ⌝ }
+        ⌜ ((urgent : Bool) (s c masters : List ℕ) → Kept urgent s c heard masters R T J was → Hears urgent s c (now (piece .entry)) r (now (out .entry)) (now (out .exit)) masters R T J then) ⌝ }
 {
     let bytes = heard.bytes;
     if LAST <= bytes {
@@ -175,6 +201,7 @@ pub fn hear(
     let watch = capture_watch::follow(piece, heard.watch, spacing, jitter, asked, lead);
     let behind = bytes + piece.len();
     Heard::On(Hearing {
+        urgent: heard.urgent,
         streams,
         bytes: behind,
         watch,
@@ -195,9 +222,9 @@ pub fn report(
 ) -> Reported
     ensures { λ r.
         let k = tally (now (left .entry)) none (now (answers .entry)) (now (largest .entry)) (now (above .entry)) (now (asked .entry)) none in
-        let text = textOf (heard .streams) (now (masters .entry)) (now (bound .entry)) (heard .watch) k in
+        let text = textOf (heard .urgent) (heard .streams) (now (masters .entry)) (now (bound .entry)) (heard .watch) k in
         ⌜ (r ≡ reportedAs (cleanOf (heard .streams) (now (bound .entry)) (heard .watch) k) (length text)) × (now (out .exit) ≡ over text (now (out .entry))) ⌝ }
-    ensures { λ r. ⌜ ((s c T J since lead : List ℕ) → Kept s c heard (now (masters .entry)) (now (bound .entry)) T J (tally (now (left .entry)) since (now (answers .entry)) (now (largest .entry)) (now (above .entry)) (now (asked .entry)) lead) → Reports s c r (now (out .entry)) (now (out .exit))) ⌝ }
+    ensures { λ r. ⌜ ((urgent : Bool) (s c T J since lead : List ℕ) → Kept urgent s c heard (now (masters .entry)) (now (bound .entry)) T J (tally (now (left .entry)) since (now (answers .entry)) (now (largest .entry)) (now (above .entry)) (now (asked .entry)) lead) → Reports urgent s c r (now (out .entry)) (now (out .exit))) ⌝ }
 {
     let streams = heard.streams;
     let watch = heard.watch;
@@ -207,6 +234,7 @@ pub fn report(
     capture_watch::overdue(watch, bound, left, asked, &mut late);
     let n = report_capture::put_capture(
         out,
+        heard.urgent,
         streams,
         masters,
         bound,

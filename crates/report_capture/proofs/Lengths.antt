@@ -1,27 +1,21 @@
 -- No report of a capture is longer than `mostCapture`, so a run of so many bytes holds every one. Assumes nothing.
 use mathlib.Core.Path.{_≡_}
 use mathlib.Core.List.{List, _++_}
-use mathlib.Core.Bool.{Bool}
+use mathlib.Core.Bool.{Bool, true, false}
 use Prim.Native.Nat.{ℕ, _+_, _*_, _^_, _≤_, _<_}
 use native.Mathlib.Omega.{arith}
 use lib.ListN.{length, length-append}
 use Rattle.units.specs.declared.BitPeriods.{BitPeriods}
 use Rattle.text.specs.Text.{word, texts}
-use Rattle.text.proofs.Numbers.{length-places}
 use Rattle.text.proofs.Lengths.{decimal-most}
 use Rattle.text.proofs.Writing.{texts-more}
-use Rattle.report_phrases.specs.Phrases.{nameOf, twoCounts}
-use Rattle.report_phrases.proofs.Lengths.{both-most, two-most}
+use Rattle.report_phrases.specs.Phrases.{whoseText, twoCounts}
+use Rattle.report_phrases.proofs.Lengths.{both-most, two-most, whose-most}
 use Rattle.report_faults.specs.Faults.{lastLines}
 use Rattle.report_faults.proofs.Lengths.{last-most}
-use Rattle.report_capture.specs.Shown.{mostCapture, mostLine, whoseText, countsText, streamLine, streamAt, captureText}
+use Rattle.report_capture.specs.Shown.{mostCapture, mostLine, countsText, streamLine, streamAt, heading, captureText}
 
 -- ---- One stream
-
-whose-most : (number master : ℕ) → number ≤ 800 → length (whoseText number master) ≤ 14
-unfolding whoseText nameOf
-whose-most number master few =
-    simp length-append (omega (arith, decimal-most 3 number (omega arith) (omega arith) (omega arith), length-places 2 master))
 
 counts-most : (answers above left : ℕ) → answers < 2 ^ 64 → above < 2 ^ 64 → left < 2 ^ 8 → length (countsText answers above left) ≤ 66
 unfolding countsText
@@ -60,15 +54,22 @@ lines-more t i h l = rw texts-more (omega (arith, length-append (texts t i) (t i
 pub lines-all : (t : ℕ → List ℕ) (i n : ℕ) → length (texts t i) ≤ i * mostLine → i ≡ n → length (texts t n) ≤ n * mostLine
 lines-all t i n h e = rw (← e) h
 
--- behind the lines of n streams
-pub no-capture-longer : (masters bound largest answers above left late : ℕ → ℕ) (soon whose : ℕ) (broken : Bool) (n : ℕ) → soon < 2 ^ 64 → whose < 2 ^ 32
+heading-most : (urgent : Bool) → length (heading urgent) ≤ 27
+unfolding heading
+heading-most true = omega arith
+heading-most false = omega arith
+
+-- with the lines of n streams
+pub no-capture-longer : (masters bound largest answers above left late : ℕ → ℕ) (soon whose : ℕ) (broken urgent : Bool) (n : ℕ) → soon < 2 ^ 64 → whose < 2 ^ 32
     → n ≤ 800 → length (texts (streamAt masters bound largest answers above left) n) ≤ n * mostLine
-    → length (captureText masters bound largest answers above left late soon whose broken n) ≤ mostCapture
+    → length (captureText urgent masters bound largest answers above left late soon whose broken n) ≤ mostCapture
 unfolding captureText
-no-capture-longer masters bound largest answers above left late soon whose broken n s w few h =
+no-capture-longer masters bound largest answers above left late soon whose broken urgent n s w few h =
     let lines = texts (streamAt masters bound largest answers above left) n in
     omega (
       arith,
+      length-append (heading urgent) (lines ++ lastLines above late answers soon whose broken n),
+      heading-most urgent,
       length-append lines (lastLines above late answers soon whose broken n),
       last-most n few above late answers soon whose s w broken,
     )

@@ -1,9 +1,9 @@
-// The report of a tester's capture beside the bounds of a P-NET sheet, page 02 'Ask 1'. What does not fit into the lent run is left
+// The report of a tester's capture beside the bounds of a P-NET sheet, page 02 'Ask 1' and 'Ask 11'. What does not fit into the lent run is left
 // out; each function answers the place just after what it wrote.
 use report_faults::put_last;
 use report_faults::shown;
-use report_phrases::put_name;
 use report_phrases::put_two;
+use report_phrases::put_whose;
 use sheet_read::MOST;
 use text::put_counted;
 use text::put_word;
@@ -12,10 +12,10 @@ ghost use mathlib.Core.Path.{_≡_};
 ghost use Prim.Native.Nat.{_*_, _≤_, min};
 ghost use lib.ListN.{length};
 ghost use Rattle.text.specs.Text.{Zeros, Wrote, item, texts};
-ghost use Rattle.report_capture.specs.Shown.{mostCapture, mostLine, whoseText, countsText, streamLine, streamAt, captureText, captureRefusal};
+ghost use Rattle.report_capture.specs.Shown.{mostCapture, mostLine, countsText, streamLine, streamAt, heading, captureText, captureRefusal};
 
 // No report of a capture is longer.
-pub const MOST_TEXT: usize = 126_660;
+pub const MOST_TEXT: usize = 126_673;
 
 // Room for every report of a capture.
 pub fn text_buffer() -> [u8; MOST_TEXT]
@@ -30,14 +30,6 @@ fn put_counts(out: &mut [u8], at: usize, answers: u64, above: u64, left: u8) -> 
     let next = put_counted(out, at, b" ", answers, b" answers ");
     let rest = put_counted(out, next, b"", above, b" above ");
     put_counted(out, rest, b"", left as u64, b" open\n")
-}
-
-// The number and the master of a stream.
-fn put_whose(out: &mut [u8], at: usize, number: u64, master: u8) -> usize
-    ensures { λ r. ⌜ Wrote (now (out .entry)) at (whoseText number master) (now (out .exit)) r ⌝ }
-{
-    let name = put_counted(out, at, b"stream ", number, b" ");
-    put_name(out, name, master as u64)
 }
 
 fn put_stream(
@@ -97,9 +89,20 @@ fn put_streams(
     next
 }
 
+// The heading, with the rule that the bounds are of.
+fn put_heading(out: &mut [u8], urgent: bool) -> usize
+    ensures { λ r. ⌜ Wrote (now (out .entry)) 0 (heading urgent) (now (out .exit)) r ⌝ }
+{
+    if urgent {
+        return put_word(out, 0, b"P-NET capture urgent first\n");
+    }
+    put_word(out, 0, b"P-NET capture\n")
+}
+
 // Writes the report at the start of the lent run. More than 800 streams count as 800.
 pub fn put_capture(
     out: &mut [u8],
+    urgent: bool,
     streams: usize,
     masters: &[u8; MOST],
     bound: &[u32; MOST],
@@ -113,11 +116,11 @@ pub fn put_capture(
     broken: bool,
 ) -> usize
     ensures { λ r.
-        let text = captureText (item (now (masters .entry))) (item (now (bound .entry))) (item (now (largest .entry))) (item (now (answers .entry))) (item (now (above .entry))) (item (now (left .entry))) (item (now (late .entry))) soon whose broken (min streams 800) in
+        let text = captureText urgent (item (now (masters .entry))) (item (now (bound .entry))) (item (now (largest .entry))) (item (now (answers .entry))) (item (now (above .entry))) (item (now (left .entry))) (item (now (late .entry))) soon whose broken (min streams 800) in
         ⌜ Wrote (now (out .entry)) 0 text (now (out .exit)) r × (length text ≤ mostCapture) ⌝ }
 {
     let n = shown(streams);
-    let lines = put_word(out, 0, b"P-NET capture\n");
+    let lines = put_heading(out, urgent);
     let last = put_streams(out, lines, n, masters, bound, largest, answers, above, left);
     put_last(
         out,

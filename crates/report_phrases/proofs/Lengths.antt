@@ -1,6 +1,6 @@
--- How long a count with its units is at most, and a refusal without the line's end. Assumes nothing.
+-- How long a count with its units is at most, the number and master of a stream, and a refusal without the line's end. Assumes nothing.
 use mathlib.Core.List.{List, [], _++_}
-use mathlib.Core.Bool.{Bool, true, false, cond}
+use mathlib.Core.Bool.{Bool, true, false, cond, _||_}
 use Prim.Native.Nat.{ℕ, _+_, _^_, _≤_, _<_}
 use native.Mathlib.Omega.{arith}
 use lib.Dec.{leb, eqb}
@@ -9,8 +9,9 @@ use Rattle.common.specs.Sums.{up}
 use Rattle.units.specs.Units.{nanosUp}
 use Rattle.units.specs.declared.BitPeriods.{BitPeriods}
 use Rattle.text.specs.Text.{word, decimal}
+use Rattle.text.proofs.Numbers.{length-places}
 use Rattle.text.proofs.Lengths.{decimal-most, decimal-any}
-use Rattle.report_phrases.specs.Phrases.{inBp, inNs, inBoth, twoCounts, placeText, refusedText}
+use Rattle.report_phrases.specs.Phrases.{inBp, inNs, inBoth, twoCounts, nameOf, whoseText, placeText, refusedText}
 
 -- ---- Counts
 
@@ -44,11 +45,19 @@ two-most m first a second b s t =
       length-append second (inBoth b),
     )
 
+-- ---- Streams
+
+-- a master's name has two digits whatever its number
+pub whose-most : (number master : ℕ) → number ≤ 800 → length (whoseText number master) ≤ 14
+unfolding whoseText nameOf
+whose-most number master few =
+    simp length-append (omega (arith, decimal-most 3 number (omega arith) (omega arith) (omega arith), length-places 2 master))
+
 -- ---- Refusals
 
 place-most : (n p : ℕ) → length (placeText n p) ≤ 34
 unfolding placeText
-place-most n p = split (leb n 7) (leb n 9) (eqb n 12) (eqb n 23)
+place-most n p = split (leb n 7) (leb n 9 || eqb n 21) (eqb n 12) (eqb n 23)
   where
     split : (a b c d : Bool)
         → length

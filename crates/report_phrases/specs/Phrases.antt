@@ -1,8 +1,8 @@
--- Page 01, 'Sheets worked by hand', with page 02, 'Ask 5' and 'Ask 14': what every report says in the same words, a count with its unit, a master's
+-- Page 01, 'Sheets worked by hand', with page 02, 'Ask 5', 'Ask 11' and 'Ask 14': what every report says in the same words, a count with its unit, a master's
 -- name, a refusal. Assumes nothing.
 use Prim.Native.Nat.{ℕ}
 use mathlib.Core.List.{List, []}
-use mathlib.Core.Bool.{cond}
+use mathlib.Core.Bool.{cond, _||_}
 use lib.Dec.{leb, eqb}
 use Rattle.units.specs.Units.{nanosUp}
 use Rattle.units.specs.declared.BitPeriods.{BitPeriods}
@@ -29,11 +29,15 @@ inBoth b = inBp b · word " " · inNs (nanosUp b)
 unfoldable pub twoCounts : List ℕ → BitPeriods → List ℕ → BitPeriods → List ℕ
 twoCounts first a second b = first · inBoth a · second · inBoth b
 
--- ---- Masters
+-- ---- Masters and streams
 
 -- master numbers have two digits
 unfoldable pub nameOf : ℕ → List ℕ
 nameOf k = word "M" · places 2 k
+
+-- a stream's number and its master
+unfoldable pub whoseText : ℕ → ℕ → List ℕ
+whoseText number master = word "stream " · decimal number · word " " · nameOf master
 
 -- ---- Refusals
 
@@ -41,7 +45,7 @@ nameOf k = word "M" · places 2 k
 unfoldable pub placeText : ℕ → ℕ → List ℕ
 placeText n p =
     cond (leb n 7) (word " at byte " · decimal p)
-    (cond (leb n 9) (word " at stream " · decimal p)
+    (cond (leb n 9 || eqb n 21) (word " at stream " · decimal p)
     (cond (eqb n 12) (word " at variable " · decimal p) (cond (eqb n 23) (word " at line " · decimal p) [])))
 
 -- refusal n with place p, without the line's end: some reports say more behind it

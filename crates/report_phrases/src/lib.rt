@@ -8,7 +8,7 @@ use units::Micros;
 use units::Nanos;
 ghost use mathlib.Core.List.{_++_};
 ghost use Rattle.text.specs.Text.{Wrote};
-ghost use Rattle.report_phrases.specs.Phrases.{inBp, inUs, inNs, inBoth, twoCounts, nameOf, placeText, refusedText, refusalText};
+ghost use Rattle.report_phrases.specs.Phrases.{inBp, inUs, inNs, inBoth, twoCounts, nameOf, whoseText, placeText, refusedText, refusalText};
 
 pub fn put_bp(out: &mut [u8], at: usize, before: &[u8], b: BitPeriods) -> usize
     ensures { λ r. ⌜ Wrote (now (out .entry)) at (now (before .entry) ++ inBp b) (now (out .exit)) r ⌝ }
@@ -58,6 +58,14 @@ pub fn put_name(out: &mut [u8], at: usize, k: u64) -> usize
     put_places(out, number, 2, k)
 }
 
+// The number and the master of a stream.
+pub fn put_whose(out: &mut [u8], at: usize, number: u64, master: u8) -> usize
+    ensures { λ r. ⌜ Wrote (now (out .entry)) at (whoseText number master) (now (out .exit)) r ⌝ }
+{
+    let name = put_counted(out, at, b"stream ", number, b" ");
+    put_name(out, name, master as u64)
+}
+
 // A refusal's place in words, and what follows it.
 fn put_place(out: &mut [u8], at: usize, number: u8, place: u64, after: &[u8]) -> usize
     ensures { λ r. ⌜ Wrote (now (out .entry)) at (placeText number place ++ now (after .entry)) (now (out .exit)) r ⌝ }
@@ -65,7 +73,7 @@ fn put_place(out: &mut [u8], at: usize, number: u8, place: u64, after: &[u8]) ->
     if number <= 7 {
         return put_counted(out, at, b" at byte ", place, after);
     }
-    if number <= 9 {
+    if (number <= 9) | (number == 21) {
         return put_counted(out, at, b" at stream ", place, after);
     }
     if number == 12 {

@@ -5,10 +5,10 @@ use Rattle.planner.proofs.by_plain_names.Statement.{statement}
 use Rattle.planner.proofs.by_plain_names.Tie as tie
 
 abbrev Inv-loop : tie.InvT-loop
-Inv-loop count i₀ i = 1 ≤ i
+Inv-loop number first count i₀ i = first ≤ i
 
 abbrev μ-loop : tie.MeasureT-loop
-μ-loop count i₀ i = count - i
+μ-loop number first count i₀ i = count - i
 
 loop-holds : tie.Need-loop-holds Inv-loop μ-loop
 loop-holds c = search needs

@@ -14,13 +14,13 @@ enum-known-begun : tie.Need-enum-known-begun
 enum-known-begun c = search needs
 
 write-requires : tie.Need-write-requires
-write-requires c κs = begun-tells _ _ _ _ _ _ _ _ _ (c .before .before .before .before .begin .ensures .1) _ (c .before .before .begun .given .1)
+write-requires c κs = begun-tells _ _ _ _ _ _ _ _ _ _ (c .before .before .before .before .begin .ensures .1) _ (c .before .before .begun .given .1)
 
 enum-known-begun-2 : tie.Need-enum-known-begun-2
 enum-known-begun-2 c = search needs
 
 listen-requires : tie.Need-listen-requires
-listen-requires c κs = begun-holds _ _ _ _ _ _ _ _ _ (c .before .before .before .before .before .before .before .before .before .before .before .before .before .before .before .begin .ensures .1) _ (c .before .before .before .before .before .before .before .before .before .before .before .before .before .begun2 .given .1)
+listen-requires c κs = begun-holds _ _ _ _ _ _ _ _ _ _ (c .before .before .before .before .before .before .before .before .before .before .before .before .before .before .before .begin .ensures .1) _ (c .before .before .before .before .before .before .before .before .before .before .before .before .before .begun2 .given .1)
 
 returns : tie.Need-returns
 returns c = search needs

@@ -14,7 +14,7 @@ write-requires : tie.Need-write-requires
 write-requires c κs =
     let held = c .before .before .before .before .before .before .before .pre .held in
     let r = c .before .before .before .before .report in
-    clean-tells held _ _ _ (r .ensures .1 _ _ _ _ _ _ (held .kept)) _ (c .before .before .n .given .1)
+    clean-tells held _ _ _ (r .ensures .1 _ _ _ _ _ _ _ (held .kept)) _ (c .before .before .n .given .1)
 
 enum-known-n-2 : tie.Need-enum-known-n-2
 enum-known-n-2 c = search needs
@@ -23,7 +23,7 @@ write-requires-2 : tie.Need-write-requires-2
 write-requires-2 c κs =
     let held = c .before .before .before .before .before .before .before .pre .held in
     let r = c .before .before .before .before .report in
-    faulty-tells held _ _ _ (r .ensures .1 _ _ _ _ _ _ (held .kept)) _ (c .before .before .n2 .given .1)
+    faulty-tells held _ _ _ (r .ensures .1 _ _ _ _ _ _ _ (held .kept)) _ (c .before .before .n2 .given .1)
 
 returns : tie.Need-returns
 returns c = search needs

@@ -14,11 +14,11 @@ use Rattle.planner_beside.proofs.listen.Statement.{statement}
 use Rattle.planner_beside.proofs.listen.Tie as tie
 
 abbrev Inv-loop : tie.InvT-loop
-Inv-loop sheet fd name text₀ masters bound spacing jitter left₀ since₀ answers₀ largest₀ above₀ asked₀ lead₀ heard₀ piece₀ t22 text left since answers largest above asked lead heard piece =
-    Holds sheet heard masters bound spacing jitter (tally left since answers largest above asked lead) × (length piece ≡ 65534)
+Inv-loop sheet urgent fd name text₀ masters bound spacing jitter left₀ since₀ answers₀ largest₀ above₀ asked₀ lead₀ heard₀ piece₀ t22 text left since answers largest above asked lead heard piece =
+    Holds urgent sheet heard masters bound spacing jitter (tally left since answers largest above asked lead) × (length piece ≡ 65534)
 
 abbrev μ-loop : tie.MeasureT-loop
-μ-loop sheet fd name text₀ masters bound spacing jitter left₀ since₀ answers₀ largest₀ above₀ asked₀ lead₀ heard₀ piece₀ t22 text left since answers largest above asked lead heard piece =
+μ-loop sheet urgent fd name text₀ masters bound spacing jitter left₀ since₀ answers₀ largest₀ above₀ asked₀ lead₀ heard₀ piece₀ t22 text left since answers largest above asked lead heard piece =
     2 ^ 63 + 65534 - heard .bytes
 
 loop-holds : tie.Need-loop-holds Inv-loop μ-loop
@@ -80,7 +80,7 @@ enum-known-told-2 : tie.Need-enum-known-told-2 Inv-loop μ-loop
 enum-known-told-2 c = search needs
 
 -- the piece was heard: the runs hold what it leaves too
-goes : (c : tie.After-told2 Inv-loop μ-loop) → Holds (now (c .before .before .before .before .before .before .before .before .before .before .before .before .before .before .before .before .before .before .before .args .sheet)) (c .told2 .given .0 .0) (now (c .before .before .before .before .before .before .before .before .before .before .before .before .before .before .before .before .before .before .before .args .masters)) (now (c .before .before .before .before .before .before .before .before .before .before .before .before .before .before .before .before .before .before .before .args .bound)) (now (c .before .before .before .before .before .before .before .before .before .before .before .before .before .before .before .before .before .before .before .args .spacing)) (now (c .before .before .before .before .before .before .before .before .before .before .before .before .before .before .before .before .before .before .before .args .jitter)) (tally (c .before .before .hear .last .1 .1 .1 .1 .1 .1 .0) (c .before .before .hear .last .1 .1 .1 .1 .1 .1 .1 .0) (c .before .before .hear .last .1 .1 .1 .1 .1 .1 .1 .1 .0) (c .before .before .hear .last .1 .1 .1 .1 .1 .1 .1 .1 .1 .0) (c .before .before .hear .last .1 .1 .1 .1 .1 .1 .1 .1 .1 .1 .0) (c .before .before .hear .last .1 .1 .1 .1 .1 .1 .1 .1 .1 .1 .1 .0) (c .before .before .hear .last .1 .1 .1 .1 .1 .1 .1 .1 .1 .1 .1 .1 .0))
+goes : (c : tie.After-told2 Inv-loop μ-loop) → Holds (c .before .before .before .before .before .before .before .before .before .before .before .before .before .before .before .before .before .before .before .args .urgent) (now (c .before .before .before .before .before .before .before .before .before .before .before .before .before .before .before .before .before .before .before .args .sheet)) (c .told2 .given .0 .0) (now (c .before .before .before .before .before .before .before .before .before .before .before .before .before .before .before .before .before .before .before .args .masters)) (now (c .before .before .before .before .before .before .before .before .before .before .before .before .before .before .before .before .before .before .before .args .bound)) (now (c .before .before .before .before .before .before .before .before .before .before .before .before .before .before .before .before .before .before .before .args .spacing)) (now (c .before .before .before .before .before .before .before .before .before .before .before .before .before .before .before .before .before .before .before .args .jitter)) (tally (c .before .before .hear .last .1 .1 .1 .1 .1 .1 .0) (c .before .before .hear .last .1 .1 .1 .1 .1 .1 .1 .0) (c .before .before .hear .last .1 .1 .1 .1 .1 .1 .1 .1 .0) (c .before .before .hear .last .1 .1 .1 .1 .1 .1 .1 .1 .1 .0) (c .before .before .hear .last .1 .1 .1 .1 .1 .1 .1 .1 .1 .1 .0) (c .before .before .hear .last .1 .1 .1 .1 .1 .1 .1 .1 .1 .1 .1 .0) (c .before .before .hear .last .1 .1 .1 .1 .1 .1 .1 .1 .1 .1 .1 .1 .0))
 goes c = heard-holds (c .before .before .before .before .before .before .before .before .before .before .before .before .before .before .before .before .loop .inv .0) _ _ _ _ _ (c .before .before .hear .ensures .1) _ (c .told2 .given .1)
 
 finish-requires : tie.Need-finish-requires Inv-loop μ-loop

@@ -10,11 +10,8 @@ use Rattle.report_capture.proofs.put_capture.Tie as tie
 shown-requires : tie.Need-shown-requires
 shown-requires c κs = search needs
 
-slice-aggregate-put-word : tie.Need-slice-aggregate-put-word
-slice-aggregate-put-word c = search needs
-
-put-word-requires : tie.Need-put-word-requires
-put-word-requires c κs = search needs
+put-heading-requires : tie.Need-put-heading-requires
+put-heading-requires c κs = search needs
 
 put-streams-requires : tie.Need-put-streams-requires
 put-streams-requires c κs = search needs
@@ -28,15 +25,21 @@ same-length c = search needs
 returns : tie.Need-returns
 unfolding captureText
 returns c =
-    let start = c .before .before .before .before .before .before .before .before .before .before .before .before .before .before .before in
+    let start = c .before .before .before .before .before .before .before .before .before .before .before .before .before .before in
     let lines = c .before .before .before .before .before .before .put-streams .ensures in
-    let shown = c .before .before .before .before .before .before .before .before .before .before .before .before .before .shown .ensures in
+    let shown = c .before .before .before .before .before .before .before .before .before .before .before .before .shown .ensures in
     rw (← shown) (
-      wrote-then (c .before .before .before .before .before .before .before .before .before .before .put-word .ensures)
-          (wrote-then (lines .0) (rw shown (c .before .before .put-last .ensures))),
-      no-capture-longer _ _ _ _ _ _ _ _ _ _ _ (omega (arith, start)) (omega (arith, start)) (omega arith) (lines .1),
+      wrote-then (c .before .before .before .before .before .before .before .before .before .before .put-heading .ensures) (wrote-then (lines .0) (rw shown (c .before .before .put-last .ensures))),
+      no-capture-longer _ _ _ _ _ _ _ _ _ _ _ _ (omega (arith, start)) (omega (arith, start)) (omega arith) (lines .1),
     )
 
 pub put-capture-spec : {M : Type 1} → statement M
 put-capture-spec =
-    tie.close (tie.spec shown-requires slice-aggregate-put-word put-word-requires put-streams-requires put-last-requires same-length returns)
+    tie.close
+    (tie.spec
+    shown-requires
+    put-heading-requires
+    put-streams-requires
+    put-last-requires
+    same-length
+    returns)

@@ -1,7 +1,9 @@
 -- `report_phrases::put_place` stores a refusal's place in words, and what follows it. Assumes nothing.
 use mathlib.Core.Path.{_≡_}
 use mathlib.Core.List.{List, _++_}
+use mathlib.Core.Bool.{true, false, _||_}
 use Prim.Native.Nat.{ℕ, _≤_, _<_}
+use lib.Dec.{leb, eqb}
 use borrow.Author.Tests.{le-leb, lt-leb, eq-eqb, ne-eqb}
 use borrow.Author.Needs.{needs}
 use Rattle.report_phrases.specs.Phrases.{placeText}
@@ -16,21 +18,22 @@ module _ (n p : ℕ) (after : List ℕ) where
   unfolding placeText counted
   byte a = simp (le-leb n 7 a)
 
-  stream : 7 < n → n ≤ 9 → placeText n p ++ after ≡ counted (word " at stream ") p after
+  stream : 7 < n → (leb n 9 || eqb n 21) ≡ true → placeText n p ++ after ≡ counted (word " at stream ") p after
   unfolding placeText counted
-  stream a b = simp (lt-leb n 7 a, le-leb n 9 b)
+  stream a b = simp (lt-leb n 7 a, b)
 
-  variable : 7 < n → 9 < n → n ≡ 12 → placeText n p ++ after ≡ counted (word " at variable ") p after
-  unfolding placeText counted
-  variable a b e = simp (lt-leb n 7 a, lt-leb n 9 b, eq-eqb n 12 e)
+  module _ (a : 7 < n) (b : (leb n 9 || eqb n 21) ≡ false) where
+    variable : n ≡ 12 → placeText n p ++ after ≡ counted (word " at variable ") p after
+    unfolding placeText counted
+    variable e = simp (lt-leb n 7 a, b, eq-eqb n 12 e)
 
-  line : 7 < n → 9 < n → (n ≡ 12 → ⊥) → n ≡ 23 → placeText n p ++ after ≡ counted (word " at line ") p after
-  unfolding placeText counted
-  line a b d e = simp (lt-leb n 7 a, lt-leb n 9 b, ne-eqb n 12 d, eq-eqb n 23 e)
+    line : (n ≡ 12 → ⊥) → n ≡ 23 → placeText n p ++ after ≡ counted (word " at line ") p after
+    unfolding placeText counted
+    line d e = simp (lt-leb n 7 a, b, ne-eqb n 12 d, eq-eqb n 23 e)
 
-  nothing : 7 < n → 9 < n → (n ≡ 12 → ⊥) → (n ≡ 23 → ⊥) → placeText n p ++ after ≡ after
-  unfolding placeText
-  nothing a b d e = simp (lt-leb n 7 a, lt-leb n 9 b, ne-eqb n 12 d, ne-eqb n 23 e)
+    nothing : (n ≡ 12 → ⊥) → (n ≡ 23 → ⊥) → placeText n p ++ after ≡ after
+    unfolding placeText
+    nothing d e = simp (lt-leb n 7 a, b, ne-eqb n 12 d, ne-eqb n 23 e)
 
 -- ---- The needs
 

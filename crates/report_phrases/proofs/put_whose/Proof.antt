@@ -1,14 +1,13 @@
--- `report_capture::put_whose` stores the number and the master of a stream. Assumes nothing.
+-- `report_phrases::put_whose` stores the number and the master of a stream. Assumes nothing.
 use mathlib.Core.Path.{_≡_}
 use mathlib.Core.List.{_++_}
 use Prim.Native.Nat.{ℕ}
 use Rattle.text.specs.Text.{word, counted}
-use Rattle.report_phrases.specs.Phrases.{nameOf}
 use Rattle.text.proofs.Writing.{wrote-then, counted-then}
-use Rattle.report_capture.specs.Shown.{whoseText}
+use Rattle.report_phrases.specs.Phrases.{nameOf, whoseText}
 use borrow.Author.Needs.{needs}
-use Rattle.report_capture.proofs.put_whose.Statement.{statement}
-use Rattle.report_capture.proofs.put_whose.Tie as tie
+use Rattle.report_phrases.proofs.put_whose.Statement.{statement}
+use Rattle.report_phrases.proofs.put_whose.Tie as tie
 
 -- the two pieces that the code stores
 pieces : (number master : ℕ) → whoseText number master ≡ counted (word "stream ") number (word " ") ++ nameOf master
