@@ -1,16 +1,15 @@
 // A path over several P-NET segments, from the words behind `--path`, in fours: a number and its unit, a sheet, and the master that sends
 // there. The first number is the deadline, each other one the forwarding time of the gateway that leads to the segment.
-use planner_complaints::complain;
 use planner_io::input::Given;
 use planner_io::input::open;
-use planner_io::output;
-use planner_io::output::ACCEPTED;
-use planner_io::output::FAILED;
-use planner_io::output::REFUSED;
 use planner_io::words::from_standard_input;
 use planner_io::words::is_word;
 use planner_io::words::serves;
 use planner_io::words::show_word;
+use planner_output::ACCEPTED;
+use planner_output::FAILED;
+use planner_output::REFUSED;
+use planner_output::complain;
 use pnet_path::Way;
 use report_path::Reported;
 use text_entry::Entered;
@@ -161,8 +160,8 @@ fn go_on(way: Way, time: BitPeriods, sheet: &[u8], line: usize, master: u8) -> W
 fn write_report(way: Way, deadline: BitPeriods) -> u8 {
     let mut text = report_path::text_buffer();
     match report_path::report(&mut text, way, deadline) {
-        Reported::Accepted(n) => output::report(&text, n, ACCEPTED),
-        Reported::Refused(n) => output::report(&text, n, REFUSED),
+        Reported::Accepted(n) => planner_output::report(&text, n, ACCEPTED),
+        Reported::Refused(n) => planner_output::report(&text, n, REFUSED),
         Reported::NoRoom => FAILED,
     }
 }

@@ -1,18 +1,17 @@
 // A sheet as text, and a text as a sheet, on standard output. What is refused is said on standard error, so that nothing but a whole text or a whole
 // sheet ever stands in the file that it goes to.
 use planner_complaints::blame;
-use planner_complaints::complain;
 use planner_io::input::read_sheet;
-use planner_io::output;
-use planner_io::output::ACCEPTED;
-use planner_io::output::FAILED;
-use planner_io::output::REFUSED;
+use planner_output::ACCEPTED;
+use planner_output::FAILED;
+use planner_output::REFUSED;
+use planner_output::complain;
 use sheet_read::Reading;
 use sheet_write::Put;
 
 fn refuse(name: &[u8], no: u8, place: usize) -> u8 {
     blame(name);
-    output::put_refusal(libc::STDERR_FILENO, no, place);
+    planner_output::put_refusal(libc::STDERR_FILENO, no, place);
     REFUSED
 }
 
@@ -28,7 +27,7 @@ fn refuse_text(name: &[u8], no: u8, place: usize, first: u8) -> u8 {
 fn write_text(name: &[u8], s: &[u8]) -> u8 {
     let mut text = sheet_text::text_buffer();
     match sheet_text::export(s, &mut text) {
-        Put::Next(n) => output::report(&text, n, ACCEPTED),
+        Put::Next(n) => planner_output::report(&text, n, ACCEPTED),
         Put::Refused { no, place } => {
             let first = if s.len() > 0 { s[0] } else { 0 };
             refuse_text(name, no, place, first)
@@ -43,7 +42,7 @@ fn write_sheet(name: &[u8], s: &[u8]) -> u8 {
             head: _,
             streams: _,
             first: _,
-        } => output::report(s, s.len(), ACCEPTED),
+        } => planner_output::report(s, s.len(), ACCEPTED),
     }
 }
 

@@ -3,31 +3,29 @@
 // says last, on descriptor 3.
 mod along;
 mod exchange;
-mod urgent;
 
 use libc::STDIN_FILENO;
-use planner_complaints::complain;
 use planner_io::help;
 use planner_io::input::open;
 use planner_io::input::read_sheet;
-use planner_io::output;
-use planner_io::output::ACCEPTED;
-use planner_io::output::FAILED;
-use planner_io::output::REFUSED;
-use planner_io::output::unless_cut;
 use planner_io::words;
+use planner_output::ACCEPTED;
+use planner_output::FAILED;
+use planner_output::REFUSED;
+use planner_output::give_up;
+use planner_output::unless_cut;
 use report_sheet::Reported;
 
 // ---- Reports
 
 fn write_report(s: &[u8], urgent_first: bool) -> u8 {
     if urgent_first {
-        return urgent::report(s);
+        return planner_urgent::report(s);
     }
     let mut text = report_sheet::text_buffer();
     match report_sheet::report(s, &mut text) {
-        Reported::Accepted(n) => output::report(&text, n, ACCEPTED),
-        Reported::Refused(n) => output::report(&text, n, REFUSED),
+        Reported::Accepted(n) => planner_output::report(&text, n, ACCEPTED),
+        Reported::Refused(n) => planner_output::report(&text, n, REFUSED),
         Reported::NoRoom => FAILED,
     }
 }
@@ -40,7 +38,7 @@ fn plan(fd: i32, name: &[u8], urgent: bool) -> u8 {
         return FAILED;
     }
     if given.line > 0 {
-        return output::bad_line(given.line);
+        return planner_output::bad_line(given.line);
     }
     let n = given.length;
     write_report(&sheet[..n], urgent)
@@ -74,7 +72,7 @@ fn compare(sheet_fd: i32, sheet_name: &[u8], urgent: bool, fd: i32, name: &[u8])
         return FAILED;
     }
     if given.line > 0 {
-        return output::bad_line(given.line);
+        return planner_output::bad_line(given.line);
     }
     let n = given.length;
     planner_beside::compare(&sheet[..n], urgent, fd, name)
@@ -101,8 +99,7 @@ fn compare_files(sheet_name: &[u8], urgent: bool, name: &[u8]) -> u8 {
 fn by_none(number: usize) -> u8 {
     if libc::isatty(STDIN_FILENO) != 0 {
         help::usage();
-        complain(b"\nplanner: no sheet: name a file, or - for standard input\n");
-        return FAILED;
+        return give_up(b"\nplanner: no sheet: name a file, or - for standard input\n");
     }
     serve(number, STDIN_FILENO, b"-")
 }
@@ -137,10 +134,9 @@ fn by_names(number: usize, i: usize, count: usize) -> u8 {
     }
     let last = count - 1;
     if last - i > 1 {
-        complain(
+        return give_up(
             b"planner: too many words: a sheet, or a sheet and a capture; planner --help says more\n",
         );
-        return FAILED;
     }
     if !words::serves(words::standard_inputs(i, last)) {
         return FAILED;
@@ -170,10 +166,9 @@ fn by_command(number: usize, count: usize) -> u8 {
         return by_none(number);
     }
     if count > 3 {
-        complain(
+        return give_up(
             b"planner: too many words: --export and --import take one name; planner --help says more\n",
         );
-        return FAILED;
     }
     if words::is_option(2) {
         return words::unknown(2);
@@ -199,5 +194,5 @@ fn by_words(count: usize) -> u8 {
 }
 
 fn main() {
-    output::end(by_words(os::arg_count()));
+    planner_output::end(by_words(os::arg_count()));
 }

@@ -1,11 +1,10 @@
 // A tester's capture beside the bounds of a sheet, by the rule of urgent requests first or by that of first-come queues, read piece by piece: nothing is kept of a capture but what `report_beside::hear` keeps.
-use planner_complaints::complain;
 use planner_io::input::read_all;
-use planner_io::output;
-use planner_io::output::ACCEPTED;
-use planner_io::output::FAILED;
-use planner_io::output::REFUSED;
 use planner_io::words::fail;
+use planner_output::ACCEPTED;
+use planner_output::FAILED;
+use planner_output::REFUSED;
+use planner_output::give_up;
 use report_beside::Begun;
 use report_beside::Heard;
 use report_beside::Hearing;
@@ -23,7 +22,7 @@ fn write(sheet: &[u8], urgent: bool, text: &[u8; MOST_TEXT], n: usize, accepted:
     requires { ⌜ Tells urgent (now sheet) (now text) n accepted ⌝ }
 {
     let status = if accepted { ACCEPTED } else { REFUSED };
-    output::report(text, n, status)
+    planner_output::report(text, n, status)
 }
 
 // The whole capture was heard.
@@ -106,10 +105,7 @@ fn listen(
         );
         match told {
             Heard::Refused(m) => return write(sheet, urgent, text, m, false),
-            Heard::TooLong => {
-                complain(b"planner: the capture is too long to be counted\n");
-                return FAILED;
-            }
+            Heard::TooLong => return give_up(b"planner: the capture is too long to be counted\n"),
             Heard::On(next) => {
                 if n < PIECE {
                     return finish(

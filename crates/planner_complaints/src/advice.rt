@@ -1,5 +1,4 @@
 // The likeliest slip in a line that is not of the form, and how it is mended.
-use crate::complain;
 use crate::place::Slip;
 use crate::say;
 use crate::scan::byte_at;
@@ -8,6 +7,7 @@ use crate::scan::is_blank;
 use crate::scan::is_digit;
 use crate::scan::is_letter;
 use crate::scan::is_padding;
+use planner_output::complain;
 use sheet_record::known;
 use sheet_said::begins;
 

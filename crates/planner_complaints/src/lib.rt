@@ -1,30 +1,19 @@
 // What the program says on standard error of its inputs: bytes that are shown so that no terminal takes them for something else, and what is wrong with a
-// text (`slips`). Nothing here answers anything or changes anything that is lent, but for `end_of`.
+// text (`slips`). Nothing here answers anything or changes anything that is lent.
 mod advice;
 mod place;
 mod scan;
 pub mod slips;
 
-use libc::STDERR_FILENO;
+use planner_output::complain;
+use planner_output::end_of;
 use scan::find;
 use scan::one_more;
 use text::put_word;
-ghost use mathlib.Core.Path.{_≡_};
-ghost use Prim.Native.Nat.{_<_, min};
+ghost use Prim.Native.Nat.{_<_};
 
 // Four bytes show one, and a word has 4,096 at most.
 const SHOWN: usize = 16_384;
-
-pub fn complain(words: &[u8]) {
-    io::write_all(STDERR_FILENO, words);
-}
-
-// How many bytes of a text are written, of which the first n are finished.
-pub fn end_of(length: usize, n: usize) -> usize
-    ensures { λ r. ⌜ r ≡ min n length ⌝ }
-{
-    if n < length { n } else { length }
-}
 
 // A digit of base sixteen.
 fn digit(n: u8) -> u8

@@ -1,8 +1,8 @@
 // What the program says of itself. Each part is one byte string, as it is shown: calls are what a proof costs. The script `plan` says the same
 // where no program is built yet, and has it from here: a string ends with a line that begins with the quotation mark, and the help is all of
 // them in the order of this file, but for the version.
-use crate::output::put;
-use planner_complaints::complain;
+use planner_output::complain;
+use planner_output::put;
 
 // The version of the project.
 const VERSION: [u8; 14] = *b"planner 1.9.0

@@ -1,8 +1,8 @@
 // Opening a file, reading until a buffer is full, and a sheet, which may be given as bytes or as a text.
 use crate::words::fail;
-use planner_complaints::complain;
-use planner_complaints::end_of;
 use planner_complaints::slips;
+use planner_output::complain;
+use planner_output::end_of;
 use sheet_pieces::Ended;
 use sheet_pieces::Taken;
 use text::put_word;

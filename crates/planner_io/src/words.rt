@@ -1,8 +1,8 @@
 // The words that the program was called with, and complaints that show them.
 use crate::help::COMMANDS;
-use crate::output::FAILED;
-use planner_complaints::complain;
 use planner_complaints::show;
+use planner_output::complain;
+use planner_output::give_up;
 ghost use mathlib.Core.Path.{_≡_};
 ghost use Prim.Native.Nat.{_≤_, _<_};
 ghost use lib.ListN.{length};
@@ -90,8 +90,7 @@ pub fn too_long(i: usize) -> u8
 {
     complain(b"planner: ");
     show_word(i);
-    complain(b": longer than a file's name can be\n");
-    FAILED
+    give_up(b": longer than a file's name can be\n")
 }
 
 // Says that an option is none.
@@ -100,8 +99,7 @@ pub fn unknown(i: usize) -> u8
 {
     complain(b"planner: unknown option ");
     show_word(i);
-    complain(b"; planner --help lists them\n");
-    FAILED
+    give_up(b"; planner --help lists them\n")
 }
 
 // ---- Commands

@@ -67,11 +67,11 @@ returns-2 c = search needs
 enum-told : tie.Need-enum-told Inv-loop μ-loop
 enum-told c = search needs
 
-slice-aggregate-complain : tie.Need-slice-aggregate-complain Inv-loop μ-loop
-slice-aggregate-complain c = search needs
+slice-aggregate-give-up : tie.Need-slice-aggregate-give-up Inv-loop μ-loop
+slice-aggregate-give-up c = search needs
 
-complain-requires : tie.Need-complain-requires Inv-loop μ-loop
-complain-requires c κs = search needs
+give-up-requires : tie.Need-give-up-requires Inv-loop μ-loop
+give-up-requires c κs = search needs
 
 returns-3 : tie.Need-returns-3 Inv-loop μ-loop
 returns-3 c = search needs
@@ -116,8 +116,8 @@ listen-spec =
     write-requires
     returns-2
     enum-told
-    slice-aggregate-complain
-    complain-requires
+    slice-aggregate-give-up
+    give-up-requires
     returns-3
     enum-known-told-2
     finish-requires

@@ -1,8 +1,8 @@
--- `planner::urgent::report` writes the report that was made, and the status that it says. Assumes nothing.
+-- `planner_urgent::report` writes the report that was made, and the status that it says. Assumes nothing.
 use borrow.Author.Needs.{needs}
 use Rattle.report_urgent.proofs.Stored.{accepted-tells, refused-tells}
-use Rattle.planner.proofs.urgent.report.Statement.{statement}
-use Rattle.planner.proofs.urgent.report.Tie as tie
+use Rattle.planner_urgent.proofs.report.Statement.{statement}
+use Rattle.planner_urgent.proofs.report.Tie as tie
 
 text-buffer-requires : tie.Need-text-buffer-requires
 text-buffer-requires c κs = search needs

@@ -1,11 +1,11 @@
-// What the program writes: a finished text to standard output, and how it ended to descriptor 3, as one byte, from which whoever started the
-// program makes an exit status.
+// What the program writes and how a call ends: a finished text to standard output, words to standard error, and how it ended to descriptor 3, as one byte, from
+// which whoever started the program makes an exit status.
+use libc::STDERR_FILENO;
 use libc::STDOUT_FILENO;
-use planner_complaints::complain;
-use planner_complaints::end_of;
 ghost use mathlib.Core.Path.{_≡_};
 ghost use mathlib.Core.Bool.{cond};
 ghost use mathlib.Core.Logic.{_⊎_};
+ghost use Prim.Native.Nat.{min};
 
 // How a call of the program ends, as the digit that it says: a byte from 48 to 51.
 pub const ACCEPTED: u8 = b'0';
@@ -24,13 +24,32 @@ pub fn end(status: u8) {
     io::write_all(STATUS_FILENO, &said);
 }
 
+pub fn complain(words: &[u8]) {
+    io::write_all(STDERR_FILENO, words);
+}
+
+// Says last why a call fails, and answers how it ends.
+pub fn give_up(words: &[u8]) -> u8
+    ensures { λ r. ⌜ r ≡ 50 ⌝ }
+{
+    complain(words);
+    FAILED
+}
+
+// How many bytes of a text are written, of which the first n are finished.
+pub fn end_of(length: usize, n: usize) -> usize
+    ensures { λ r. ⌜ r ≡ min n length ⌝ }
+{
+    if n < length { n } else { length }
+}
+
 // Writes the first n bytes of a text, or all where it has fewer, and answers whether all of them went out.
 fn put_first(fd: i32, text: &[u8], n: usize) -> bool {
     let end = end_of(text.len(), n);
     io::write_all(fd, &text[..end])
 }
 
-pub(crate) fn put(text: &[u8]) -> bool {
+pub fn put(text: &[u8]) -> bool {
     io::write_all(STDOUT_FILENO, text)
 }
 

@@ -1,10 +1,10 @@
--- `planner_io::output::put_first` writes within the text. Assumes nothing.
+-- `planner_output::put_first` writes within the text. Assumes nothing.
 use mathlib.Core.Path.{sym}
 use native.Mathlib.Omega.{arith}
 use lib.Seq.{length-take-le}
 use borrow.Author.Needs.{needs}
-use Rattle.planner_io.proofs.output.put_first.Statement.{statement}
-use Rattle.planner_io.proofs.output.put_first.Tie as tie
+use Rattle.planner_output.proofs.put_first.Statement.{statement}
+use Rattle.planner_output.proofs.put_first.Tie as tie
 
 end-of-requires : tie.Need-end-of-requires
 end-of-requires c κs = search needs

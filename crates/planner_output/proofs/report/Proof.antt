@@ -1,8 +1,8 @@
--- `planner_io::output::report` ends as it was told, or as cut. Assumes nothing.
+-- `planner_output::report` ends as it was told, or as cut. Assumes nothing.
 use borrow.Author.Needs.{needs}
-use Rattle.planner_io.proofs.Ended.{one-of-two}
-use Rattle.planner_io.proofs.output.report.Statement.{statement}
-use Rattle.planner_io.proofs.output.report.Tie as tie
+use Rattle.planner_output.proofs.Ended.{one-of-two}
+use Rattle.planner_output.proofs.report.Statement.{statement}
+use Rattle.planner_output.proofs.report.Tie as tie
 
 put-first-requires : tie.Need-put-first-requires
 put-first-requires c κs = search needs

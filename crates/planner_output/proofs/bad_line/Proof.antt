@@ -1,8 +1,8 @@
--- `planner_io::output::bad_line` ends as refused, or as cut. Assumes nothing.
+-- `planner_output::bad_line` ends as refused, or as cut. Assumes nothing.
 use borrow.Author.Needs.{needs}
-use Rattle.planner_io.proofs.Ended.{one-of-two}
-use Rattle.planner_io.proofs.output.bad_line.Statement.{statement}
-use Rattle.planner_io.proofs.output.bad_line.Tie as tie
+use Rattle.planner_output.proofs.Ended.{one-of-two}
+use Rattle.planner_output.proofs.bad_line.Statement.{statement}
+use Rattle.planner_output.proofs.bad_line.Tie as tie
 
 put-refusal-requires : tie.Need-put-refusal-requires
 put-refusal-requires c κs = search needs
