@@ -11,6 +11,7 @@ import sheets
 import sheet_records
 import sheets_pnet
 import texts
+from families import in_turn
 from second_opinion import ANSWER, COUNTER, EVENT_LENGTH, REQUEST, first_come
 
 # what a program of this project reads at once; any other length is as good a place for a seam
@@ -295,13 +296,4 @@ def edges(rng):
 def captures(seed, count):
     """Yield `count` triples of a name, a sheet, as bytes or as text, and a capture's bytes."""
     rng = random.Random(seed)
-    given = 0
-    for name, data, capture in edges(rng):
-        if given == count:
-            return
-        yield name, data, capture
-        given += 1
-    while given < count:
-        family = FAMILIES[given % len(FAMILIES)]
-        yield ("%s %d" % (family.__name__, given),) + family(rng)
-        given += 1
+    return in_turn(edges(rng), FAMILIES, rng, count)

@@ -7,6 +7,7 @@ at random would almost always be refused for its first bytes.
 
 import random
 
+from families import in_turn
 from sheets_damaged import cut_short, damaged, edition_astray, field_edge, no_stream, noise, shuffled, wrong_kind
 from sheets_edges import edges
 from sheets_pnet import (
@@ -33,13 +34,4 @@ FAMILIES = [
 def sheets(seed, count):
     """Yield `count` pairs of a name and a sheet's bytes."""
     rng = random.Random(seed)
-    given = 0
-    for name, data in edges(rng):
-        if given == count:
-            return
-        yield name, data
-        given += 1
-    while given < count:
-        family = FAMILIES[given % len(FAMILIES)]
-        yield "%s %d" % (family.__name__, given), family(rng)
-        given += 1
+    return in_turn(edges(rng), FAMILIES, rng, count)

@@ -5,6 +5,7 @@ A search on them takes some thousand rounds at most, so that the page's own sequ
 
 import random
 
+from families import in_turn
 from second_opinion import urgent_figure
 from sheet_records import BILLION
 from sheets_pnet import pnet_edition, pnet_holds, pnet_sheet
@@ -230,14 +231,4 @@ def longest():
 
 def sheets(seed, count):
     """Yield `count` pairs of a name and a sheet's bytes: the edges, then the families in turn."""
-    made = 0
-    for one in edges():
-        if made == count:
-            return
-        yield one
-        made += 1
-    rng = random.Random("urgent sheets %d" % seed)
-    while made < count:
-        family = FAMILIES[made % len(FAMILIES)]
-        yield "%s %d" % (family.__name__, made), family(rng)
-        made += 1
+    return in_turn(edges(), FAMILIES, random.Random("urgent sheets %d" % seed), count)

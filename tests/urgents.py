@@ -11,6 +11,7 @@ import sheets
 import sheets_pnet
 import sheets_urgent
 import texts
+from families import in_turn
 from second_opinion import ANSWER, COUNTER, REQUEST, Refusal, urgent_first
 
 NO_CAPTURE = None
@@ -106,14 +107,4 @@ def edges():
 
 def urgents(seed, count):
     """Yield `count` triples of a name, a sheet and a capture, or none."""
-    made = 0
-    for one in edges():
-        if made == count:
-            return
-        yield one
-        made += 1
-    rng = random.Random("urgent %d" % seed)
-    while made < count:
-        family = FAMILIES[made % len(FAMILIES)]
-        yield ("%s %d" % (family.__name__, made),) + family(rng)
-        made += 1
+    return in_turn(edges(), FAMILIES, random.Random("urgent %d" % seed), count)

@@ -19,8 +19,8 @@ use Rattle.sheet_read.specs.Sheets.{Sheet, busIn}
 use Rattle.sheet_read.specs.Whole.{Outcome, orElse, reading}
 use Rattle.sheet_read.specs.Whole.Outcome.{Read, Not}
 use Rattle.pnet_rules.specs.Segment.{segmentOf}
+use Rattle.pnet_rules.specs.Bus.{OnBus}
 use Rattle.pnet_plan.specs.Planned.{segmentChecks, firstLate}
-use Rattle.pnet_plan.specs.Refusals.{OnBus}
 use Rattle.pnet_plan.proofs.Refusals.{first-fails, all-pass, fails-first, pass-first}
 use Rattle.capture_log.specs.Log.{fresh}
 use Rattle.capture_log.specs.Records.{heard}

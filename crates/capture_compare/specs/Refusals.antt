@@ -9,7 +9,8 @@ use Rattle.sheet_read.specs.Sheets.{Sheet, busIn}
 use Rattle.sheet_read.specs.Whole.{reading}
 use Rattle.sheet_read.specs.Whole.Outcome.{Read, Not}
 use Rattle.pnet_rules.specs.Segment.{segmentOf}
-use Rattle.pnet_plan.specs.Refusals.{Passes, FirstFails, OnBus}
+use Rattle.pnet_rules.specs.Bus.{OnBus}
+use Rattle.pnet_plan.specs.Refusals.{Passes, FirstFails}
 use Rattle.capture_log.specs.Refusals as log
 
 -- each run has a place for each of n streams

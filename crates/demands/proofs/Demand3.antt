@@ -16,6 +16,7 @@ use Rattle.units.specs.Units.{bp}
 use Rattle.units.specs.declared.BitPeriods.{BitPeriods}
 use Rattle.pnet_rules.specs.Segment.{Segment, segmentOf, count, bound, late}
 use Rattle.pnet_rules.specs.Limits.{Declared}
+use Rattle.pnet_rules.specs.Bus.{OnBus}
 use Rattle.pnet_rules.proofs.Declares.{declared}
 use Rattle.pnet_plan.specs.Planned.{planned, atPlace, runOf}
 use Rattle.pnet_plan.specs.Refusals as refusals
@@ -25,7 +26,7 @@ use Rattle.pnet_run.specs.Promise.{Spaced, Answered, Safe, Reached, Accepted, E
 use Rattle.pnet_run.proofs.Demand.{accepted-if-none-is-late, each-request-is-answered-within-the-bound, some-run-takes-exactly-the-bound, no-lower-figure-would-be-true}
 
 -- 'an accepted P-NET sheet': it is read, and each stream passes
-pub accepted-on-bus : (s : List ℕ) (H : Sheet) → refusals.OnBus s H → ((i : ℕ) → 1 ≤ i → i ≤ segmentOf H .number → refusals.Passes (segmentOf H) i)
+pub accepted-on-bus : (s : List ℕ) (H : Sheet) → OnBus s H → ((i : ℕ) → 1 ≤ i → i ≤ segmentOf H .number → refusals.Passes (segmentOf H) i)
     → Accepted (segmentOf H)
 unfolding late
 accepted-on-bus s H bus pass =

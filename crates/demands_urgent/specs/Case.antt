@@ -1,5 +1,5 @@
--- A sheet that urgent requests first accept and first come, first served refuses: one master with three streams of C = 203, the first with T = D = 500, the other two with
--- T = D = 100,000. Assumes nothing.
+-- A sheet that is accepted where urgent requests go first, and refused where the oldest do: one master with three streams of C = 203, the first with T = D = 500, the other
+-- two with T = D = 100,000. Assumes nothing.
 use Prim.Native.Nat.{ℕ}
 use mathlib.Core.List.{List, [], _∷_, _++_}
 use Rattle.sheet_record.specs.declared.Record.{Record}

@@ -73,24 +73,24 @@ module _ (S : Segment) (i y : ℕ) where
   unfolding count owns
   count-next = upto-more (λ j. when (owns S y j) 1) i
 
-  count-other : owns S y (i + 1) ≡ false → count (part S (i + 1)) y ≡ count (part S i) y
+  pub count-other : owns S y (i + 1) ≡ false → count (part S (i + 1)) y ≡ count (part S i) y
   count-other e = count-next ∙ rw e (omega arith)
 
-  count-own : owns S y (i + 1) ≡ true → count (part S (i + 1)) y ≡ count (part S i) y + 1
+  pub count-own : owns S y (i + 1) ≡ true → count (part S (i + 1)) y ≡ count (part S i) y + 1
   count-own e = count-next ∙ rw e
 
   -- no more than it has in all
-  count-part : i ≤ S .number → count (part S i) y ≤ count S y
+  pub count-part : i ≤ S .number → count (part S i) y ≤ count S y
   unfolding count owns
   count-part l = upto-part (λ j. when (owns S y j) 1) i (S .number) l
 
 module _ (S : Segment) (d : Declared S) (i : ℕ) (lt : i < S .number) (m : ℕ) (its : m ≡ S .stream (i + 1) .master) where
   -- its master m
-  owned : owns S m (i + 1) ≡ true
+  pub owned : owns S m (i + 1) ≡ true
   unfolding owns
   owned = eq-eqb (S .stream (i + 1) .master) m (sym its)
 
-  not-owned : (y : ℕ) → (y ≡ m → ⊥) → owns S y (i + 1) ≡ false
+  pub not-owned : (y : ℕ) → (y ≡ m → ⊥) → owns S y (i + 1) ≡ false
   unfolding owns
   not-owned y e = ne-eqb (S .stream (i + 1) .master) y (λ q. e (sym q ∙ sym its))
 
@@ -103,13 +103,14 @@ module _ (S : Segment) (d : Declared S) (i : ℕ) (lt : i < S .number) (m : ℕ)
   pub master-inside : m ≤ 32
   master-inside = omega (arith, master-to, d .masters-to)
 
+  -- one of its master's is still to come
+  pub fewer : count (part S i) m < count S m
+  fewer = omega (arith, count-own S i m owned, count-part S (i + 1) m (omega arith))
+
   module _ {ends slacks pairs : List ℕ} (g : Grouped S i ends slacks pairs) where
     -- the place for its pair: within those of its master
     place-is : at ends m ≡ start S m + count (part S i) m
     place-is = g .ends-are m master-from master-to
-
-    fewer : count (part S i) m < count S m
-    fewer = omega (arith, count-own S i m owned, count-part S (i + 1) m (omega arith))
 
     pub place-inside : at ends m < S .number
     place-inside = omega (arith, place-is, fewer, start-inside S d m master-from master-to)

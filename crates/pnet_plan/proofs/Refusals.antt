@@ -21,9 +21,10 @@ use Rattle.sheet_read.specs.Whole.{Outcome, orElse, reading}
 use Rattle.sheet_read.specs.Whole.Outcome.{Read, Not}
 use Rattle.sheet_read.proofs.Known.{both-fail}
 use Rattle.pnet_rules.specs.Segment.{Segment, segmentOf, bound, late}
+use Rattle.pnet_rules.specs.Bus.{OnBus}
 use Rattle.pnet_plan.specs.declared.answer.Plan.{Plan}
 use Rattle.pnet_plan.specs.Planned.{firstLate, planChecks, plannedBy, planned}
-use Rattle.pnet_plan.specs.Refusals.{Passes, FirstFails, OnBus, Room, Given, Accepted}
+use Rattle.pnet_plan.specs.Refusals.{Passes, FirstFails, Room, Given, Accepted}
 use Rattle.pnet_plan.specs.Refusals.Given.{unread, another-bus, no-room, too-late}
 use Rattle.pnet_plan.proofs.Cases.{planned-unread, planned-other, planned-short, planned-late, planned-read, Returned}
 

@@ -8,6 +8,7 @@ use Rattle.sheet_read.specs.Sheets.{Sheet, busIn, mastersOf}
 use Rattle.sheet_read.specs.Whole.{reading}
 use Rattle.sheet_read.specs.Whole.Outcome.{Read, Not}
 use Rattle.pnet_rules.specs.Segment.{Segment, segmentOf, bound}
+use Rattle.pnet_rules.specs.Bus.{OnBus}
 
 -- stream i passes: its master's R is at most its D
 pub record Passes (S : Segment) (i : ℕ) : Type 0 where
@@ -19,11 +20,6 @@ pub record FirstFails (S : Segment) (i : ℕ) : Type 0 where
   pub to : i ≤ S .number
   pub above : S .stream i .deadline < bound S (S .stream i .master)
   pub before : (j : ℕ) → 1 ≤ j → j < i → Passes S j
-
--- a P-NET sheet
-pub record OnBus (s : List ℕ) (H : Sheet) : Type 0 where
-  pub reads : reading s ≡ Read H
-  pub pnet : busIn H ≡ pnet
 
 -- each run has N places
 pub record Room (la lb lc N : ℕ) : Type 0 where

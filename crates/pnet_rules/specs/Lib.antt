@@ -2,3 +2,4 @@ pub mod Segment
 pub mod Search
 pub mod Refined
 pub mod Limits
+pub mod Bus

@@ -65,7 +65,6 @@ use Rattle.pnet_run.proofs.Waiting.{
   in-time-sooner,
   in-time-rest,
   in-time-each,
-  in-time-differs,
   in-time-snoc,
   room-for,
 }
@@ -289,18 +288,6 @@ module _ (S : Segment) (h : ℕ → ℕ) (k : ℕ) (1≤k : 1 ≤ k) (k≤n : k 
   pub answered-by : {t : ℕ} {y : Token} {q : Queues} {came : List Request} {went : List Answer}
       → Run S t y q came went → KeptApart came → Answered (bp (boundBy h S k)) S k t y came went
   answered-by = answered-in-time S k (boundBy h S k) KeptApart (λ r came apart i d. apart-before (apart i d)) (λ t y q came went. waits-in-time)
-
-  -- ---- What waits in k's queue
-
-  -- the first is of another stream than each behind it
-  pub first-differs : {t : ℕ} {y : Token} {q : Queues} {r p : Request} {rest came : List Request} {went : List Answer}
-      → Run S t y q came went → KeptApart came → q k ≡ r ∷ rest → List·Memᴰ p rest → r .of ≢ p .of
-  first-differs z apart e j = in-time-differs (rw e at (plain z (roomy z apart) .queue)) j
-
-  -- none is of the stream whose request arrives
-  pub none-waits : {t i : ℕ} {y : Token} {q : Queues} {came : List Request} {went : List Answer} → Run S t y q came went → Settled y → Belongs S k i
-      → KeptApart (request i t ∷ came) → (r : Request) → List·Memᴰ r (q k) → i ≢ r .of
-  none-waits z o d apart = alone z (roomy z (λ j e. apart-before (apart j e))) o d apart
 
   -- ---- The bound by another charge, with a surcharge for each used visit
 

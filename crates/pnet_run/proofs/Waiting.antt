@@ -57,9 +57,6 @@ module _ {turn : ℕ} {allowed : ℕ → ℕ} where
   pub in-time-rest : {x : ℕ} {r : Request} {l : List Request} → InTime turn allowed x (r ∷ l) → InTime turn allowed (x + turn) l
   in-time-rest (and o a g) = g
 
-  pub in-time-differs : {x : ℕ} {r s : Request} {l : List Request} → InTime turn allowed x (r ∷ l) → List·Memᴰ s l → r .of ≢ s .of
-  in-time-differs (and o a g) = absent-then a
-
   pub in-time-each : {x : ℕ} {l : List Request} {r : Request} → InTime turn allowed x l → List·Memᴰ r l → x ≤ r .since + allowed (r .since)
   in-time-each none j = absurd (List·Memᴰ·not-nil j)
   in-time-each {x} {l} {r} (and {r = s} {l = l′} o a g) j =

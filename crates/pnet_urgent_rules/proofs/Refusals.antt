@@ -21,10 +21,11 @@ use Rattle.sheet_read.specs.Whole.{Outcome, orElse, reading}
 use Rattle.sheet_read.specs.Whole.Outcome.{Read, Not}
 use Rattle.sheet_read.proofs.Known.{reading-read}
 use Rattle.pnet_rules.specs.Segment.{Segment, segmentOf, turn}
+use Rattle.pnet_rules.specs.Bus.{OnBus}
 use Rattle.pnet_rules.proofs.Declares.{declared}
 use Rattle.pnet_urgent_rules.specs.Urgent.{unmet}
 use Rattle.pnet_urgent_rules.specs.Planned.{firstUnmet, urgentChecks, urgentBy, urgently}
-use Rattle.pnet_urgent_rules.specs.Refusals.{Met, FirstUnmet, OnBus, Given, Accepted}
+use Rattle.pnet_urgent_rules.specs.Refusals.{Met, FirstUnmet, Given, Accepted}
 use Rattle.pnet_urgent_rules.specs.Refusals.Given.{unread, another-bus, no-room, not-met}
 use Rattle.pnet_urgent_rules.proofs.Right.{turn-some}
 use Rattle.pnet_urgent_rules.proofs.Figures.{met-if, met-then}

@@ -9,6 +9,7 @@ use Rattle.sheet_read.specs.Sheets.{Sheet, busIn}
 use Rattle.sheet_read.specs.Whole.{reading}
 use Rattle.sheet_read.specs.Whole.Outcome.{Read, Not}
 use Rattle.pnet_rules.specs.Segment.{Segment, segmentOf, turn}
+use Rattle.pnet_rules.specs.Bus.{OnBus}
 use Rattle.pnet_urgent_rules.specs.Urgent.{blocked, aheadIn}
 
 -- x solves stream i's equation
@@ -28,11 +29,6 @@ pub record FirstUnmet (S : Segment) (i : ℕ) : Type 0 where
   pub to : i ≤ S .number
   pub unmet : Met S i → ⊥
   pub before : (j : ℕ) → 1 ≤ j → j < i → Met S j
-
--- a P-NET sheet
-pub record OnBus (s : List ℕ) (H : Sheet) : Type 0 where
-  pub reads : reading s ≡ Read H
-  pub pnet : busIn H ≡ pnet
 
 -- a number and its place are given: the reading's own, then 3, 13, 21
 pub data Given (s : List ℕ) (room : ℕ) : ℕ → ℕ → Type 0 where

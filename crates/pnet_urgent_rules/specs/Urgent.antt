@@ -15,7 +15,7 @@ ahead S i j =
     owns S (S .stream i .master) j
     && (ltb (S .stream j .deadline) (S .stream i .deadline) || (eqb (S .stream j .deadline) (S .stream i .deadline) && ltb j i))
 
--- how many go ahead of stream i, and behind how many it goes ahead; its place in its master's order is one more than the first
+-- how many go ahead of stream i, and of how many it goes ahead; its place in its master's order is one more than the first
 unfoldable pub rank : Segment → ℕ → ℕ
 unfolding upto ahead
 rank S i = upto (λ j. when (ahead S i j) 1) (S .number)

@@ -2,7 +2,7 @@
 -- stream 3's request meanwhile, stream 1 waits for both, 709 bp: so its figure, 500, is no promise there. By one that takes its next when the answer is complete, it
 -- waits for one: 459 bp. Assumes nothing.
 use Prim.Native.Nat.{ℕ, _+_, _≤_}
-use mathlib.Core.Path.{refl}
+use mathlib.Core.Path.{_≡_, refl}
 use mathlib.Core.List.{List, [], _∷_, List·Memᴰ·head, List·Memᴰ·not-nil}
 use native.Mathlib.Omega.{arith}
 use Rattle.units.specs.Units.{bp}
@@ -48,6 +48,11 @@ under-way size fits =
     serve {c = 209} 1 7 203 second sent (omega arith) (omega arith) (omega arith) (omega arith) (omega arith) (omega arith)
 
 -- ---- A stack that takes the next request while one is under way
+
+-- it holds one while the token is on its way or with another master, and a second while a request of its own master is under way
+a-second-under-way : (besides 1 (toward 1 0) ≡ 1) × (besides 1 (serving 2 9) ≡ 1) × (besides 1 (serving 1 9) ≡ 2)
+unfolding besides
+a-second-under-way = (refl, refl, refl)
 
 abbrev pub went-early : List Answer
 went-early = answer (request 1 1) 710 ∷ answer (request 3 0) 460 ∷ answer (request 2 0) 210 ∷ []

@@ -4,19 +4,15 @@ use mathlib.Core.List.{List}
 use Prim.Native.Nat.{ℕ, zero, suc, _+_, _*_, _/_, _≤_, _<_, zero-le}
 use native.Mathlib.Nat.{zero-mul, mul-comm, add-mul, mul-left-comm, mul-le-mul-left, mul-le-mul-right, le-of-mul-le-mul-left, div-mul-le-self, div-lt-iff-lt-mul}
 use native.Mathlib.Decide.{ℕ-discrete}
-use native.Mathlib.Numerals.{add-one}
 use native.Mathlib.Omega.{arith}
 use Rattle.common.specs.Sums.{sum, up}
 use Rattle.common.proofs.Sums.{up-covers}
 use Rattle.pnet_turn.specs.Turn.{at}
+use Rattle.pnet_urgent_table.proofs.Blocks.{sum-more}
 use Rattle.pnet_urgent_search.specs.Walks.{slotsFor}
 use Rattle.pnet_urgent_search.specs.Steps.{load}
 
 -- ---- Sums from 0
-
-pub sum-more : (f : ℕ → ℕ) (n : ℕ) → sum f (n + 1) ≡ sum f n + f n
-unfolding sum
-sum-more f n = rw add-one refl
 
 pub sum-rises : (f g : ℕ → ℕ) (n : ℕ) → ((j : ℕ) → j < n → f j ≤ g j) → sum f n ≤ sum g n
 unfolding sum

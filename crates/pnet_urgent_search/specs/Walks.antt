@@ -9,11 +9,11 @@ use Rattle.common.specs.Sums.{sum, up}
 use Rattle.pnet_rules.specs.Search.{valueFrom, Settles}
 use Rattle.pnet_turn.specs.Turn.{at}
 
--- b of the stream at place i of L
+-- b of the stream at place i of L, from 0: nothing waits behind the last
 abbrev pub blockedAt : ℕ → ℕ → ℕ
 blockedAt L i = cond (eqb (i + 1) L) 0 1
 
--- the right side in slots, for the stream at place i of L: the L - 1 places before it are ahead
+-- the right side in slots, for the stream at place i of L, from 0: the i before it go ahead
 unfoldable pub slotsFor : ℕ → List ℕ → List ℕ → ℕ → ℕ → ℕ → ℕ
 unfolding sum up
 slotsFor V' Ts Js L i n = 1 + blockedAt L i + sum (λ j. up (V' * n + at Js j) (at Ts j)) i

@@ -51,7 +51,7 @@ due-all k due e = rw e at due
 
 -- ---- Sums
 
-sum-more : (f : ℕ → ℕ) (n : ℕ) → sum f (n + 1) ≡ sum f n + f n
+pub sum-more : (f : ℕ → ℕ) (n : ℕ) → sum f (n + 1) ≡ sum f n + f n
 unfolding sum
 sum-more f n = rw add-one refl
 

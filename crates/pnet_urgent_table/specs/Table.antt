@@ -1,5 +1,5 @@
 -- Page 02, 'Ask 11': how often the streams of one master ask, laid out on a block of slots. A slot is one turn of the token, V bp, so n slots are V·n bp; every value of the
--- search for x is one. T and J of the streams stand in lists, the most urgent first. Assumes nothing.
+-- search for x is a whole number of slots. T and J of the streams stand in lists, the most urgent first. Assumes nothing.
 use Prim.Native.Nat.{ℕ, _+_, _-_, _*_, _≤_, _<_}
 use mathlib.Core.Path.{_≡_}
 use mathlib.Core.List.{List}
