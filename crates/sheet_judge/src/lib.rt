@@ -71,12 +71,12 @@ pub fn stream_in_range(bus: u8, given: Given, r: Record) -> bool
     }
 }
 
-// Behind a first record of this kind, the record of the edition stands at a place: page 02, Ask 10, allows it behind a P-NET segment.
-pub fn edition_stands(first: u8, s: &[u8], at: usize) -> bool
-    ensures { λ r. ⌜ r ≡ (eqb first 1 && eqb (getD (now (s .entry)) at 0) 8) ⌝ }
+// A record of this kind begins at a place. Past the sheet's end stands none, which is kind 0.
+pub fn stands(s: &[u8], at: usize, kind: u8) -> bool
+    ensures { λ r. ⌜ r ≡ eqb (getD (now (s .entry)) at 0) kind ⌝ }
 {
     if s.len() <= at {
-        return false;
+        return kind == 0;
     }
-    (first == 1) & (s[at] == 8)
+    s[at] == kind
 }

@@ -1,4 +1,4 @@
--- Page 01, 'Sheet records', and page 02, Asks 7 and 10: the range of every field, kind by kind, in the order of the page's table. Assumes nothing.
+-- Page 01, 'Sheet records', and page 02, Asks 7, 8 and 10: the range of every field, kind by kind, in the order of the page's table. Assumes nothing.
 use Prim.Native.Nat.{ℕ, _-_, _≤_}
 use mathlib.Core.Path.{_≡_}
 use Rattle.sheet_record.specs.declared.Given.{Given}
@@ -73,6 +73,22 @@ pub record EditionRanges (r : Record) : Type 0 where
   pub edition : Range 1 (r .a) 2
   pub one-field : OneField r
 
+-- 9, PROFIBUS ring whose masters each have their own longest message: masters n 1..32, ring latency L 1..100,000 bp
+pub record OpenRingRanges (r : Record) : Type 0 where
+  pub masters : Range 1 (r .a) 32
+  pub latency : Range 1 (r .b) 100000
+  pub no-c : r .c ≡ 0
+  pub no-d : r .d ≡ 0
+  pub no-e : r .e ≡ 0
+
+-- 10, the longest message of one master: master 1..n, longest message 1..100,000 bp
+pub record MessageRanges (g : Given) (r : Record) : Type 0 where
+  pub master : Range 1 (r .a) (g .masters)
+  pub message : Range 1 (r .b) 100000
+  pub no-c : r .c ≡ 0
+  pub no-d : r .d ≡ 0
+  pub no-e : r .e ≡ 0
+
 -- ---- A record of any kind
 
 -- a record of a kind of the page, every field in its range; N or n, and M, are what is given
@@ -85,3 +101,5 @@ pub data InPage (g : Given) (r : Record) : Type 0 where
   variable : r .kind ≡ 6 → VariableRanges r → InPage g r
   jitter-stream : r .kind ≡ 7 → JitterStreamRanges g r → InPage g r
   edition : r .kind ≡ 8 → EditionRanges r → InPage g r
+  open-ring : r .kind ≡ 9 → OpenRingRanges r → InPage g r
+  master-message : r .kind ≡ 10 → MessageRanges g r → InPage g r

@@ -1,4 +1,4 @@
-// The ranges of a record's fields, page 01 'Sheet records' and page 02 'Ask 7' and 'Ask 10': judging one record, behind what is given.
+// The ranges of a record's fields, page 01 'Sheet records' and page 02 'Ask 7', 'Ask 8' and 'Ask 10': judging one record, behind what is given.
 use sheet_record::Given;
 use sheet_record::Record;
 ghost use mathlib.Core.Bool.{_&&_};
@@ -23,6 +23,10 @@ fn fits_behind(t: u32, d: u32, j: u32) -> bool
 
 // The longest cycle C of a P-NET stream is at most so many bp.
 const CYCLE: u32 = 1548;
+
+// So are the ring latency L and a longest message.
+const LATENCY: u32 = 100000;
+const MESSAGE: u32 = 100000;
 
 // A record of a kind with every field in its range, behind what is given. A field that the kind does not have is 0. All tests are made at
 // once, with no branch between them.
@@ -53,9 +57,9 @@ pub fn in_range_of(kind: u8, given: Given, r: Record) -> bool
         3 => (1 <= a)
             & (a <= 32)
             & (1 <= b)
-            & (b <= 100000)
+            & (b <= LATENCY)
             & (1 <= c)
-            & (c <= 100000)
+            & (c <= MESSAGE)
             & (d == 0)
             & (e == 0),
         4 => (1 <= a)
@@ -76,6 +80,20 @@ pub fn in_range_of(kind: u8, given: Given, r: Record) -> bool
             & (c <= 1000000000)
             & fits_behind(c, d, e),
         8 => (1 <= a) & (a <= 2) & (b == 0) & (c == 0) & (d == 0) & (e == 0),
+        9 => (1 <= a)
+            & (a <= 32)
+            & (1 <= b)
+            & (b <= LATENCY)
+            & (c == 0)
+            & (d == 0)
+            & (e == 0),
+        10 => (1 <= a)
+            & (a <= masters)
+            & (1 <= b)
+            & (b <= MESSAGE)
+            & (c == 0)
+            & (d == 0)
+            & (e == 0),
         _ => (a == 0) & (b == 0) & (c == 0) & (d == 0) & (e == 0),
     }
 }

@@ -52,9 +52,13 @@ pub record Known (s : List ℕ) (S : Sheet) : Type 0 where
   -- the streams are of its bus, and in range behind it
   pub kinds : (i : ℕ) → i < length (S .streams) → isStreamOf (busIn S) (getD (S .streams) i nothing .kind) ≡ true
   pub ranged : (i : ℕ) → i < length (S .streams) → inRange (given S (getD (S .streams) i nothing .a)) (getD (S .streams) i nothing) ≡ true
-  -- one setting at most, which is the edition
-  pub few-settings : length (S .settings) ≤ 1
-  pub setting-kinds : (i : ℕ) → i < length (S .settings) → getD (S .settings) i nothing .kind ≡ 8
+  -- the settings: the edition of a P-NET sheet, or a longest message of each master, once, behind a ring of kind 9
+  pub few-settings : length (S .settings) ≤ 32
+  pub setting-kinds : (i : ℕ) → i < length (S .settings) → getD (S .settings) i nothing .kind ≡ 8 ⊎ getD (S .settings) i nothing .kind ≡ 10
+  pub each-message : S .head .kind ≡ 9 → (y : ℕ) → 1 ≤ y → y ≤ S .head .a → countOf y (S .settings) ≡ 1
+  -- every master's longest message is in its range, and counts as no more for any number
+  pub messages : busIn S ≡ 3 → (y : ℕ) → 1 ≤ y → y ≤ S .head .a → (1 ≤ messageOf S y) × (messageOf S y ≤ 100000)
+  pub messages-short : (y : ℕ) → messageOf S y ≤ 100000
   -- the edition that the bytes say, 1 or 2
   pub edition : busIn S ≡ 1 → editionAt s ≡ editionOf S
   pub editions : busIn S ≡ 1 → (1 ≤ editionOf S) × (editionOf S ≤ 2)

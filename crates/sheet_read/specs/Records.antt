@@ -7,9 +7,9 @@ use mathlib.Core.List.{List, [], _∷_, _++_}
 use lib.ListN.{length, getD, take}
 use Rattle.sheet_record.specs.declared.Record.{Record}
 use Rattle.sheet_write.specs.declared.Put.the-variants as put
-use Rattle.sheet_record.specs.Kinds.{known, encode, inRange, nothing}
+use Rattle.sheet_record.specs.Kinds.{known, isStream, encode, inRange, nothing}
 use Rattle.sheet_write.specs.Writing.{putAnswer, putBytes}
-use Rattle.sheet_read.specs.Sheets.{Sheet, sheetOf, given, fits, overLimit, metBefore}
+use Rattle.sheet_read.specs.Sheets.{Sheet, sheetOf, given, fits, lacking, repeated, overLimit, metBefore}
 
 -- the records of a sheet: the first one, its settings, its streams
 unfoldable pub recordsIn : Sheet → List Record
@@ -28,6 +28,8 @@ pub record Follows (before : List Record) (r : Record) : Type 0 where
   pub is-known : known (r .kind) ≡ true
   pub is-right : fits (sheetOf before) (r .kind) ≡ true
   pub is-ranged : inRange (given (sheetOf before) (r .a)) r ≡ true
+  pub first-of-master : repeated (sheetOf before) r ≡ false
+  pub none-missing : isStream (r .kind) ≡ true → lacking (sheetOf before) ≡ false
   pub in-limits : overLimit (sheetOf before .streams) r ≡ false
   pub is-new : metBefore (sheetOf before .streams) r ≡ false
 

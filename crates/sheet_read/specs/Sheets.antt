@@ -1,6 +1,6 @@
--- Page 01, 'Sheet records': what a sheet says, what it sets for the records behind it, and the limits on them. What stands before a record is
--- a sheet too, one that may yet grow. Assumes nothing.
-use Prim.Native.Nat.{ℕ, suc, _+_, max}
+-- Page 01, 'Sheet records', and page 02, Asks 8 and 10: what a sheet says, what it sets for the records behind it, and the limits on them. What stands before a
+-- record is a sheet too, one that may yet grow. Assumes nothing.
+use Prim.Native.Nat.{ℕ, zero, suc, _+_, max}
 use mathlib.Core.List.{List, [], _∷_}
 use mathlib.Core.Bool.{Bool, true, false, cond, not, _&&_, _||_}
 use lib.ListN.{length, getD}
@@ -11,6 +11,7 @@ use Rattle.sheet_record.specs.declared.Record.{Record}
 use Rattle.sheet_record.specs.Kinds.{nothing, worldfip, busOf, partOf, isSetting, isStream, Part, Times}
 use Rattle.sheet_record.specs.Kinds.Part.{no-part, first, setting, stream}
 use Rattle.sheet_record.specs.Kinds.Times.{once, often}
+use Rattle.sheet_messages.specs.Messages.{messageBy}
 
 -- its first record, its settings, and its streams (or variables) in sheet order
 pub record Sheet : Type 0 where
@@ -33,6 +34,17 @@ unfoldable pub sheetOf : List Record → Sheet
 unfolding headOf having isSetting isStream
 sheetOf rs = record { head = headOf rs; settings = having isSetting rs; streams = having isStream rs }
 
+-- how many of these records have x in their first field: the master of a stream or of a longest message, the identifier of a variable
+unfoldable pub countOf : ℕ → List Record → ℕ
+countOf x [] = 0
+countOf x (r ∷ rs) = when (eqb (r .a) x) 1 + countOf x rs
+
+-- the greatest second field of those of these records that have x in their first, and 0 if there are none: the longest C of a master's streams, or its
+-- longest message
+unfoldable pub longestOf : ℕ → List Record → ℕ
+longestOf x [] = 0
+longestOf x (r ∷ rs) = max (when (eqb (r .a) x) (r .b)) (longestOf x rs)
+
 -- ---- What a sheet sets for a record behind it
 
 -- the bus that it is for
@@ -43,9 +55,11 @@ busIn S = busOf (S .head .kind)
 abbrev pub mastersOf : Sheet → ℕ
 mastersOf S = S .head .a
 
--- M of master y, of PROFIBUS
-abbrev pub messageOf : Sheet → ℕ → ℕ
-messageOf S y = S .head .c
+-- M of master y, of PROFIBUS: that of the ring, which kind 3 has for all masters; behind kind 9 (page 02, Ask 8) that of y's own record, and
+-- 100,000 where it has none
+unfoldable pub messageOf : Sheet → ℕ → ℕ
+unfolding longestOf messageBy
+messageOf S y = cond (eqb (S .head .kind) 9) (messageBy (longestOf y (S .settings))) (S .head .c)
 
 -- the edition of the P-NET rule (page 02, Ask 10): that of its setting, and 1 where it has none
 abbrev pub editionBy : List Record → ℕ
@@ -83,17 +97,25 @@ unfoldable pub fits : Sheet → ℕ → Bool
 unfolding partOf busOf ofKind
 fits S k = placed S k (partOf k)
 
+-- ---- Longest messages, behind kind 9
+
+-- one of masters 1..n has none among these
+unfoldable pub lacksOf : ℕ → List Record → Bool
+unfolding countOf
+lacksOf zero settings = false
+lacksOf (suc n) settings = lacksOf n settings || eqb (countOf (suc n) settings) 0
+
+-- a master's longest message is missing
+unfoldable pub lacking : Sheet → Bool
+unfolding lacksOf
+lacking S = eqb (S .head .kind) 9 && lacksOf (mastersOf S) (S .settings)
+
+-- r is a longest message of a master that has one before
+unfoldable pub repeated : Sheet → Record → Bool
+unfolding countOf
+repeated S r = eqb (r .kind) 10 && ltb 0 (countOf (r .a) (S .settings))
+
 -- ---- Limits
-
--- how many of these records have x in their first field: the master of a stream, the identifier of a variable
-unfoldable pub countOf : ℕ → List Record → ℕ
-countOf x [] = 0
-countOf x (r ∷ rs) = when (eqb (r .a) x) 1 + countOf x rs
-
--- the greatest second field of those of these records that have x in their first, and 0 if there are none: the longest C of a master's streams
-unfoldable pub longestOf : ℕ → List Record → ℕ
-longestOf x [] = 0
-longestOf x (r ∷ rs) = max (when (eqb (r .a) x) (r .b)) (longestOf x rs)
 
 -- streams in all, by the bus: 800, and 64 variables
 unfoldable pub mostInAll : ℕ → ℕ

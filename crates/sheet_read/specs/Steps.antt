@@ -3,16 +3,19 @@
 use Prim.Native.Nat.{ℕ, suc, _+_, _≤_, _<_}
 use mathlib.Core.Path.{_≡_}
 use mathlib.Core.List.{List, []}
-use mathlib.Core.Bool.{true, false, cond}
+use mathlib.Core.Bool.{Bool, true, false, cond}
 use lib.ListN.{length, getD}
 use lib.Dec.{eqb}
 use Rattle.sheet_record.specs.declared.Record.{Record}
 use Rattle.sheet_record.specs.declared.Met.{Met}
 use Rattle.sheet_record.specs.Kinds.{isSetting, decode, metOf}
 use Rattle.common.specs.Checks.Verdict.{Passed}
-use Rattle.sheet_read.specs.Sheets.{Sheet, busIn, sheetOf, fits}
-use Rattle.sheet_read.specs.Whole.{Outcome, placeOf, before, firstStream, judge, reading}
+use Rattle.common.specs.Runs.{tab}
+use Rattle.sheet_read.specs.Sheets.{Sheet, busIn, messageOf, lacking, sheetOf, fits}
+use Rattle.sheet_read.specs.Whole.{Outcome, placeOf, before, firstStream, judge, reading, told}
 use Rattle.sheet_read.specs.Whole.Outcome.{Read, Not}
+use Rattle.sheet_read.specs.declared.Reading.the-variants as answer
+use Rattle.sheet_read.specs.declared.Settings.{Settings}
 
 -- the first record of the sheet passed: it is `head`, and the place behind it is `first`
 pub record Begun (s : List ℕ) (head : Record) (first : ℕ) : Type 0 where
@@ -21,8 +24,9 @@ pub record Begun (s : List ℕ) (head : Record) (first : ℕ) : Type 0 where
   pub is-head : head ≡ decode s 0
   pub is-first : first ≡ placeOf s 1
 
--- it and the settings behind it passed, c of them; the place behind those is `first`, and no setting that fits stands there
-pub record Opened (s : List ℕ) (head : Record) (first : ℕ) : Type 0 where
+-- it and the settings behind it passed, c of them; the place behind those is `first`, and no setting that fits stands there. Place y of `messages` has the
+-- longest message of master y, and `lacks` says whether one is missing
+pub record Opened (s : List ℕ) (head : Record) (first : ℕ) (messages : List ℕ) (lacks : Bool) : Type 0 where
   pub c : ℕ
   pub inside : (i : ℕ) → i ≤ c → placeOf s i < length s
   pub passed : (i : ℕ) → i ≤ c → judge s i ≡ Passed
@@ -30,6 +34,13 @@ pub record Opened (s : List ℕ) (head : Record) (first : ℕ) : Type 0 where
   pub is-head : head ≡ decode s 0
   pub is-first : first ≡ placeOf s (suc c)
   pub ends : isSetting (getD s first 0) ≡ true → fits (before s (suc c)) (getD s first 0) ≡ false
+  pub limits : messages ≡ tab (messageOf (before s (suc c))) 33
+  pub is-lacking : lacks ≡ lacking (before s (suc c))
+
+-- what the settings come to: one of them is refused, as reading refuses the sheet, or all passed
+pub record Settles (s : List ℕ) (head : Record) (messages : List ℕ) (r : Settings) : Type 0 where
+  pub refused : (r .no ≡ 0 → ⊥) → answer.Refused (r .no) (r .at) ≡ told s (reading s)
+  pub opened : r .no ≡ 0 → Opened s head (r .at) messages (r .lacks)
 
 -- ---- What a planner goes by
 

@@ -1,16 +1,16 @@
--- Page 01, 'Numbered refusals' 1..7: reading goes record by record, in a record the order is 2, 3, 1, 4, 5, 7, and number 6 comes
+-- Page 01, 'Numbered refusals' 1..7, and page 02, Ask 8: reading goes record by record, in a record the order is 2, 3, 1, 4, 20, 5, 7; 20 and then 6 come
 -- at the end. Assumes nothing.
 use Prim.Native.Nat.{ℕ, zero, suc, _+_}
 use mathlib.Core.List.{List, [], _∷_, _++_}
-use mathlib.Core.Bool.{cond, not}
+use mathlib.Core.Bool.{cond, not, _&&_, _||_}
 use lib.ListN.{length, getD}
 use lib.Dec.{ltb, eqb}
 use Rattle.common.specs.Checks.{Check, check, Verdict, verdict}
 use Rattle.common.specs.Checks.Verdict.{Passed, Refused}
 use Rattle.common.specs.Runs.{tab}
 use Rattle.sheet_record.specs.declared.Record.{Record}
-use Rattle.sheet_record.specs.Kinds.{worldfip, known, sizeOf, decode, inRange}
-use Rattle.sheet_read.specs.Sheets.{Sheet, busIn, given, countOf, longestOf, sheetOf, fits, overLimit, metBefore}
+use Rattle.sheet_record.specs.Kinds.{worldfip, known, isStream, sizeOf, decode, inRange}
+use Rattle.sheet_read.specs.Sheets.{Sheet, busIn, given, messageOf, countOf, longestOf, sheetOf, fits, lacking, repeated, overLimit, metBefore}
 use Rattle.sheet_read.specs.declared.Reading.{Reading}
 use Rattle.sheet_read.specs.declared.Reading.the-variants as answer
 
@@ -37,20 +37,23 @@ before s i = sheetOf (recordsOf s i)
 
 -- those of a record r of the sheet s, at a place behind S
 unfoldable pub recordChecks : List ℕ → Sheet → ℕ → Record → List Check
-unfolding known fits sizeOf inRange overLimit metBefore
+unfolding known fits sizeOf inRange repeated lacking overLimit metBefore
 recordChecks s S at r =
     check 2 (not (known (r .kind))) at
     ∷ check 3 (not (fits S (r .kind))) at
     ∷ check 1 (ltb (length s) (at + sizeOf (r .kind))) at
     ∷ check 4 (not (inRange (given S (r .a)) r)) at
+    ∷ check 20 (repeated S r || (isStream (r .kind) && lacking S)) at
     ∷ check 5 (overLimit (S .streams) r) at
     ∷ check 7 (metBefore (S .streams) r) at
     ∷ []
 
--- those of a sheet of n bytes that ends behind S: no first record, no stream
+-- those of a sheet of n bytes that ends behind S: no first record, a longest message missing, no stream
 unfoldable pub endChecks : ℕ → Sheet → List Check
+unfolding lacking
 endChecks n S =
     check 1 (eqb (S .head .kind) 0) 0
+    ∷ check 20 (lacking S) n
     ∷ check 6 (eqb (length (S .streams)) 0) n
     ∷ []
 
@@ -120,3 +123,8 @@ countsTold o old = byMaster streamsOfMaster o old
 unfoldable pub longestsTold : Outcome → List ℕ → List ℕ
 unfolding longestOfMaster tab
 longestsTold o old = byMaster longestOfMaster o old
+
+-- and its longest message, which on P-NET is 0
+unfoldable pub messagesTold : Outcome → List ℕ → List ℕ
+unfolding messageOf tab
+messagesTold o old = byMaster messageOf o old

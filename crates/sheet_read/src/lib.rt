@@ -1,10 +1,11 @@
-// Reading a whole sheet, page 01 'Sheet records' and 'Numbered refusals' 1..7, and page 02 'Ask 7' and 'Ask 10'.
+// Reading a whole sheet, page 01 'Sheet records' and 'Numbered refusals' 1..7, and page 02 'Ask 7', 'Ask 8' and 'Ask 10'.
 pub use sheet_keep::MOST;
 use sheet_record::Given;
 use sheet_record::Record;
 ghost use mathlib.Core.Path.{_≡_};
-ghost use Rattle.sheet_read.specs.Steps.{editionAt, Begun, Opened};
-ghost use Rattle.sheet_read.specs.Whole.{told, countsTold, longestsTold, reading};
+ghost use lib.ListN.{getD, replicate};
+ghost use Rattle.sheet_read.specs.Steps.{editionAt, Begun, Opened, Settles};
+ghost use Rattle.sheet_read.specs.Whole.{told, countsTold, longestsTold, messagesTold, reading};
 
 // What reading a sheet answers.
 pub enum Reading {
@@ -21,24 +22,32 @@ pub enum Reading {
     },
 }
 
+// What the settings of a sheet come to, which stand between its first record and its streams: the number of a refusal and its place; or 0, the place
+// just after them, and whether a master's longest message is missing.
+pub struct Settings {
+    pub no: u8,
+    pub at: usize,
+    pub lacks: bool,
+}
+
 // Reads the streams behind a first record and settings that passed, up to the sheet's end or the first refusal.
 fn read_streams(
     s: &[u8],
     head: Record,
     first: usize,
+    messages: &[u32; 33],
+    lacks: bool,
     counted: &mut [u8; 33],
     longest: &mut [u32; 33],
+    handed: &mut [u32; 33],
 ) -> Reading
-    requires { ⌜ Opened (now s) head first ⌝ }
+    requires { ⌜ Opened (now s) head first (now messages) lacks ⌝ }
     ensures { λ r. ⌜ r ≡ told (now (s .entry)) (reading (now (s .entry))) ⌝ }
     ensures { λ _. ⌜ now (counted .exit) ≡ countsTold (reading (now (s .entry))) (now (counted .entry)) ⌝ }
     ensures { λ _. ⌜ now (longest .exit) ≡ longestsTold (reading (now (s .entry))) (now (longest .entry)) ⌝ }
+    ensures { λ _. ⌜ now (handed .exit) ≡ messagesTold (reading (now (s .entry))) (now (handed .entry)) ⌝ }
 {
     let bus = sheet_record::bus_of(head.kind);
-    let given = Given {
-        masters: head.a,
-        message: head.c,
-    };
     let mut counts: [u8; 33] = [0; 33];
     let mut longests: [u32; 33] = [0; 33];
     let mut ids: [u32; 64] = [0; 64];
@@ -49,10 +58,17 @@ fn read_streams(
         let right = sheet_judge::is_stream(bus, kind);
         let met = sheet_judge::stream_at(s, at, bus);
         let stream = met.found;
+        let given = Given {
+            masters: head.a,
+            message: sheet_messages::message_of(messages, stream.a),
+        };
         let ranged = sheet_judge::stream_in_range(bus, given, stream);
         let own = sheet_judge::own_no(kind, right, met.next != at, ranged);
         if own != 0 {
             return Reading::Refused { no: own, place: at };
+        }
+        if lacks {
+            return Reading::Refused { no: 20, place: at };
         }
         let late = sheet_keep::late_no(&counts, &ids, n, stream);
         if late != 0 {
@@ -67,7 +83,7 @@ fn read_streams(
     }
     if n == 0 {
         return Reading::Refused {
-            no: 6,
+            no: if lacks { 20 } else { 6 },
             place: s.len(),
         };
     }
@@ -81,49 +97,133 @@ fn read_streams(
     }
     *counted = counts;
     *longest = longests;
+    *handed = *messages;
     accepted
 }
 
-// Reads what stands behind a first record that passed: the edition, where it is given, and the streams.
+// Passes the edition, which stands behind a P-NET segment.
+fn pass_edition(s: &[u8], head: Record, first: usize) -> Settings
+    requires { ⌜ Begun (now s) head first ⌝ }
+    requires { ⌜ (head .kind ≡ 1) × (getD (now s) first 0 ≡ 8) ⌝ }
+    ensures { λ r. ⌜ Settles (now (s .entry)) head (replicate 33 0) r ⌝ }
+{
+    let met = sheet_record::record_of(s, first, 8);
+    let given = Given {
+        masters: head.a,
+        message: head.c,
+    };
+    let ranged = sheet_ranges::in_range_of(8, given, met.found);
+    let no = sheet_judge::own_no(8, true, met.next != first, ranged);
+    Settings {
+        no,
+        at: if no == 0 { met.next } else { first },
+        lacks: false,
+    }
+}
+
+// Passes the longest messages, which stand behind a ring that has none itself: each master's once. Those that are given are kept, at place y that of
+// master y.
+fn pass_messages(s: &[u8], head: Record, first: usize, messages: &mut [u32; 33]) -> Settings
+    requires { ⌜ Begun (now s) head first ⌝ }
+    requires { ⌜ head .kind ≡ 9 ⌝ }
+    requires { ⌜ now messages ≡ replicate 33 0 ⌝ }
+    ensures { λ r. ⌜ Settles (now (s .entry)) head (now (messages .exit)) r ⌝ }
+{
+    let given = Given {
+        masters: head.a,
+        message: 0,
+    };
+    let mut at = first;
+    while sheet_judge::stands(s, at, 10) {
+        let met = sheet_record::record_of(s, at, 10);
+        let message = met.found;
+        let ranged = sheet_ranges::in_range_of(10, given, message);
+        let own = sheet_judge::own_no(10, true, met.next != at, ranged);
+        if own != 0 {
+            return Settings {
+                no: own,
+                at,
+                lacks: false,
+            };
+        }
+        let master = message.a as usize;
+        if messages[master] != 0 {
+            return Settings {
+                no: 20,
+                at,
+                lacks: false,
+            };
+        }
+        messages[master] = message.b;
+        at = met.next;
+    }
+    let lacks = sheet_messages::lacks(messages, head.a);
+    sheet_messages::count_missing(messages);
+    Settings { no: 0, at, lacks }
+}
+
+// Passes the settings of a sheet, and tells the longest message that counts for each master.
+fn pass_settings(s: &[u8], head: Record, first: usize, messages: &mut [u32; 33]) -> Settings
+    requires { ⌜ Begun (now s) head first ⌝ }
+    ensures { λ r. ⌜ Settles (now (s .entry)) head (now (messages .exit)) r ⌝ }
+{
+    let kind = head.kind;
+    // M of kind 3 holds for every master; the other kinds have none, and 0 there.
+    *messages = [head.c; 33];
+    if kind == 9 {
+        return pass_messages(s, head, first, messages);
+    }
+    if kind == 1 {
+        if sheet_judge::stands(s, first, 8) {
+            return pass_edition(s, head, first);
+        }
+    }
+    Settings {
+        no: 0,
+        at: first,
+        lacks: false,
+    }
+}
+
+// Reads what stands behind a first record that passed: the settings, where there are some, and the streams.
 fn read_behind(
     s: &[u8],
     head: Record,
     first: usize,
     counts: &mut [u8; 33],
     longests: &mut [u32; 33],
+    handed: &mut [u32; 33],
 ) -> Reading
     requires { ⌜ Begun (now s) head first ⌝ }
     ensures { λ r. ⌜ r ≡ told (now (s .entry)) (reading (now (s .entry))) ⌝ }
     ensures { λ _. ⌜ now (counts .exit) ≡ countsTold (reading (now (s .entry))) (now (counts .entry)) ⌝ }
     ensures { λ _. ⌜ now (longests .exit) ≡ longestsTold (reading (now (s .entry))) (now (longests .entry)) ⌝ }
+    ensures { λ _. ⌜ now (handed .exit) ≡ messagesTold (reading (now (s .entry))) (now (handed .entry)) ⌝ }
 {
-    let mut streams = first;
-    if sheet_judge::edition_stands(head.kind, s, first) {
-        let met = sheet_record::record_at(s, first);
-        let given = Given {
-            masters: head.a,
-            message: head.c,
+    let mut messages: [u32; 33] = [0; 33];
+    let settings = pass_settings(s, head, first, &mut messages);
+    if settings.no != 0 {
+        return Reading::Refused {
+            no: settings.no,
+            place: settings.at,
         };
-        let ranged = sheet_ranges::in_range(given, met.found);
-        let own = sheet_judge::own_no(8, true, met.next != first, ranged);
-        if own != 0 {
-            return Reading::Refused {
-                no: own,
-                place: first,
-            };
-        }
-        streams = met.next;
     }
     // One call, so that it is taken in here, where the first record's kind is known: each bus has its own loop then.
-    read_streams(s, head, streams, counts, longests)
+    read_streams(s, head, settings.at, &messages, settings.lacks, counts, longests, handed)
 }
 
 // What a whole sheet is: accepted, or refused with a number and a place. One pass reads it and gathers what the planners ask of a master: it
-// hands over, where the sheet is accepted, at place k the number of master k's streams and the longest C of them.
-pub fn read_gathering(s: &[u8], counts: &mut [u8; 33], longests: &mut [u32; 33]) -> Reading
+// hands over, where the sheet is accepted, at place k the number of master k's streams, the longest C of them, and its longest message.
+pub fn read_whole(
+    s: &[u8],
+    counts: &mut [u8; 33],
+    longests: &mut [u32; 33],
+    messages: &mut [u32; 33],
+) -> Reading
     ensures { λ r. ⌜ r ≡ told (now (s .entry)) (reading (now (s .entry))) ⌝ }
     ensures { λ _. ⌜ now (counts .exit) ≡ countsTold (reading (now (s .entry))) (now (counts .entry)) ⌝ }
     ensures { λ _. ⌜ now (longests .exit) ≡ longestsTold (reading (now (s .entry))) (now (longests .entry)) ⌝ }
+    ensures { λ _. ⌜ now (messages .exit) ≡ messagesTold (reading (now (s .entry))) (now (messages .entry)) ⌝ }
 {
     if s.len() == 0 {
         return Reading::Refused { no: 1, place: 0 };
@@ -141,10 +241,30 @@ pub fn read_gathering(s: &[u8], counts: &mut [u8; 33], longests: &mut [u32; 33])
     if own != 0 {
         return Reading::Refused { no: own, place: 0 };
     }
-    read_behind(s, head, met.next, counts, longests)
+    read_behind(s, head, met.next, counts, longests, messages)
 }
 
-// The same for callers that need no cycles.
+// The same for callers that need no longest messages, as those of P-NET.
+pub fn read_gathering(s: &[u8], counts: &mut [u8; 33], longests: &mut [u32; 33]) -> Reading
+    ensures { λ r. ⌜ r ≡ told (now (s .entry)) (reading (now (s .entry))) ⌝ }
+    ensures { λ _. ⌜ now (counts .exit) ≡ countsTold (reading (now (s .entry))) (now (counts .entry)) ⌝ }
+    ensures { λ _. ⌜ now (longests .exit) ≡ longestsTold (reading (now (s .entry))) (now (longests .entry)) ⌝ }
+{
+    let mut messages: [u32; 33] = [0; 33];
+    read_whole(s, counts, longests, &mut messages)
+}
+
+// And no cycles, as those of PROFIBUS.
+pub fn read_ring(s: &[u8], counts: &mut [u8; 33], messages: &mut [u32; 33]) -> Reading
+    ensures { λ r. ⌜ r ≡ told (now (s .entry)) (reading (now (s .entry))) ⌝ }
+    ensures { λ _. ⌜ now (counts .exit) ≡ countsTold (reading (now (s .entry))) (now (counts .entry)) ⌝ }
+    ensures { λ _. ⌜ now (messages .exit) ≡ messagesTold (reading (now (s .entry))) (now (messages .entry)) ⌝ }
+{
+    let mut longests: [u32; 33] = [0; 33];
+    read_whole(s, counts, &mut longests, messages)
+}
+
+// And neither.
 pub fn read_counting(s: &[u8], handed: &mut [u8; 33]) -> Reading
     ensures { λ r. ⌜ r ≡ told (now (s .entry)) (reading (now (s .entry))) ⌝ }
     ensures { λ _. ⌜ now (handed .exit) ≡ countsTold (reading (now (s .entry))) (now (handed .entry)) ⌝ }
@@ -153,7 +273,7 @@ pub fn read_counting(s: &[u8], handed: &mut [u8; 33]) -> Reading
     read_gathering(s, handed, &mut longests)
 }
 
-// The same for callers that need neither.
+// And nothing of its masters.
 pub fn read(s: &[u8]) -> Reading
     ensures { λ r. ⌜ r ≡ told (now (s .entry)) (reading (now (s .entry))) ⌝ }
 {

@@ -7,13 +7,13 @@ use Rattle.sheet_record.specs.declared.Record.{Record}
 use Rattle.sheet_record.specs.Numbers.{be, digits}
 use Rattle.sheet_record.specs.Kinds.{kinds, lineOf, fieldsOf, widths, sizeOf, known, fieldAt, decode, body, encode, whole, nothing, metAt, metOf}
 
--- the eight kinds: a byte of kind, and a body of 1, 11, 9, 9, 4, 6, 15, 1
-sizes : map sizeOf (1 ∷ 2 ∷ 3 ∷ 4 ∷ 5 ∷ 6 ∷ 7 ∷ 8 ∷ []) ≡ 2 ∷ 12 ∷ 10 ∷ 10 ∷ 5 ∷ 7 ∷ 16 ∷ 2 ∷ []
+-- the ten kinds: a byte of kind, and a body of 1, 11, 9, 9, 4, 6, 15, 1, 5, 5
+sizes : map sizeOf (1 ∷ 2 ∷ 3 ∷ 4 ∷ 5 ∷ 6 ∷ 7 ∷ 8 ∷ 9 ∷ 10 ∷ []) ≡ 2 ∷ 12 ∷ 10 ∷ 10 ∷ 5 ∷ 7 ∷ 16 ∷ 2 ∷ 6 ∷ 6 ∷ []
 unfolding sizeOf widths fieldsOf lineOf kinds
 sizes = refl
 
 -- no other kind is known
-unknown-kinds : map known (0 ∷ 9 ∷ 99 ∷ 255 ∷ []) ≡ false ∷ false ∷ false ∷ false ∷ []
+unknown-kinds : map known (0 ∷ 11 ∷ 99 ∷ 255 ∷ []) ≡ false ∷ false ∷ false ∷ false ∷ []
 unfolding known fieldsOf lineOf kinds
 unknown-kinds = refl
 

@@ -64,8 +64,8 @@ width-at-most k j = narrow-at (fieldsOf k) (at-every-kind narrowLine refl refl k
 
 -- ---- Kinds
 
--- the known kinds are 1..8
-pub known-within : (k : ℕ) → (leb 1 k && leb k 8) ≡ known k
+-- the known kinds are 1..10
+pub known-within : (k : ℕ) → (leb 1 k && leb k 10) ≡ known k
 unfolding known fieldsOf lineOf kinds
 known-within zero = refl
 known-within (suc zero) = refl
@@ -76,21 +76,23 @@ known-within (suc (suc (suc (suc (suc zero))))) = refl
 known-within (suc (suc (suc (suc (suc (suc zero)))))) = refl
 known-within (suc (suc (suc (suc (suc (suc (suc zero))))))) = refl
 known-within (suc (suc (suc (suc (suc (suc (suc (suc zero)))))))) = refl
-known-within (suc (suc (suc (suc (suc (suc (suc (suc (suc n))))))))) = beyond (suc (suc (suc (suc (suc (suc (suc (suc (suc n))))))))) (omega arith)
+known-within (suc (suc (suc (suc (suc (suc (suc (suc (suc zero))))))))) = refl
+known-within (suc (suc (suc (suc (suc (suc (suc (suc (suc (suc zero)))))))))) = refl
+known-within (suc (suc (suc (suc (suc (suc (suc (suc (suc (suc (suc n))))))))))) = beyond (suc (suc (suc (suc (suc (suc (suc (suc (suc (suc (suc n))))))))))) (omega arith)
   where
-    beyond : (k : ℕ) → 8 < k → (leb 1 k && leb k 8) ≡ false
-    beyond k h = simp (le-leb 1 k (omega arith), lt-leb k 8 h)
+    beyond : (k : ℕ) → 10 < k → (leb 1 k && leb k 10) ≡ false
+    beyond k h = simp (le-leb 1 k (omega arith), lt-leb k 10 h)
 
-pub known-bounds : (k : ℕ) → known k ≡ true → (1 ≤ k) × (k ≤ 8)
+pub known-bounds : (k : ℕ) → known k ≡ true → (1 ≤ k) × (k ≤ 10)
 known-bounds k e =
-    let b = both-true (leb 1 k) (leb k 8) (known-within k ∙ e) in
-    (leb-true 1 k (b .0), leb-true k 8 (b .1))
+    let b = both-true (leb 1 k) (leb k 10) (known-within k ∙ e) in
+    (leb-true 1 k (b .0), leb-true k 10 (b .1))
 
-pub unknown : (k : ℕ) → (1 ≤ k → k ≤ 8 → ⊥) → known k ≡ false
-unknown k out = sym (known-within k) ∙ outside (leb 1 k) refl (leb k 8) refl
+pub unknown : (k : ℕ) → (1 ≤ k → k ≤ 10 → ⊥) → known k ≡ false
+unknown k out = sym (known-within k) ∙ outside (leb 1 k) refl (leb k 10) refl
   where
-    outside : (a : Bool) → leb 1 k ≡ a → (b : Bool) → leb k 8 ≡ b → a && b ≡ false
-    outside true ea true eb = absurd (out (leb-true 1 k ea) (leb-true k 8 eb))
+    outside : (a : Bool) → leb 1 k ≡ a → (b : Bool) → leb k 10 ≡ b → a && b ≡ false
+    outside true ea true eb = absurd (out (leb-true 1 k ea) (leb-true k 10 eb))
     outside true ea false eb = refl
     outside false ea b eb = refl
 

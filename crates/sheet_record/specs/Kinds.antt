@@ -1,4 +1,4 @@
--- Page 01, 'Sheet records', and page 02, Asks 7 and 10: the kinds, a line each, and what a record of a kind is. Assumes nothing.
+-- Page 01, 'Sheet records', and page 02, Asks 7, 8 and 10: the kinds, a line each, and what a record of a kind is. Assumes nothing.
 use Prim.Native.Nat.{ℕ, zero, suc, _+_, _-_}
 use mathlib.Core.List.{List, [], _∷_, _++_}
 use mathlib.Core.Bool.{Bool, true, false, cond, _&&_}
@@ -91,8 +91,8 @@ kinds =
     ∷ line pnet first true "pnet-segment" (field 1 1 (is 32) no-unit ∷ [])
     -- 2, P-NET stream: master, longest cycle C, spacing T, deadline D up to T
     ∷ line pnet stream true "pnet-stream" (field 1 1 masters no-unit ∷ field 2 1 (is 1548) bp ∷ field 4 1 (is 1000000000) bp ∷ field 4 1 (own 2) bp ∷ [])
-    -- 3, PROFIBUS ring: masters n, ring latency L, longest message M
-    ∷ line profibus first true "" (field 1 1 (is 32) no-unit ∷ field 4 1 (is 100000) bp ∷ field 4 1 (is 100000) bp ∷ [])
+    -- 3, PROFIBUS ring with one longest message M for all masters: masters n, ring latency L, M; it is read and no longer written
+    ∷ line profibus first false "" (field 1 1 (is 32) no-unit ∷ field 4 1 (is 100000) bp ∷ field 4 1 (is 100000) bp ∷ [])
     -- 4, PROFIBUS high-priority stream: master, cycle C, deadline D
     ∷ line profibus stream true "profibus-stream" (field 1 1 masters no-unit ∷ field 4 1 message bp ∷ field 4 1 (is 1000000000) bp ∷ [])
     -- 5, WorldFIP: one buffer exchange E
@@ -104,6 +104,10 @@ kinds =
     (field 1 1 masters no-unit ∷ field 2 1 (is 1548) bp ∷ field 4 1 (is 1000000000) bp ∷ field 4 1 (less 2 4) bp ∷ field 4 0 (under 2) bp ∷ [])
     -- 8, edition of the P-NET rule, just behind the segment
     ∷ line pnet (setting pnet once) true "pnet-edition" (field 1 1 (is 2) no-unit ∷ [])
+    -- 9, PROFIBUS ring whose masters each have their own longest message: masters n, ring latency L
+    ∷ line profibus first true "profibus-ring" (field 1 1 (is 32) no-unit ∷ field 4 1 (is 100000) bp ∷ [])
+    -- 10, the longest message of one master, behind kind 9 and before the streams: master, longest message
+    ∷ line profibus (setting 9 often) true "profibus-message" (field 1 1 masters no-unit ∷ field 4 1 (is 100000) bp ∷ [])
     ∷ []
 
 -- ---- What follows from a kind's line
@@ -160,7 +164,7 @@ unfoldable pub isStreamOf : ℕ → ℕ → Bool
 unfolding isStream busOf
 isStreamOf bus k = isStream k && eqb (busOf k) bus
 
--- what the writer puts
+-- known for writing: what the writer puts
 unfoldable pub written : ℕ → Bool
 unfolding lineOf
 written k = lineOf k .written
@@ -177,7 +181,7 @@ unfoldable pub sizeOf : ℕ → ℕ
 unfolding widths fieldsOf
 sizeOf k = 1 + widths (fieldsOf k)
 
--- a kind is known if the table gives it a field
+-- known for reading: a kind to which the table gives a field
 abbrev pub some : List Field → Bool
 some [] = false
 some (f ∷ fs) = true

@@ -1,4 +1,4 @@
-// The record format of a sheet, page 01 'Sheet records' and page 02 'Ask 7' and 'Ask 10': reading one record.
+// The record format of a sheet, page 01 'Sheet records' and page 02 'Ask 7', 'Ask 8' and 'Ask 10': reading one record.
 ghost use mathlib.Core.Path.{_≡_};
 ghost use Prim.Native.Nat.{_+_, _≤_, _<_, _^_};
 ghost use lib.ListN.{length, getD};
@@ -47,7 +47,7 @@ fn number(s: &[u8], at: usize, w: usize) -> u32
 pub fn known(kind: u8) -> bool
     ensures { λ r. ⌜ r ≡ Kinds.known kind ⌝ }
 {
-    (1 <= kind) & (kind <= 8)
+    (1 <= kind) & (kind <= 10)
 }
 
 // The bus of a kind, by the kind of its first record; 0 where the kind is not known.
@@ -63,6 +63,8 @@ pub fn bus_of(kind: u8) -> u8
         6 => 5,
         7 => 1,
         8 => 1,
+        9 => 3,
+        10 => 3,
         _ => 0,
     }
 }
@@ -71,7 +73,7 @@ pub fn bus_of(kind: u8) -> u8
 pub fn is_first(kind: u8) -> bool
     ensures { λ r. ⌜ r ≡ isFirst kind ⌝ }
 {
-    (kind == 1) | ((kind == 3) | (kind == 5))
+    (kind == 1) | ((kind == 3) | ((kind == 5) | (kind == 9)))
 }
 
 // No record at a place.
@@ -138,6 +140,8 @@ pub fn record_of(s: &[u8], at: usize, kind: u8) -> Met
         6 => whole_at(s, at, 2, 4, 0, 0, 0),
         7 => whole_at(s, at, 1, 2, 4, 4, 4),
         8 => whole_at(s, at, 1, 0, 0, 0, 0),
+        9 => whole_at(s, at, 1, 4, 0, 0, 0),
+        10 => whole_at(s, at, 1, 4, 0, 0, 0),
         _ => nothing_at(at),
     }
 }

@@ -19,7 +19,8 @@ use Rattle.sheet_read.specs.Steps.{sheetIn}
 use Rattle.sheet_read.specs.declared.Reading.the-variants as answer
 use Rattle.sheet_read.proofs.Taken.{Taken, taken, not-taken}
 use Rattle.sheet_line.specs.Lines.{hasWord}
-use Rattle.sheet_text.specs.Answers.{over, sheetText, exportChecks, exportAnswer, exportBytes}
+use Rattle.text.specs.Text.{over}
+use Rattle.sheet_text.specs.Answers.{sheetText, exportChecks, exportAnswer, exportBytes}
 
 -- what `export` answers and leaves in the run
 abbrev pub ExportedAs : List ℕ → List ℕ → Put → List ℕ → Type 0

@@ -31,7 +31,8 @@ use Rattle.sheet_said.proofs.Guessed.{has-word, kind-text}
 use Rattle.sheet_said.proofs.Laws.{word-some, headed-unread}
 use Rattle.sheet_pieces.specs.Texts.{Meaning, textOf, meaning}
 use Rattle.sheet_pieces.specs.Texts.Meaning.{Stands, Bad}
-use Rattle.sheet_text.specs.Answers.{over, textBy, sheetBy, exportChecks, exportVerdict, exportAnswer, exportBytes, copyVerdict, importVerdict, importAnswer, importBytes}
+use Rattle.text.specs.Text.{over}
+use Rattle.sheet_text.specs.Answers.{textBy, sheetBy, exportChecks, exportVerdict, exportAnswer, exportBytes, copyVerdict, importVerdict, importAnswer, importBytes}
 use Rattle.sheet_text.specs.Refusals.{AllSayable, StandsFor, ImportRefused, ExportRefused}
 use Rattle.sheet_text.specs.Refusals.AllSayable.{none, more}
 use Rattle.sheet_text.specs.Refusals.ImportRefused.{bad-line, unread as unread-text, no-room as no-room-text}

@@ -5,10 +5,11 @@ use Prim.Native.Nat.{ℕ, suc, _*_}
 use mathlib.Core.List.{List, [], _∷_, _++_}
 use mathlib.Core.Path.{_≡_}
 use mathlib.Core.Bool.{not}
-use lib.ListN.{length, take, drop}
+use lib.ListN.{length, take}
 use lib.Dec.{ltb}
 use Rattle.common.specs.Checks.{Check, check, Verdict, verdict}
 use Rattle.common.specs.Checks.Verdict.{Refused}
+use Rattle.text.specs.Text.{over}
 use Rattle.sheet_write.specs.declared.Put.{Put}
 use Rattle.sheet_write.specs.declared.Put.the-variants as put
 use Rattle.sheet_write.specs.Writing.{putBy, pastedBy}
@@ -20,10 +21,6 @@ use Rattle.sheet_read.specs.Whole.Outcome.{Read, Not}
 use Rattle.sheet_line.specs.Lines.{hasWord}
 use Rattle.sheet_pieces.specs.Texts.{Meaning, textOf, meaning}
 use Rattle.sheet_pieces.specs.Texts.Meaning.{Stands, Bad}
-
--- the run that a text or a sheet was put at the front of
-abbrev pub over : List ℕ → List ℕ → List ℕ
-over t old = t ++ drop (length t) old
 
 -- ---- Export, of the bytes s into a run of so many bytes
 

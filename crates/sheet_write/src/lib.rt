@@ -1,4 +1,4 @@
-// Writing one record of a sheet, page 01 'Sheet records' and page 02 'Ask 7' and 'Ask 10'.
+// Writing one record of a sheet, page 01 'Sheet records' and page 02 'Ask 7', 'Ask 8' and 'Ask 10'.
 use sheet_ranges::in_range;
 use sheet_record::Given;
 use sheet_record::Record;
@@ -95,11 +95,11 @@ fn put_whole(
     Put::Next(end)
 }
 
-// The writer puts this kind: all that are known.
+// The writer puts this kind: all that are known but 3, in whose place stand 9 and 10.
 fn written(kind: u8) -> bool
     ensures { λ r. ⌜ r ≡ Kinds.written kind ⌝ }
 {
-    known(kind)
+    known(kind) & (kind != 3)
 }
 
 // Writes one record at a place, whatever its numbers are: of each the bytes of its field. Refused with 2 or 13, and then no byte changes.
@@ -114,13 +114,13 @@ pub fn put_free(buf: &mut [u8], at: usize, r: Record) -> Put
     match kind {
         1 => put_whole(buf, at, r, 1, 0, 0, 0, 0),
         2 => put_whole(buf, at, r, 1, 2, 4, 4, 0),
-        3 => put_whole(buf, at, r, 1, 4, 4, 0, 0),
         4 => put_whole(buf, at, r, 1, 4, 4, 0, 0),
         5 => put_whole(buf, at, r, 4, 0, 0, 0, 0),
         6 => put_whole(buf, at, r, 2, 4, 0, 0, 0),
         7 => put_whole(buf, at, r, 1, 2, 4, 4, 4),
-        // 8, the kind that is left
-        _ => put_whole(buf, at, r, 1, 0, 0, 0, 0),
+        8 => put_whole(buf, at, r, 1, 0, 0, 0, 0),
+        // 9 and 10, the kinds that are left
+        _ => put_whole(buf, at, r, 1, 4, 0, 0, 0),
     }
 }
 

@@ -6,7 +6,7 @@ use Prim.Native.Char.{code}
 use Prim.Native.String.{String, [] as none, _∷_ as _then_}
 use mathlib.Core.List.{List, [], _∷_, _++_}
 use mathlib.Core.Bool.{Bool}
-use lib.ListN.{length, getD}
+use lib.ListN.{length, getD, drop}
 use lib.Seq.{sets}
 use lib.Dec.{ltb}
 use Rattle.common.specs.Sums.{firstOf}
@@ -54,6 +54,10 @@ p · q = p ++ q
 -- a number between words
 unfoldable pub counted : List ℕ → ℕ → List ℕ → List ℕ
 counted before n after = before · decimal n · after
+
+-- the run that a text was put at the front of
+abbrev pub over : List ℕ → List ℕ → List ℕ
+over t old = t ++ drop (length t) old
 
 -- what stands at place i of a run
 abbrev pub item : List ℕ → ℕ → ℕ

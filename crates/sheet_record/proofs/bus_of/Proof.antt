@@ -39,9 +39,17 @@ unfolding busOf lineOf kinds
 returns-8 c = rw (c .match .keys8)
 
 returns-9 : tie.Need-returns-9
+unfolding busOf lineOf kinds
+returns-9 c = rw (c .match .keys9)
+
+returns-10 : tie.Need-returns-10
+unfolding busOf lineOf kinds
+returns-10 c = rw (c .match .keys10)
+
+returns-11 : tie.Need-returns-11
 unfolding NoneOf
-returns-9 c = sym (no-bus (c .before .args .kind) (none-of 8 (c .before .args .kind) (c .match .rest)))
+returns-11 c = sym (no-bus (c .before .args .kind) (none-of 10 (c .before .args .kind) (c .match .rest)))
 
 pub bus-of-spec : {M : Type 1} → statement M
 bus-of-spec =
-    tie.close (tie.spec returns returns-2 returns-3 returns-4 returns-5 returns-6 returns-7 returns-8 returns-9)
+    tie.close (tie.spec returns returns-2 returns-3 returns-4 returns-5 returns-6 returns-7 returns-8 returns-9 returns-10 returns-11)

@@ -1,4 +1,4 @@
--- `sheet_record::is_first` meets its contract: 1, 3 or 5. Assumes nothing.
+-- `sheet_record::is_first` meets its contract: 1, 3, 5 or 9. Assumes nothing.
 use mathlib.Core.Path.{sym}
 use Rattle.sheet_record.proofs.Parts.{first-is}
 use Rattle.sheet_record.proofs.is_first.Statement.{statement}

@@ -1,4 +1,4 @@
--- `sheet_record::known` meets its contract: the known kinds are 1..8. Assumes nothing.
+-- `sheet_record::known` meets its contract: the known kinds are 1..10. Assumes nothing.
 use Rattle.sheet_record.proofs.Tables.{known-within}
 use Rattle.sheet_record.proofs.known.Statement.{statement}
 use Rattle.sheet_record.proofs.known.Tie as tie

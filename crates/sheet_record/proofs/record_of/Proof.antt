@@ -73,6 +73,14 @@ whole-at-requires-8 : tie.Need-whole-at-requires-8
 unfolding widthAt fieldsOf lineOf kinds known
 whole-at-requires-8 c κs = (search needs, rw (stands (c .before), c .match .keys8) (wide 8 refl))
 
+whole-at-requires-9 : tie.Need-whole-at-requires-9
+unfolding widthAt fieldsOf lineOf kinds known
+whole-at-requires-9 c κs = (search needs, rw (stands (c .before), c .match .keys9) (wide 9 refl))
+
+whole-at-requires-10 : tie.Need-whole-at-requires-10
+unfolding widthAt fieldsOf lineOf kinds known
+whole-at-requires-10 c κs = (search needs, rw (stands (c .before), c .match .keys10) (wide 10 refl))
+
 nothing-at-requires-3 : tie.Need-nothing-at-requires-3
 nothing-at-requires-3 c κs = search needs
 
@@ -101,12 +109,18 @@ returns-10 : tie.Need-returns-10
 returns-10 c = as-asked (c .before .before) (c .whole-at8 .ensures)
 
 returns-11 : tie.Need-returns-11
+returns-11 c = as-asked (c .before .before) (c .whole-at9 .ensures)
+
+returns-12 : tie.Need-returns-12
+returns-12 c = as-asked (c .before .before) (c .whole-at10 .ensures)
+
+returns-13 : tie.Need-returns-13
 unfolding NoneOf
-returns-11 c =
+returns-13 c =
     let a = c .before .before .before .before .before .before .args in
     let k = getD (a .s .now) (a .at) 0 in
     let e = stands (c .before .before) in
-    let none = met-unknown (a .s .now) (a .at) (rw e (unknown (a .kind) (none-of 8 (a .kind) (c .before .match .rest)))) in
+    let none = met-unknown (a .s .now) (a .at) (rw e (unknown (a .kind) (none-of 10 (a .kind) (c .before .match .rest)))) in
     c .nothing-at3 .ensures ∙ met-none (a .s .now) (a .at) (a .kind) none
 
 pub record-of-spec : {M : Type 1} → statement M
@@ -126,6 +140,8 @@ record-of-spec =
     whole-at-requires-6
     whole-at-requires-7
     whole-at-requires-8
+    whole-at-requires-9
+    whole-at-requires-10
     nothing-at-requires-3
     returns-3
     returns-4
@@ -135,4 +151,6 @@ record-of-spec =
     returns-8
     returns-9
     returns-10
-    returns-11)
+    returns-11
+    returns-12
+    returns-13)
