@@ -80,7 +80,6 @@ pub old-ring-refused : (n at : ℕ) (r : Record) → r .kind ≡ 3 → putAnswer
 unfolding putAnswer writeChecks verdict written lineOf kinds
 old-ring-refused n at r e = rw e
 
-
 -- records that are written begin within the buffer
 begins-within : {b b' : List ℕ} {at end : ℕ} {rs : List Record} → Writes b at rs b' end → 1 ≤ length rs → at ≤ length b
 begins-within none some = absurd (omega arith)
