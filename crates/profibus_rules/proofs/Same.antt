@@ -1,11 +1,15 @@
 -- Page 02, Ask 8, 'give the same TTR': a ring that is said twice, by kind 3 and by kinds 9 and 10, has the same figures and the same answer. Assumes nothing.
 use mathlib.Core.Path.{_≡_, ap, _∙_}
-use Prim.Native.Nat.{ℕ, zero, suc, _+_, _-_}
+use Prim.Native.Nat.{ℕ, zero, suc, _+_, _-_, _≤_}
+use mathlib.Core.List.{List}
+use lib.ListN.{length}
 use lib.Dec.{ltb}
 use Rattle.common.specs.Sums.{when, firstOf}
 use Rattle.common.proofs.Sums.{upto-same}
 use Rattle.common.proofs.Firsts.{first-same}
-use Rattle.profibus_rules.specs.Ring.{Ring, owns, count, messages, rotation, needed, fails, SameRings}
+use Rattle.sheet_record.specs.declared.Record.{Record}
+use Rattle.sheet_read.specs.Sheets.{Sheet, mastersOf, messageOf}
+use Rattle.profibus_rules.specs.Ring.{Ring, streamAt, ringOf, owns, count, messages, rotation, needed, fails, SameRings}
 use Rattle.profibus_rules.specs.Target.{AllPass, FirstFails, Limited, bears, least, target, firstFailing}
 
 least-same : (f g : ℕ → ℕ) (n : ℕ) → ((i : ℕ) → f i ≡ g i) → least f n ≡ least g n
@@ -67,3 +71,18 @@ module _ {R R' : Ring} (same : SameRings R R') where
   pub same-limited : (ttr i : ℕ) → Limited R ttr i → Limited R' ttr i
   same-limited ttr i a =
       record { at-least = rw (same .latency) (a .at-least); passes = same-pass ttr (a .passes); by = same-fails (ttr + 1) i (a .by) }
+
+-- ---- From two sheets
+
+-- sheets that have the same n, L, longest messages and streams say one ring
+pub same-rings : (S S' : Sheet) → mastersOf S' ≡ mastersOf S → S' .head .b ≡ S .head .b
+    → ((y : ℕ) → 1 ≤ y → y ≤ mastersOf S → messageOf S' y ≡ messageOf S y) → S' .streams ≡ S .streams → SameRings (ringOf S) (ringOf S')
+unfolding ringOf
+same-rings S S' masters latency messages streams =
+    record {
+      masters = masters;
+      latency = latency;
+      longest = messages;
+      number = ap length streams;
+      stream = λ i. ap (λ (rs : List Record). streamAt rs i) streams;
+    }

@@ -8,7 +8,7 @@ use Rattle.sheet_read.proofs.Taken.{Taken, taken, not-taken, taken-ready}
 use Rattle.sheet_read.specs.Steps.{sheetIn, Ready}
 use Rattle.sheet_record.specs.declared.Record.{Record}
 use Rattle.sheet_record.specs.Kinds.{profibus, busOf}
-use Rattle.profibus_rules.specs.Ring.{ringOf, messages, Declared}
+use Rattle.profibus_rules.specs.Ring.{ringOf, Declared}
 use Rattle.profibus_plan.specs.Planned.{planOf}
 use Rattle.profibus_plan.proofs.Answers.{plan-other-bus}
 use Rattle.profibus_plan.proofs.Passing.{ready-declared, ready-counts, ready-messages, messages-short, messages-sum}
