@@ -1,39 +1,34 @@
 -- Page 02, Ask 8: what stands behind a ring of kind 9 whose records pass. Its settings are longest messages, one of a master at most; what counts for a master is
 -- its own, and where it has none 100,000; one is missing only before the streams. Assumes nothing.
 use mathlib.Core.Path.{_≡_, refl, sym, ap, _∙_}
-use mathlib.Core.Bool.{Bool, true, false, _&&_, _||_}
+use mathlib.Core.Bool.{Bool, true, false, _||_}
 use mathlib.Core.List.{List, [], _∷_, _++_, append-nil}
 use mathlib.Core.Logic.{_⊎_, inl, inr}
 use Prim.Native.Nat.{ℕ, zero, suc, _+_, _≤_, _<_, max}
 use native.Mathlib.Omega.{arith}
 use native.Mathlib.Decide.{ℕ-discrete}
-use borrow.Author.Tests.{eqb-true, eqb-false, eq-eqb, ne-eqb, ltb-true, ltb-false, lt-ltb}
-use lib.Dec.{eqb, ltb}
-use lib.ListN.{length, length-append}
+use borrow.Author.Tests.{eqb-true, eq-eqb, ne-eqb}
+use lib.Dec.{eqb}
+use lib.ListN.{length}
 use Rattle.common.specs.Sums.{when}
 use Rattle.sheet_record.specs.declared.Given.{Given}
 use Rattle.sheet_record.specs.declared.Record.{Record}
-use Rattle.sheet_record.specs.Kinds.{kinds, lineOf, partOf, busOf, isFirst, isSetting, isStream, isStreamOf, decode, inRange}
+use Rattle.sheet_record.specs.Kinds.{kinds, lineOf, partOf, isSetting, inRange}
 use Rattle.sheet_record.proofs.Tables.{both-true}
-use Rattle.sheet_record.proofs.Parts.{first-kinds, setting-kinds}
+use Rattle.sheet_record.proofs.Parts.{setting-kinds}
 use Rattle.sheet_ranges.proofs.Ranges.{message-ranges}
 use Rattle.sheet_messages.specs.Messages.{messageBy}
-use Rattle.sheet_read.specs.Sheets.{Sheet, busIn, given, ofKind, countOf, longestOf, messageOf, fits, lacksOf, lacking, repeated, having, headOf, sheetOf}
+use Rattle.sheet_read.specs.Sheets.{Sheet, given, countOf, longestOf, messageOf, lacksOf, lacking, having, headOf, sheetOf}
 use Rattle.sheet_read.specs.Whole.{placeOf, recordsOf, before}
 use Rattle.sheet_read.specs.Refusals.{recordAt, HasMessage, Missing}
 use Rattle.sheet_read.proofs.Walk.{not-having, head-at, before-none, settings-more}
 use Rattle.sheet_read.proofs.Counts.{count-append, count-more, longest-more}
 use Rattle.sheet_read.proofs.Cases.{PassesAt, Upto, upto-front}
-use Rattle.sheet_read.proofs.Order.{Placed, fits-then, edition-fits, message-fits, message-of-master, stream-of, nth, head-some, first-passes, adds-stream, adds-setting, behind-first, empty-list}
-use Rattle.sheet_read.proofs.Order.Placed.{as-first, as-setting, as-stream}
+use Rattle.sheet_read.proofs.Order.{message-of-master, adds-setting, behind-first}
+use Rattle.sheet_read.proofs.Messages.{lacks-some}
+use Rattle.sheet_read.proofs.Openings.{edition-right, none-before}
 
 -- ---- Lists
-
--- a list whose last record is of kind k has one of that kind
-last-of-kind : (k : ℕ) (rs : List Record) (r : Record) → r .kind ≡ k → ofKind k (rs ++ (r ∷ [])) ≡ 0 → ⊥
-unfolding ofKind
-last-of-kind k [] r e z = let w : 1 + 0 ≡ 0 = rw (eq-eqb (r .kind) k e) at z in omega arith
-last-of-kind k (q ∷ rs) r e z = last-of-kind k rs r e (omega arith)
 
 -- what no record has is 0 at most
 longest-none : (x : ℕ) (rs : List Record) → countOf x rs ≡ 0 → longestOf x rs ≡ 0
@@ -45,16 +40,7 @@ longest-none x (r ∷ rs) e = split (eqb (r .a) x) refl (longest-none x rs)
     split true q ih = let z : 1 + countOf x rs ≡ 0 = rw q at e in absurd (omega arith)
     split false q ih = let z : 0 + countOf x rs ≡ 0 = rw q at e in omega (arith, ih (omega arith))
 
--- one of masters 1..n has none
-lacks-then : (n : ℕ) (rs : List Record) → lacksOf n rs ≡ true → (y : ℕ) × (1 ≤ y) × (y ≤ n) × (countOf y rs ≡ 0)
-unfolding lacksOf
-lacks-then zero rs e = let z : _≡_ {A = ℕ} 0 1 = cc in absurd (omega arith)
-lacks-then (suc n) rs e = split (lacksOf n rs) refl (lacks-then n rs)
-  where
-    split : (b : Bool) → lacksOf n rs ≡ b → (lacksOf n rs ≡ true → (y : ℕ) × (1 ≤ y) × (y ≤ n) × (countOf y rs ≡ 0)) → (y : ℕ) × (1 ≤ y) × (y ≤ suc n) × (countOf y rs ≡ 0)
-    split true q ih = let w = ih q in (w .0, w .1, omega (arith, w .2), w .3)
-    split false q ih = (suc n, omega arith, omega arith, eqb-true (countOf (suc n) rs) 0 (rw q at e))
-
+-- a master of 1..n that has none is missing one
 lacks-if : (n : ℕ) (rs : List Record) (y : ℕ) → 1 ≤ y → y ≤ n → countOf y rs ≡ 0 → lacksOf n rs ≡ true
 unfolding lacksOf
 lacks-if zero rs y lo hi e = absurd (omega arith)
@@ -71,29 +57,6 @@ ten-setting : isSetting 10 ≡ true
 unfolding isSetting partOf lineOf kinds
 ten-setting = refl
 
-four-stream : isStream 4 ≡ true
-unfolding isStream partOf lineOf kinds
-four-stream = refl
-
--- the edition fits behind kind 1 alone, and no other stands before it
-pub edition-behind : (S : Sheet) → fits S 8 ≡ true → (S .head .kind ≡ 1) × (length (S .streams) ≡ 0) × (ofKind 8 (S .settings) ≡ 0)
-edition-behind S e =
-    let a = both-true (eqb (S .head .kind) 1) _ (sym (edition-fits S) ∙ e) in
-    let b = both-true (eqb (length (S .streams)) 0) _ (a .1) in
-    (eqb-true _ 1 (a .0), eqb-true _ 0 (b .0), eqb-true _ 0 (b .1))
-
--- a longest message behind kind 9 alone, before the streams
-pub message-behind : (S : Sheet) → fits S 10 ≡ true → (S .head .kind ≡ 9) × (length (S .streams) ≡ 0)
-message-behind S e =
-    let a = both-true (eqb (S .head .kind) 9) _ (sym (message-fits S) ∙ e) in
-    let b = both-true (eqb (length (S .streams)) 0) _ (a .1) in
-    (eqb-true _ 9 (a .0), eqb-true _ 0 (b .0))
-
--- what is missing goes by the first record and the settings
-lacking-same : (S S' : Sheet) → S .head ≡ S' .head → S .settings ≡ S' .settings → lacking S ≡ lacking S'
-unfolding lacking
-lacking-same S S' h e = rw (h, e)
-
 -- a longest message is 1 at least, and counts as it is
 message-least : (g : Given) (r : Record) → r .kind ≡ 10 → inRange g r ≡ true → 1 ≤ r .b
 message-least g r k e = message-ranges g r e k .message .least
@@ -104,7 +67,7 @@ as-given zero l = absurd (omega arith)
 as-given (suc m) l = refl
 
 module _ (s : List ℕ) where
-  head-kind : (i : ℕ) → before s (suc i) .head .kind ≡ recordAt s 0 .kind
+  pub head-kind : (i : ℕ) → before s (suc i) .head .kind ≡ recordAt s 0 .kind
   unfolding placeOf
   head-kind i = ap (λ (r : Record). r .kind) (head-at s i)
 
@@ -112,80 +75,13 @@ module _ (s : List ℕ) where
   unfolding placeOf
   masters i = ap (λ (r : Record). r .a) (head-at s i)
 
-  -- ---- As long as no stream came, the records behind the first are settings
+  -- ---- Settings
 
-  pub settings-only : (n : ℕ) → Upto s (suc n) → length (before s (suc n) .streams) ≡ 0 → (j : ℕ) → j < n → isSetting (recordAt s (suc j) .kind) ≡ true
-  settings-only zero u z j l = absurd (omega arith)
-  settings-only (suc n) u z j l =
-      by (fits-then (before s (suc n)) (recordAt s (suc n) .kind) (u .passed (suc n) (omega arith) .is-right))
-      (λ k h. settings-only n (upto-front s (suc (suc n)) (suc n) (omega arith) u) k j h)
-    where
-      last : isSetting (recordAt s (suc n) .kind) ≡ true → Dec (j ≡ n) → (j < n → isSetting (recordAt s (suc j) .kind) ≡ true) → isSetting (recordAt s (suc j) .kind) ≡ true
-      last its (yes e) ih = rw e its
-      last its (no e) ih = ih (omega (arith, e))
-
-      by : Placed (before s (suc n)) (recordAt s (suc n) .kind) → (length (before s (suc n) .streams) ≡ 0 → j < n → isSetting (recordAt s (suc j) .kind) ≡ true)
-          → isSetting (recordAt s (suc j) .kind) ≡ true
-      by (as-first e k) ih = absurd (head-some s n (upto-front s (suc (suc n)) (suc n) (omega arith) u) k)
-      by (as-setting its k) ih = last its (ℕ-discrete j n) (ih k)
-      by (as-stream e) ih =
-          let a = adds-stream s (suc n) (stream-of (busIn (before s (suc n))) (recordAt s (suc n) .kind) e .0) in
-          absurd (omega (arith, ap length (a .1), length-append (before s (suc n) .streams) (recordAt s (suc n) ∷ [])))
-
-  -- each as the first record has it: editions behind kind 1, longest messages behind kind 9
-  edition-passes : (j : ℕ) → PassesAt s (suc j) → recordAt s (suc j) .kind ≡ 8 → recordAt s 0 .kind ≡ 1
-  edition-passes j p e = sym (head-kind j) ∙ edition-behind (before s (suc j)) (ap (fits (before s (suc j))) (sym e) ∙ p .is-right) .0
-
-  message-passes : (j : ℕ) → PassesAt s (suc j) → recordAt s (suc j) .kind ≡ 10 → recordAt s 0 .kind ≡ 9
-  message-passes j p e = sym (head-kind j) ∙ message-behind (before s (suc j)) (ap (fits (before s (suc j))) (sym e) ∙ p .is-right) .0
-
-  pub messages-only : (n : ℕ) → Upto s (suc n) → recordAt s 0 .kind ≡ 9 → length (before s (suc n) .streams) ≡ 0 → (j : ℕ) → j < n → recordAt s (suc j) .kind ≡ 10
-  messages-only n u nine z j l = by (setting-kinds (recordAt s (suc j) .kind) (settings-only n u z j l))
-    where
-      by : recordAt s (suc j) .kind ≡ 8 ⊎ recordAt s (suc j) .kind ≡ 10 → recordAt s (suc j) .kind ≡ 10
-      by (inl e) = absurd (omega (arith, edition-passes j (u .passed (suc j) (omega arith)) e))
-      by (inr e) = e
-
-  -- so the edition stands just behind the first record
-  pub edition-second : (n : ℕ) → Upto s (suc n) → fits (before s (suc n)) 8 ≡ true → n ≡ 0
-  edition-second zero u e = refl
-  edition-second (suc n) u e = by (setting-kinds (recordAt s (suc n) .kind) its)
-    where
-      b : (before s (suc (suc n)) .head .kind ≡ 1) × (length (before s (suc (suc n)) .streams) ≡ 0) × (ofKind 8 (before s (suc (suc n)) .settings) ≡ 0)
-      b = edition-behind (before s (suc (suc n))) e
-
-      its : isSetting (recordAt s (suc n) .kind) ≡ true
-      its = settings-only (suc n) u (b .1) n (omega arith)
-
-      by : recordAt s (suc n) .kind ≡ 8 ⊎ recordAt s (suc n) .kind ≡ 10 → suc n ≡ 0
-      by (inl q) = absurd (last-of-kind 8 (before s (suc n) .settings) (recordAt s (suc n)) q (ap (ofKind 8) (sym (adds-setting s (suc n) its .0)) ∙ b .2))
-      by (inr q) = absurd (omega (arith, b .0, head-kind (suc n), message-passes n (u .passed (suc n) (omega arith)) q))
-
-  -- and records of kind 10 are no streams
+  -- records of kind 10 are no streams
   pub messages-no-stream : (n : ℕ) → PassesAt s 0 → ((j : ℕ) → j < n → recordAt s (suc j) .kind ≡ 10) → length (before s (suc n) .streams) ≡ 0
   messages-no-stream zero p h = ap length (behind-first s p .1)
   messages-no-stream (suc n) p h =
       ap length (adds-setting s (suc n) (ap isSetting (h n (omega arith)) ∙ ten-setting) .1) ∙ messages-no-stream n p (λ j l. h j (omega arith))
-
-  -- another first record has no settings
-  pub no-settings : (n : ℕ) → Upto s (suc n) → (recordAt s 0 .kind ≡ 1 → ⊥) → (recordAt s 0 .kind ≡ 9 → ⊥) → before s (suc n) .settings ≡ []
-  no-settings zero u a b = behind-first s (u .passed 0 (omega arith)) .0
-  no-settings (suc n) u a b = by (fits-then (before s (suc n)) (recordAt s (suc n) .kind) (p .is-right)) (no-settings n earlier a b)
-    where
-      p : PassesAt s (suc n)
-      p = u .passed (suc n) (omega arith)
-
-      earlier : Upto s (suc n)
-      earlier = upto-front s (suc (suc n)) (suc n) (omega arith) u
-
-      setting-not : recordAt s (suc n) .kind ≡ 8 ⊎ recordAt s (suc n) .kind ≡ 10 → ⊥
-      setting-not (inl e) = a (edition-passes n p e)
-      setting-not (inr e) = b (message-passes n p e)
-
-      by : Placed (before s (suc n)) (recordAt s (suc n) .kind) → before s (suc n) .settings ≡ [] → before s (suc (suc n)) .settings ≡ []
-      by (as-first e k) none = absurd (head-some s n earlier k)
-      by (as-setting its k) none = absurd (setting-not (setting-kinds (recordAt s (suc n) .kind) its))
-      by (as-stream e) none = adds-stream s (suc n) (stream-of (busIn (before s (suc n))) (recordAt s (suc n) .kind) e .0) .0 ∙ none
 
   -- ---- The longest message of a master
 
@@ -212,7 +108,7 @@ module _ (s : List ℕ) where
     where
       no-edition : (j : ℕ) → PassesAt s j → recordAt s j .kind ≡ 8 → ⊥
       no-edition zero p e = omega (arith, nine)
-      no-edition (suc j) p e = omega (arith, nine, edition-passes j p e)
+      no-edition (suc j) p e = omega (arith, nine, head-kind j, edition-right s j (p .is-right) e .0)
 
       kind : recordAt s i .kind ≡ 8 ⊎ recordAt s i .kind ≡ 10 → recordAt s i .kind ≡ 10
       kind (inl e) = absurd (no-edition i (u .passed i (omega arith)) e)
@@ -251,12 +147,11 @@ module _ (s : List ℕ) where
       split (yes e) = e
       split (no e) = absurd (n (has-then i y u nine (omega (arith, e))))
 
-  -- a record that passes gives no longest message again
-  pub not-again : (i : ℕ) → PassesAt s i → recordAt s i .kind ≡ 10 → countOf (recordAt s i .a) (before s i .settings) ≡ 0
-  unfolding repeated
-  not-again i p e =
-      let w : ltb 0 (countOf (recordAt s i .a) (before s i .settings)) ≡ false = rw e at (p .first-of-master) in
-      omega (arith, ltb-false 0 (countOf (recordAt s i .a) (before s i .settings)) w)
+  -- no record that passes gives one again
+  not-again : (i : ℕ) → recordAt s 0 .kind ≡ 9 → PassesAt s i → recordAt s i .kind ≡ 10 → countOf (recordAt s i .a) (before s i .settings) ≡ 0
+  unfolding placeOf
+  not-again zero nine p e = absurd (omega (arith, nine))
+  not-again (suc i) nine p e = none-before s nine i p e
 
   -- so the longest of a master's is the one that it has
   longest-given : (i y : ℕ) → Upto s i → recordAt s 0 .kind ≡ 9 → (h : HasMessage s i y) → longestOf y (before s i .settings) ≡ recordAt s (h .j) .b
@@ -274,14 +169,14 @@ module _ (s : List ℕ) where
       here e =
           let its : recordAt s i .kind ≡ 10 = ap (λ (j : ℕ). recordAt s j .kind) (sym e) ∙ h .message in
           let same : recordAt s i .a ≡ y = ap (λ (j : ℕ). recordAt s j .a) (sym e) ∙ h .its in
-          let z = longest-none y (before s i .settings) (ap (λ (x : ℕ). countOf x (before s i .settings)) (sym same) ∙ not-again i p its) in
+          let z = longest-none y (before s i .settings) (ap (λ (x : ℕ). countOf x (before s i .settings)) (sym same) ∙ not-again i nine p its) in
           let w = ap (λ (b : Bool). when b (recordAt s i .b)) (eq-eqb (recordAt s i .a) y same) in
           omega (arith, more its, z, w)
 
       -- or an earlier one, and record i is of another master
       other : HasMessage s i y → recordAt s i .kind ≡ 10 → recordAt s i .a ≡ y → ⊥
       other k its same =
-          omega (arith, has-if i y k, ap (λ (x : ℕ). countOf x (before s i .settings)) (sym same) ∙ not-again i p its)
+          omega (arith, has-if i y k, ap (λ (x : ℕ). countOf x (before s i .settings)) (sym same) ∙ not-again i nine p its)
 
       stays : HasMessage s i y → (before s (suc i) .settings ≡ before s i .settings) ⊎ (recordAt s i .kind ≡ 10) → longestOf y (before s (suc i) .settings) ≡ longestOf y (before s i .settings)
       stays k (inl e) = ap (longestOf y) e
@@ -303,7 +198,7 @@ module _ (s : List ℕ) where
   lacking-then (suc i) u e =
       let S = before s (suc i) in
       let b = both-true (eqb (S .head .kind) 9) (lacksOf (S .head .a) (S .settings)) e in
-      let w = lacks-then (S .head .a) (S .settings) (b .1) in
+      let w = lacks-some (S .head .a) (S .settings) (b .1) in
       record {
         ring = sym (head-kind i) ∙ eqb-true (S .head .kind) 9 (b .0);
         y = w .0;
@@ -317,24 +212,6 @@ module _ (s : List ℕ) where
   lacking-if i u m =
       let S = before s (suc i) in
       rw (eq-eqb (S .head .kind) 9 (head-kind i ∙ m .ring)) (lacks-if (S .head .a) (S .settings) (m .y) (m .least) (omega (arith, m .most, masters i)) (has-not (suc i) (m .y) u (m .ring) (m .none)))
-
-  -- only before the streams: the first of them does not pass
-  pub lacking-before-streams : (i : ℕ) → Upto s (suc i) → lacking (before s (suc i)) ≡ true → length (before s (suc i) .streams) ≡ 0
-  lacking-before-streams zero u e = ap length (behind-first s (u .passed 0 (omega arith)) .1)
-  lacking-before-streams (suc i) u e = by (fits-then (before s (suc i)) (recordAt s (suc i) .kind) (p .is-right))
-    where
-      p : PassesAt s (suc i)
-      p = u .passed (suc i) (omega arith)
-
-      by : Placed (before s (suc i)) (recordAt s (suc i) .kind) → length (before s (suc (suc i)) .streams) ≡ 0
-      by (as-first f k) = absurd (head-some s i (upto-front s (suc (suc i)) (suc i) (omega arith) u) k)
-      by (as-setting its k) = ap length (adds-setting s (suc i) its .1) ∙ k
-      by (as-stream f) =
-          let its = stream-of (busIn (before s (suc i))) (recordAt s (suc i) .kind) f .0 in
-          let same = lacking-same (before s (suc (suc i))) (before s (suc i)) (head-at s (suc i) ∙ sym (head-at s i)) (adds-stream s (suc i) its .0) in
-          let no : true ≡ false = sym e ∙ (same ∙ p .none-missing its) in
-          let z : _≡_ {A = ℕ} 0 1 = cc in
-          absurd (omega arith)
 
   -- ---- What counts for a master
 
