@@ -3,9 +3,10 @@ use Prim.Native.Nat.{ℕ, _≤_, _<_}
 use mathlib.Core.Path.{_≡_, refl, sym, ap, _∙_, subst}
 use mathlib.Core.List.{List, _++_}
 use mathlib.Core.Bool.{Bool, true, false}
+use native.Mathlib.Nat.{add-zero}
 use native.Mathlib.Omega.{arith}
 use lib.Dec.{ltb}
-use lib.ListN.{length, getD, take, drop}
+use lib.ListN.{length, getD, take, drop, length-drop}
 use lib.Seq.{take-append-seam}
 use Rattle.common.specs.Checks.{verdict}
 use Rattle.text.specs.Text.{over}
@@ -17,12 +18,13 @@ use Rattle.sheet_read.specs.Whole.{Outcome, placeOf, firstStream, reading, told
 use Rattle.sheet_read.specs.Whole.Outcome.{Read, Not}
 use Rattle.sheet_read.specs.Steps.{sheetIn, streamPlace}
 use Rattle.sheet_read.specs.declared.Reading.the-variants as answer
+use Rattle.sheet_read.proofs.Lengths.{length-at-most, longest-sheet-is}
 use Rattle.sheet_read.proofs.Taken.{Taken, taken, not-taken}
 use Rattle.sheet_rewrite.specs.Meaning.{Rewrites}
 use Rattle.sheet_rewrite.specs.Meaning.Rewrites.{refused, kept}
 use Rattle.sheet_rewrite.specs.Rewriting.{rewritten, frontBytes, rewriteAnswer, rewriteBytes}
 use Rattle.sheet_rewrite.proofs.Filled.{FilledAs}
-use Rattle.sheet_rewrite.proofs.Rewritten.{keeps, rewritten-alike, rewritten-bytes, first-at, old-ring}
+use Rattle.sheet_rewrite.proofs.Rewritten.{keeps, rewritten-alike, rewritten-bytes, first-within, old-ring}
 
 -- what `rewrite` answers and leaves in the run
 abbrev pub RewrittenAs : List ℕ → List ℕ → Put → List ℕ → Type 0
@@ -74,3 +76,27 @@ module _ (old s : List ℕ) where
     module _ (three : head .kind ≡ 3) where
       pub rewritten-masters : head .a ≤ 32
       rewritten-masters = omega (arith, old-ring s (sheetIn s) (its .reads) (first-kind ∙ three) .ranges .masters .most, ap (λ (r : Record). r .a) (its .begins))
+
+      -- the ring's 10 bytes are within the sheet
+      pub rewritten-within : first ≤ length s
+      unfolding streamPlace
+      rewritten-within =
+          omega (arith, starts, first-within s (sheetIn s) (its .reads) (first-kind ∙ three))
+        where
+          starts : first ≡ placeOf s (firstStream (sheetIn s))
+          starts = its .starts ∙ ap (placeOf s) (add-zero (firstStream (sheetIn s)))
+
+      pub rewritten-short : length (drop first s) ≤ 12804
+      rewritten-short = omega (arith, length-drop first s, length-at-most s (sheetIn s) (its .reads), longest-sheet-is)
+
+      pub rewritten-filled : ((i : ℕ) → getD s i 0 < 256) → {p : Put} {now : List ℕ} → FilledAs old (frontBytes head (head .a) ++ drop first s) p now → RewrittenAs old s p now
+      unfolding streamPlace
+      rewritten-filled bytes {p} {now} f = filled (subst (λ (t : List ℕ). FilledAs old t p now) (sym (rewritten-bytes s (sheetIn s) bytes (its .reads) (first-kind ∙ three) ∙ same)) f)
+        where
+          starts : placeOf s (firstStream (sheetIn s)) ≡ first
+          starts = sym (its .starts ∙ ap (placeOf s) (add-zero (firstStream (sheetIn s))))
+
+          same : frontBytes (sheetIn s .head) (mastersOf (sheetIn s)) ++ drop (placeOf s (firstStream (sheetIn s))) s ≡ frontBytes head (head .a) ++ drop first s
+          same =
+              ap (λ (r : Record). frontBytes r (r .a) ++ drop (placeOf s (firstStream (sheetIn s))) s) (sym (its .begins))
+              ∙ ap (λ (x : ℕ). frontBytes head (head .a) ++ drop x s) starts

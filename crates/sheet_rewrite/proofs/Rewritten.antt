@@ -20,7 +20,7 @@ use Rattle.sheet_read.specs.Sheets.{Sheet, sheetOf, mastersOf, messageOf}
 use Rattle.sheet_read.specs.Records.{recordsIn, bytesOf, Right}
 use Rattle.sheet_read.specs.Whole.{placeOf, firstStream, reading}
 use Rattle.sheet_read.specs.Whole.Outcome.{Read}
-use Rattle.sheet_read.proofs.Walk.{head-at}
+use Rattle.sheet_read.proofs.Walk.{place-order, head-at}
 use Rattle.sheet_read.proofs.Openings.{settings-none}
 use Rattle.sheet_read.proofs.Order.{message-of-ring}
 use Rattle.sheet_read.proofs.Known.{reading-whole, reading-read}
@@ -78,6 +78,13 @@ module _ (s : List ℕ) (S : Sheet) (reads : reading s ≡ Read S) (three : S .h
       let r = reading-whole s S reads in
       let k : getD s 0 0 ≡ 3 = ap (λ (x : Record). x .kind) (sym (head-at s (r .m))) ∙ (ap (λ (x : Sheet). x .head .kind) (sym (r .says)) ∙ three) in
       rw (bare, k) refl
+
+  pub first-within : placeOf s (firstStream S) ≤ length s
+  first-within =
+      let r = reading-whole s S reads in
+      let o = place-order s 1 (suc (r .m)) (omega arith) in
+      let f : firstStream S ≡ 1 = ap (λ (rs : List Record). suc (length rs)) bare in
+      omega (arith, r .ends, ap (placeOf s) f)
 
   module _ (bytes : (i : ℕ) → getD s i 0 < 256) where
     its-bytes : s ≡ encode (S .head) ++ bytesOf (S .streams)
