@@ -1,5 +1,6 @@
 pub mod Answers
 pub mod Filled
 pub mod Messages
+pub mod Refusals
 pub mod Renewed
 pub mod Rewritten
