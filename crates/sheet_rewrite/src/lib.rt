@@ -85,3 +85,25 @@ fn copy(s: &[u8], out: &mut [u8]) -> Put
     }
     Put::Next(put_word(out, 0, s))
 }
+
+// Writes an accepted sheet at the front of a run: one of kind 3 as kinds 9 and 10, with the same meaning, any other as it is. Refused as reading refuses, or with 13
+// and the new sheet's length, and then no byte changes.
+pub fn rewrite(s: &[u8], out: &mut [u8]) -> Put
+    ensures { λ r. ⌜ r ≡ rewriteAnswer (length (now (out .entry))) (now (s .entry)) ⌝ }
+    ensures { λ _. ⌜ now (out .exit) ≡ rewriteBytes (now (out .entry)) (now (s .entry)) ⌝ }
+    ensures { λ r. ⌜ Rewrites (now (s .entry)) r (now (out .exit)) ⌝ }
+{
+    match sheet_read::read(s) {
+        Reading::Refused { no, place } => Put::Refused { no, place },
+        Reading::Accepted {
+            head,
+            streams: _,
+            first,
+        } => {
+            if head.kind != 3 {
+                return copy(s, out);
+            }
+            renew(head, &s[first..], out)
+        }
+    }
+}
