@@ -9,6 +9,7 @@ pub mod Kept
 pub mod Known
 pub mod Lengths
 pub mod Messages
+pub mod Missing
 pub mod Openings
 pub mod Order
 pub mod Refusals
