@@ -67,8 +67,8 @@ kind  body  fields, each with its bytes and its range
    1     1  P-NET segment: masters N (1) 1..32
    2    11  P-NET stream: master (1) 1..N, longest cycle C (2) 1..1548 bp,
             spacing T (4) 1..1000000000 bp, deadline D (4) 1..T bp
-   3     9  PROFIBUS ring, read and no longer written: masters n (1) 1..32, ring
-            latency L (4) 1..100000 bp, longest message M (4) 1..100000 bp
+   3     9  PROFIBUS ring: masters n (1) 1..32, ring latency L (4) 1..100000 bp,
+            longest message M (4) 1..100000 bp
    4     9  PROFIBUS high-priority stream: master (1) 1..n, cycle C (4) 1..M bp,
             deadline D (4) 1..1000000000 bp
    5     4  WorldFIP: one buffer exchange E (4) 1..1000000 us
@@ -87,13 +87,13 @@ kind  body  fields, each with its bytes and its range
 fn rules() -> bool {
     put(
         b"
-The first record is 1, 3, 5 or 9; all later ones are 2 or 7, 4, 6 or 4 to match,
-but one of kind 8 may stand just behind kind 1. Between kind 9 and the streams
-stands one of kind 10 for each master, in any order: M is its own there, and
-every master's in kind 3. P-NET and PROFIBUS: at most 800 streams, at most 80
-for one master. WorldFIP: at most 64 variables, no identifier twice. us are
-microseconds and ns nanoseconds. bp are bit periods: of P-NET, 48 in 625 us or 6
-in 78125 ns; of that ring for PROFIBUS.
+The first record is 1, 3, 5 or 9; all later ones are 2 or 7, 4 or 6 to match,
+but one of kind 8 may stand just behind kind 1, and one of kind 10 for each
+master, in any order, stands behind kind 9. Kind 3 is read and no longer
+written: its M is that of every master. P-NET and PROFIBUS: at most 800 streams,
+at most 80 for one master. WorldFIP: at most 64 variables, no identifier twice.
+us are microseconds and ns nanoseconds. bp are bit periods: of P-NET, 48 in 625
+us or 6 in 78125 ns; of that ring for PROFIBUS.
 
 Edition 1 of the P-NET rule, which holds without kind 8, charges each master the
 longest that it holds the token itself, and 10 bp if it has no streams; edition
