@@ -166,10 +166,10 @@ module _ (rs : List Record) (right : Right rs) where
           omega (arith, message-of-master S y (kind ∙ e), message-in-range (longestOf y (S .settings)) (settings-short y (take (suc i) rs) short) .1)
 
   -- every record is in range for the writer
-  pub ranged-at : (i : ℕ) → i < length rs → inRange greatest (getD rs i nothing) ≡ true
+  pub right-ranged : (i : ℕ) → i < length rs → inRange greatest (getD rs i nothing) ≡ true
   unfolding at front
-  ranged-at zero l = in-range-mono no-limits greatest (at 0) (record { masters = omega arith; message = omega arith }) ranged-first
-  ranged-at (suc i) l = later (fits-then (front i) (at (suc i) .kind) (right .each (suc i) l .is-right))
+  right-ranged zero l = in-range-mono no-limits greatest (at 0) (record { masters = omega arith; message = omega arith }) ranged-first
+  right-ranged (suc i) l = later (fits-then (front i) (at (suc i) .kind) (right .each (suc i) l .is-right))
     where
       h : isFirst (front i .head .kind) ≡ true
       h = ap (λ (r : Record). isFirst (r .kind)) (first-of i) ∙ stands-first
@@ -197,10 +197,10 @@ module _ (rs : List Record) (right : Right rs) where
       later (as-stream e) = ranged-for-writer (front i) (at (suc i)) short ranged-there h ranged-head e
 
   -- a ring of kind 3 stands first, or nowhere
-  ring-first : (i : ℕ) → i < length rs → getD rs i nothing .kind ≡ 3 → getD rs 0 nothing .kind ≡ 3
+  old-ring-first : (i : ℕ) → i < length rs → getD rs i nothing .kind ≡ 3 → getD rs 0 nothing .kind ≡ 3
   unfolding at front isStream partOf lineOf kinds
-  ring-first zero l k = k
-  ring-first (suc i) l k = absurd (later (fits-then (front i) (at (suc i) .kind) (right .each (suc i) l .is-right)))
+  old-ring-first zero l k = k
+  old-ring-first (suc i) l k = absurd (later (fits-then (front i) (at (suc i) .kind) (right .each (suc i) l .is-right)))
     where
       set : at (suc i) .kind ≡ 8 ⊎ at (suc i) .kind ≡ 10 → ⊥
       set (inl e) = omega arith
@@ -216,14 +216,14 @@ module _ (rs : List Record) (right : Right rs) where
 
   -- and without one every record may be written
   pub writable : (getD rs 0 nothing .kind ≡ 3 → ⊥) → (i : ℕ) → i < length rs → (written (getD rs i nothing .kind) ≡ true) × (inRange greatest (getD rs i nothing) ≡ true)
-  writable n i l = (written-is (getD rs i nothing .kind) ∙ rw (right .each i l .is-known, ne-eqb (getD rs i nothing .kind) 3 (λ k. n (ring-first i l k))), ranged-at i l)
+  writable n i l = (written-is (getD rs i nothing .kind) ∙ rw (right .each i l .is-known, ne-eqb (getD rs i nothing .kind) 3 (λ k. n (old-ring-first i l k))), right-ranged i l)
 
   s : List ℕ
   s = bytesOf rs
 
   decode-at : (i : ℕ) → i < length rs → decode s (length (bytesOf (take i rs))) ≡ at i
   unfolding s at
-  decode-at i l = rw (bytes-split rs i l) (decode-encode (at i) (ranged-at i l) (bytesOf (take i rs)) (bytesOf (drop (suc i) rs)))
+  decode-at i l = rw (bytes-split rs i l) (decode-encode (at i) (right-ranged i l) (bytesOf (take i rs)) (bytesOf (drop (suc i) rs)))
 
   length-front : (i : ℕ) → i < length rs → length (bytesOf (take (suc i) rs)) ≡ length (bytesOf (take i rs)) + sizeOf (at i .kind)
   unfolding at

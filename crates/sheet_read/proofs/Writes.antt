@@ -75,10 +75,16 @@ write-all (r ∷ rs) ok b at room =
 pub right-writes : (rs : List Record) → Right rs → (getD rs 0 nothing .kind ≡ 3 → ⊥) → (b : List ℕ) (at : ℕ) → at + length (bytesOf rs) ≤ length b → (b' : List ℕ) × (end : ℕ) × Writes b at rs b' end
 right-writes rs right n b at room = write-all rs (writable rs right n) b at (omega arith)
 
--- a ring of kind 3 is not: its first record is refused with 2, at whatever place
+-- a sheet that does is not: the ring is refused with 2, at whatever place
 pub old-ring-refused : (n at : ℕ) (r : Record) → r .kind ≡ 3 → putAnswer n at r ≡ put.Refused 2 at
 unfolding putAnswer writeChecks verdict written lineOf kinds
 old-ring-refused n at r e = rw e
+
+pub old-ring-unwritten : {b b' : List ℕ} {at end : ℕ} {r : Record} {rs : List Record} → r .kind ≡ 3 → Writes b at (r ∷ rs) b' end → ⊥
+old-ring-unwritten {b} {at = at} {r = r} k (next {e = e} q w) =
+    let f : put.Refused 2 at ≡ put.Next e = sym (old-ring-refused (length b) at r k) ∙ q in
+    let z : _≡_ {A = ℕ} 0 1 = cc in
+    omega arith
 
 -- records that are written begin within the buffer
 begins-within : {b b' : List ℕ} {at end : ℕ} {rs : List Record} → Writes b at rs b' end → 1 ≤ length rs → at ≤ length b
