@@ -1,5 +1,5 @@
 -- Page 02, Ask 8: what rewriting answers and leaves in the run, by what reading says. Assumes nothing.
-use Prim.Native.Nat.{ℕ, _≤_, _<_}
+use Prim.Native.Nat.{ℕ, _-_, _≤_, _<_}
 use mathlib.Core.Path.{_≡_, refl, sym, ap, _∙_, subst}
 use mathlib.Core.List.{List, _++_}
 use mathlib.Core.Bool.{Bool, true, false}
@@ -7,7 +7,7 @@ use native.Mathlib.Nat.{add-zero}
 use native.Mathlib.Omega.{arith}
 use lib.Dec.{ltb}
 use lib.ListN.{length, getD, take, drop, length-drop}
-use lib.Seq.{take-append-seam}
+use lib.Seq.{take-all, take-append-seam}
 use Rattle.common.specs.Checks.{verdict}
 use Rattle.text.specs.Text.{over}
 use Rattle.sheet_record.specs.declared.Record.{Record}
@@ -28,7 +28,7 @@ use Rattle.sheet_rewrite.proofs.Rewritten.{keeps, rewritten-alike, rewr
 
 -- what `rewrite` answers and leaves in the run
 abbrev pub RewrittenAs : List ℕ → List ℕ → Put → List ℕ → Type 0
-RewrittenAs old s p now = (p ≡ rewriteAnswer (length old) s) × (now ≡ rewriteBytes old s) × Rewrites s p now
+RewrittenAs old s p now = (p ≡ rewriteAnswer (length old) s) × ((now ≡ rewriteBytes old s) × Rewrites s p now)
 
 -- what the answer promises holds of every sheet and every run
 pub rewrites : (old s : List ℕ) → Rewrites s (rewriteAnswer (length old) s) (rewriteBytes old s)
@@ -48,9 +48,16 @@ rewrites old s = by (reading s) refl
     by (Read S) r = room S r (ltb (length old) (length (rewritten s S))) refl
     by (Not n p) r = rw r refused
 
+-- what stands behind a place, as a part of the sheet is lent
+abbrev pub rest : List ℕ → ℕ → List ℕ
+rest s at = take (length s - at) (drop at s)
+
+rest-all : (s : List ℕ) (at : ℕ) → rest s at ≡ drop at s
+rest-all s at = take-all (length s - at) (drop at s) (omega (arith, length-drop at s))
+
 module _ (old s : List ℕ) where
   promised : {p : Put} {now : List ℕ} → p ≡ rewriteAnswer (length old) s → now ≡ rewriteBytes old s → RewrittenAs old s p now
-  promised a b = (a, b, rw (a, b) (rewrites old s))
+  promised a b = (a, (b, rw (a, b) (rewrites old s)))
 
   pub rewritten-not : (n p : ℕ) → told s (reading s) ≡ answer.Refused n p → RewrittenAs old s (put.Refused n p) old
   unfolding rewriteAnswer rewriteBytes
@@ -86,17 +93,17 @@ module _ (old s : List ℕ) where
           starts : first ≡ placeOf s (firstStream (sheetIn s))
           starts = its .starts ∙ ap (placeOf s) (add-zero (firstStream (sheetIn s)))
 
-      pub rewritten-short : length (drop first s) ≤ 12804
-      rewritten-short = omega (arith, length-drop first s, length-at-most s (sheetIn s) (its .reads), longest-sheet-is)
+      pub rewritten-short : length (rest s first) ≤ 12804
+      rewritten-short = omega (arith, ap length (rest-all s first), length-drop first s, length-at-most s (sheetIn s) (its .reads), longest-sheet-is)
 
-      pub rewritten-filled : ((i : ℕ) → getD s i 0 < 256) → {p : Put} {now : List ℕ} → FilledAs old (frontBytes head (head .a) ++ drop first s) p now → RewrittenAs old s p now
+      pub rewritten-filled : ((i : ℕ) → getD s i 0 < 256) → {p : Put} {now : List ℕ} → FilledAs old (frontBytes head (head .a) ++ rest s first) p now → RewrittenAs old s p now
       unfolding streamPlace
       rewritten-filled bytes {p} {now} f = filled (subst (λ (t : List ℕ). FilledAs old t p now) (sym (rewritten-bytes s (sheetIn s) bytes (its .reads) (first-kind ∙ three) ∙ same)) f)
         where
           starts : placeOf s (firstStream (sheetIn s)) ≡ first
           starts = sym (its .starts ∙ ap (placeOf s) (add-zero (firstStream (sheetIn s))))
 
-          same : frontBytes (sheetIn s .head) (mastersOf (sheetIn s)) ++ drop (placeOf s (firstStream (sheetIn s))) s ≡ frontBytes head (head .a) ++ drop first s
+          same : frontBytes (sheetIn s .head) (mastersOf (sheetIn s)) ++ drop (placeOf s (firstStream (sheetIn s))) s ≡ frontBytes head (head .a) ++ rest s first
           same =
               ap (λ (r : Record). frontBytes r (r .a) ++ drop (placeOf s (firstStream (sheetIn s))) s) (sym (its .begins))
-              ∙ ap (λ (x : ℕ). frontBytes head (head .a) ++ drop x s) starts
+              ∙ (ap (λ (x : ℕ). frontBytes head (head .a) ++ drop x s) starts ∙ ap (λ (x : List ℕ). frontBytes head (head .a) ++ x) (sym (rest-all s first)))
