@@ -1,17 +1,16 @@
 -- What is known of a sheet that reads without refusal: all that a planner goes by, with nothing about bytes. Assumes nothing.
 use mathlib.Core.Path.{_≡_, refl, sym, ap, _∙_, subst}
-use mathlib.Core.Bool.{Bool, true, false, cond, not, _&&_, _||_}
+use mathlib.Core.Bool.{Bool, true, false, cond, _&&_, _||_}
 use mathlib.Core.List.{List, [], _∷_, _++_}
 use mathlib.Core.Logic.{_⊎_, inl, inr}
 use Prim.Native.Nat.{ℕ, zero, suc, _+_, _*_, _≤_, _<_}
 use native.Mathlib.Nat.{not-suc-le-zero, zero-mul, suc-mul}
 use native.Mathlib.Omega.{arith}
 use native.Mathlib.Decide.{ℕ-discrete}
-use borrow.Author.Tests.{ltb-false, leb-false, le-leb, eqb-true, eqb-false, eq-eqb, ne-eqb}
+use borrow.Author.Tests.{ltb-false, leb-false, le-leb, eqb-true, eqb-false, ne-eqb}
 use lib.ListN.{length, getD, length-append, List·getD-append}
 use lib.Seq.{getD-at}
 use lib.Dec.{ltb, leb, eqb}
-use Rattle.common.specs.Sums.{when}
 use Rattle.common.specs.Checks.{verdict, Verdict}
 use Rattle.common.specs.Checks.Verdict.{Passed, Refused}
 use Rattle.common.proofs.Checks.{Clear, passed-then}
@@ -21,12 +20,11 @@ use Rattle.sheet_record.specs.declared.Met.{Met}
 use Rattle.sheet_record.specs.declared.Record.{Record}
 use Rattle.sheet_record.specs.Kinds.{known, sizeOf, decode, inRange, whole, metAt, metOf, nothing, widths, fieldsOf, lineOf, kinds, busOf, isFirst, isSetting, isStream, isStreamOf}
 use Rattle.sheet_record.proofs.Parts.{setting-is, first-kinds, pnet-first, setting-kinds}
-use Rattle.sheet_read.specs.Sheets.{Sheet, sheetOf, having, busIn, given, messageOf, editionOf, countOf, longestOf, mostInAll, hasMasters, lacksOf, lacking, overLimit, metBefore}
+use Rattle.sheet_read.specs.Sheets.{Sheet, sheetOf, busIn, given, messageOf, editionOf, countOf, longestOf, mostInAll, hasMasters, lacksOf, lacking, overLimit, metBefore}
 use Rattle.sheet_read.specs.Steps.{editionMet, editionAt}
-use Rattle.sheet_read.specs.Records.{recordsIn}
 use Rattle.sheet_read.specs.Whole.{placeOf, recordsOf, before, firstStream, endChecks, ended, reading}
 use Rattle.sheet_read.specs.Whole.Outcome.{Read, Not}
-use Rattle.sheet_read.proofs.Walk.{before-none, head-at, place-next}
+use Rattle.sheet_read.proofs.Walk.{head-at, place-next}
 use Rattle.sheet_read.proofs.Cases.{PassesAt, Upto, Stops, upto-front, reading-stops}
 use Rattle.sheet_read.proofs.Cases.Stops.{by-record, at-end}
 use Rattle.sheet_read.proofs.Counts.{count-more, count-none}
@@ -355,8 +353,8 @@ module _ (s : List ℕ) (m : ℕ) (u : Upto s (suc m)) where
   pub streams-few : length (before s (suc m) .streams) ≤ mostInAll (busOf (decode s 0 .kind))
   streams-few = sound-upto s m u .few
 
-  -- where no setting is longer than v, and no stream longer than w, the places are no higher
-  pub place-bound : (v w : ℕ) → ((k : ℕ) → isSetting k ≡ true → sizeOf k ≤ v) → ((k : ℕ) → isStreamOf (busOf (decode s 0 .kind)) k ≡ true → sizeOf k ≤ w)
+  -- where no setting of the sheet is longer than v, and no stream of its bus longer than w, the places are no higher
+  pub place-bound : (v w : ℕ) → ((j : ℕ) → j < m → isSetting (nth s (suc j) .kind) ≡ true → sizeOf (nth s (suc j) .kind) ≤ v) → ((k : ℕ) → isStreamOf (busOf (decode s 0 .kind)) k ≡ true → sizeOf k ≤ w)
       → (j : ℕ) → j ≤ m → placeOf s (suc j) ≤ sizeOf (decode s 0 .kind) + length (before s (suc j) .settings) * v + length (before s (suc j) .streams) * w
   unfolding placeOf decode
   place-bound v w settings short zero l =
@@ -373,7 +371,7 @@ module _ (s : List ℕ) (m : ℕ) (u : Upto s (suc m)) where
       step ih (as-first e z) = absurd (head-some s j (upto-front s (suc m) (suc j) (omega arith) u) z)
       step ih (as-setting e z) =
           let a = adds-setting s (suc j) e in
-          rw (a .0, a .1, length-append (S .settings) (nth s (suc j) ∷ [])) (omega (arith, ih, settings (nth s (suc j) .kind) e, suc-mul (length (S .settings)) v))
+          rw (a .0, a .1, length-append (S .settings) (nth s (suc j) ∷ [])) (omega (arith, ih, settings j (omega arith) e, suc-mul (length (S .settings)) v))
       step ih (as-stream e) =
           let a = adds-stream s (suc j) (stream-of (busIn S) (nth s (suc j) .kind) e .0) in
           let its : isStreamOf (busOf (decode s 0 .kind)) (nth s (suc j) .kind) ≡ true = rw (head-at s j) at e in

@@ -2,14 +2,14 @@
 -- behind a ring of kind 9, no two of one master. Assumes nothing.
 use mathlib.Core.Path.{_≡_, refl, sym, ap, _∙_, subst}
 use mathlib.Core.Bool.{Bool, true, false, _&&_}
-use mathlib.Core.List.{List, [], _∷_, _++_}
+use mathlib.Core.List.{List, [], _∷_}
 use mathlib.Core.Logic.{_⊎_, inl, inr}
 use Prim.Native.Nat.{ℕ, zero, suc, _+_, _≤_, _<_}
 use native.Mathlib.Nat.{not-suc-le-zero}
 use native.Mathlib.Omega.{arith}
-use borrow.Author.Tests.{eqb-true, eq-eqb, ltb-false}
+use borrow.Author.Tests.{eqb-true, ltb-false}
 use lib.Dec.{eqb, ltb}
-use lib.ListN.{length, getD, length-append, List·getD-append}
+use lib.ListN.{length, getD, List·getD-append}
 use Rattle.common.specs.Sums.{when}
 use Rattle.sheet_record.specs.declared.Record.{Record}
 use Rattle.sheet_record.specs.Kinds.{decode, isSetting, isStream, nothing}
@@ -17,7 +17,7 @@ use Rattle.sheet_record.proofs.Tables.{both-true}
 use Rattle.sheet_record.proofs.Parts.{setting-kinds}
 use Rattle.sheet_ranges.specs.Ranges.{MessageRanges, OpenRingRanges}
 use Rattle.sheet_ranges.proofs.Ranges.{message-ranges, open-ring-ranges}
-use Rattle.sheet_read.specs.Sheets.{Sheet, having, sheetOf, busIn, given, countOf, ofKind, fits, lacking, repeated}
+use Rattle.sheet_read.specs.Sheets.{having, sheetOf, busIn, given, countOf, ofKind, fits, lacking, repeated}
 use Rattle.sheet_read.specs.Records.{recordsIn}
 use Rattle.sheet_read.specs.Whole.{placeOf, recordsOf, before}
 use Rattle.sheet_read.proofs.Walk.{head-at, record-at}
