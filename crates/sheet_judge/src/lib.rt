@@ -76,7 +76,7 @@ pub fn stands(s: &[u8], at: usize, kind: u8) -> bool
     ensures { λ r. ⌜ r ≡ eqb (getD (now (s .entry)) at 0) kind ⌝ }
 {
     if s.len() <= at {
-        return kind == 0;
+        return 0 == kind;
     }
     s[at] == kind
 }

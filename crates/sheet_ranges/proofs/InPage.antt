@@ -1,4 +1,4 @@
--- Page 01, 'Sheet records', and page 02, Asks 7 and 10: a record of a known kind is in range exactly if each of its fields is in the page's range, and 0 where the
+-- Page 01, 'Sheet records', and page 02, Asks 7, 8 and 10: a record of a known kind is in range exactly if each of its fields is in the page's range, and 0 where the
 -- kind has no field, as it always is in a record that is read. Assumes nothing.
 use mathlib.Core.Path.{_≡_, refl}
 use mathlib.Core.Bool.{Bool, true, false, _&&_}
@@ -12,10 +12,10 @@ use lib.ListN.{length, getD}
 use Rattle.sheet_record.specs.declared.Given.{Given}
 use Rattle.sheet_record.specs.declared.Record.{Record}
 use Rattle.sheet_record.specs.Kinds.{Field, kinds, lineOf, fieldsOf, known, fieldAt, decode, numbers, limit, ranged, inRange}
-use Rattle.sheet_ranges.specs.Ranges.{Range, OneField, SegmentRanges, PnetStreamRanges, RingRanges, RingStreamRanges, ExchangeRanges, VariableRanges, JitterStreamRanges, EditionRanges, InPage}
-use Rattle.sheet_ranges.specs.Ranges.InPage.{segment, pnet-stream, ring, ring-stream, exchange, variable, jitter-stream, edition}
+use Rattle.sheet_ranges.specs.Ranges.{Range, OneField, SegmentRanges, PnetStreamRanges, RingRanges, RingStreamRanges, ExchangeRanges, VariableRanges, JitterStreamRanges, EditionRanges, OpenRingRanges, MessageRanges, InPage}
+use Rattle.sheet_ranges.specs.Ranges.InPage.{segment, pnet-stream, ring, ring-stream, exchange, variable, jitter-stream, edition, open-ring, master-message}
 use Rattle.sheet_record.proofs.Parts.{by-kind}
-use Rattle.sheet_ranges.proofs.Ranges.{range-within, segment-ranges, pnet-stream-ranges, ring-ranges, ring-stream-ranges, exchange-ranges, variable-ranges, jitter-stream-ranges, edition-ranges}
+use Rattle.sheet_ranges.proofs.Ranges.{range-within, segment-ranges, pnet-stream-ranges, ring-ranges, ring-stream-ranges, exchange-ranges, variable-ranges, jitter-stream-ranges, edition-ranges, open-ring-ranges, message-ranges}
 
 -- ---- Kind by kind
 
@@ -74,6 +74,18 @@ module _ (g : Given) (r : Record) where
   edition-in-range k w =
       rw k (alone (range-within 1 (r .a) 2 (w .edition)) (w .one-field))
 
+  pub open-ring-in-range : r .kind ≡ 9 → OpenRingRanges r → inRange g r ≡ true
+  unfolding inRange ranged limit fieldsOf lineOf kinds
+  open-ring-in-range k w =
+      rw k (together (range-within 1 (r .a) 32 (w .masters)) (range-within 1 (r .b) 100000 (w .latency)) (eq-eqb (r .c) 0 (w .no-c))
+      (eq-eqb (r .d) 0 (w .no-d)) (eq-eqb (r .e) 0 (w .no-e)))
+
+  pub message-in-range : r .kind ≡ 10 → MessageRanges g r → inRange g r ≡ true
+  unfolding inRange ranged limit fieldsOf lineOf kinds
+  message-in-range k w =
+      rw k (together (range-within 1 (r .a) (g .masters) (w .master)) (range-within 1 (r .b) 100000 (w .message)) (eq-eqb (r .c) 0 (w .no-c))
+      (eq-eqb (r .d) 0 (w .no-d)) (eq-eqb (r .e) 0 (w .no-e)))
+
 -- ---- All kinds
 
 -- in the page's ranges, and so in range
@@ -86,6 +98,8 @@ in-page-in-range g r (exchange k w) = exchange-in-range g r k w
 in-page-in-range g r (variable k w) = variable-in-range g r k w
 in-page-in-range g r (jitter-stream k w) = jitter-stream-in-range g r k w
 in-page-in-range g r (edition k w) = edition-in-range g r k w
+in-page-in-range g r (open-ring k w) = open-ring-in-range g r k w
+in-page-in-range g r (master-message k w) = message-in-range g r k w
 
 -- a record of a known kind is in range exactly if each of its fields is in the page's range
 pub in-range-exactly : (g : Given) (r : Record) → known (r .kind) ≡ true → (inRange g r ≡ true) ↔ InPage g r
@@ -107,6 +121,8 @@ in-range-exactly g r is-known = (λ e. of-page e (r .kind) is-known refl, in-pag
         (λ o k. variable k (variable-ranges g r e k))
         (λ o k. jitter-stream k (jitter-stream-ranges g r e k))
         (λ o k. edition k (edition-ranges g r e k))
+        (λ o k. open-ring k (open-ring-ranges g r e k))
+        (λ o k. master-message k (message-ranges g r e k))
         (λ n. no)
 
 -- ---- Fields that a kind does not have

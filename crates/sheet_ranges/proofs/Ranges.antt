@@ -1,4 +1,4 @@
--- Page 01, 'Sheet records', and page 02, Asks 7 and 10: a record in range has its fields in the page's ranges, kind by kind. Assumes nothing.
+-- Page 01, 'Sheet records', and page 02, Asks 7, 8 and 10: a record in range has its fields in the page's ranges, kind by kind. Assumes nothing.
 use mathlib.Core.Path.{_≡_, refl, ap}
 use mathlib.Core.Bool.{Bool, true, false, _&&_}
 use mathlib.Core.List.{List, [], _∷_}
@@ -12,7 +12,7 @@ use Rattle.sheet_record.specs.declared.Given.{Given}
 use Rattle.sheet_record.specs.declared.Record.{Record}
 use Rattle.sheet_record.specs.Kinds.{Field, Limit, kinds, lineOf, fieldsOf, isStreamOf, limit, within, ranged, inRange, numbers}
 use Rattle.sheet_record.specs.Kinds.Limit.{is, masters, message, own, under, less}
-use Rattle.sheet_ranges.specs.Ranges.{Range, OneField, SegmentRanges, PnetStreamRanges, RingRanges, RingStreamRanges, ExchangeRanges, VariableRanges, JitterStreamRanges, EditionRanges}
+use Rattle.sheet_ranges.specs.Ranges.{Range, OneField, SegmentRanges, PnetStreamRanges, RingRanges, RingStreamRanges, ExchangeRanges, VariableRanges, JitterStreamRanges, EditionRanges, OpenRingRanges, MessageRanges}
 use Rattle.sheet_record.proofs.Tables.{both-true}
 use Rattle.sheet_record.proofs.Parts.{pnet-stream-kinds}
 
@@ -177,6 +177,30 @@ module _ (g : Given) (r : Record) (e : inRange g r ≡ true) where
       record {
         edition = within-range 1 (r .a) 2 (t .for-a);
         one-field = none-behind (t .for-b) (t .for-c) (t .for-d) (t .for-e);
+      }
+
+  pub open-ring-ranges : r .kind ≡ 9 → OpenRingRanges r
+  unfolding inRange ranged limit fieldsOf lineOf kinds
+  open-ring-ranges k =
+      let t = tests _ _ _ _ _ (rw k at e) in
+      record {
+        masters = within-range 1 (r .a) 32 (t .for-a);
+        latency = within-range 1 (r .b) 100000 (t .for-b);
+        no-c = eqb-true (r .c) 0 (t .for-c);
+        no-d = eqb-true (r .d) 0 (t .for-d);
+        no-e = eqb-true (r .e) 0 (t .for-e);
+      }
+
+  pub message-ranges : r .kind ≡ 10 → MessageRanges g r
+  unfolding inRange ranged limit fieldsOf lineOf kinds
+  message-ranges k =
+      let t = tests _ _ _ _ _ (rw k at e) in
+      record {
+        master = within-range 1 (r .a) (g .masters) (t .for-a);
+        message = within-range 1 (r .b) 100000 (t .for-b);
+        no-c = eqb-true (r .c) 0 (t .for-c);
+        no-d = eqb-true (r .d) 0 (t .for-d);
+        no-e = eqb-true (r .e) 0 (t .for-e);
       }
 
   -- a P-NET stream of either kind has the ranges of one with jitter: without it J is 0

@@ -1,6 +1,6 @@
 -- Page 01, 'Numbered refusals': what it means that a record passes, and where a reading stops. Assumes nothing.
 use mathlib.Core.Path.{_≡_, refl, sym, ap, _∙_, subst}
-use mathlib.Core.Bool.{Bool, true, false, cond, not}
+use mathlib.Core.Bool.{Bool, true, false, cond, not, _&&_, _||_}
 use mathlib.Core.List.{List}
 use Prim.Native.Nat.{ℕ, zero, suc, _+_, _-_, _≤_, _<_, zero-le}
 use native.Mathlib.Nat.{not-suc-le-zero}
@@ -14,8 +14,8 @@ use Rattle.common.specs.Checks.Verdict.{Passed, Refused}
 use Rattle.common.proofs.Checks.{Clear, passed-if, passed-then}
 use Rattle.common.proofs.Checks.Clear.{none, and}
 use Rattle.sheet_record.specs.declared.Record.{Record}
-use Rattle.sheet_record.specs.Kinds.{known, sizeOf, decode, inRange}
-use Rattle.sheet_read.specs.Sheets.{Sheet, given, sheetOf, fits, overLimit, metBefore}
+use Rattle.sheet_record.specs.Kinds.{known, isStream, sizeOf, decode, inRange}
+use Rattle.sheet_read.specs.Sheets.{Sheet, given, sheetOf, fits, lacking, repeated, overLimit, metBefore}
 use Rattle.sheet_read.specs.Whole.{placeOf, before, recordChecks, endChecks, judge, ended, readFrom, reading, Outcome, orElse}
 use Rattle.sheet_read.specs.Whole.Outcome.{Read, Not}
 use Rattle.sheet_read.proofs.Walk.{place-next, place-from}
@@ -28,17 +28,31 @@ pub record Passes (s : List ℕ) (S : Sheet) (at : ℕ) (r : Record) : Type 0 wh
   pub is-right : fits S (r .kind) ≡ true
   pub is-whole : at + sizeOf (r .kind) ≤ length s
   pub is-ranged : inRange (given S (r .a)) r ≡ true
+  pub first-of-master : repeated S r ≡ false
+  pub none-missing : isStream (r .kind) ≡ true → lacking S ≡ false
   pub in-limits : overLimit (S .streams) r ≡ false
   pub is-new : metBefore (S .streams) r ≡ false
 
+-- 20 is two tests: neither holds
+pub neither : (again stream lacks : Bool) → (again || (stream && lacks)) ≡ false → (again ≡ false) × (stream ≡ true → lacks ≡ false)
+neither true stream lacks e = let z : _≡_ {A = ℕ} 0 1 = cc in absurd (omega arith)
+neither false true lacks e = (refl, λ q. e)
+neither false false lacks e = (refl, λ q. let z : _≡_ {A = ℕ} 0 1 = cc in absurd (omega arith))
+
+pub none-of-both : (again stream lacks : Bool) → again ≡ false → (stream ≡ true → lacks ≡ false) → (again || (stream && lacks)) ≡ false
+none-of-both again true lacks e f = rw (e, f refl)
+none-of-both again false lacks e f = rw e
+
 clear-then : {s : List ℕ} {S : Sheet} {at : ℕ} {r : Record} → Clear (recordChecks s S at r) → Passes s S at r
 unfolding recordChecks
-clear-then {s} {S} {at} {r} (and e₂ (and e₃ (and e₁ (and e₄ (and e₅ (and e₇ none)))))) =
+clear-then {s} {S} {at} {r} (and e₂ (and e₃ (and e₁ (and e₄ (and e₂₀ (and e₅ (and e₇ none))))))) =
     record {
       is-known = not-false _ e₂;
       is-right = not-false _ e₃;
       is-whole = ltb-false _ _ e₁;
       is-ranged = not-false _ e₄;
+      first-of-master = neither (repeated S r) (isStream (r .kind)) (lacking S) e₂₀ .0;
+      none-missing = neither (repeated S r) (isStream (r .kind)) (lacking S) e₂₀ .1;
       in-limits = e₅;
       is-new = e₇;
     }
@@ -46,7 +60,8 @@ clear-then {s} {S} {at} {r} (and e₂ (and e₃ (and e₁ (and e₄ (and e₅ (a
 clear-if : {s : List ℕ} {S : Sheet} {at : ℕ} {r : Record} → Passes s S at r → Clear (recordChecks s S at r)
 unfolding recordChecks
 clear-if {s} {S} {at} {r} p =
-    and (ap not (p .is-known)) (and (ap not (p .is-right)) (and (le-ltb _ _ (p .is-whole)) (and (ap not (p .is-ranged)) (and (p .in-limits) (and (p .is-new) none)))))
+    and (ap not (p .is-known)) (and (ap not (p .is-right)) (and (le-ltb _ _ (p .is-whole)) (and (ap not (p .is-ranged))
+    (and (none-of-both (repeated S r) (isStream (r .kind)) (lacking S) (p .first-of-master) (p .none-missing)) (and (p .in-limits) (and (p .is-new) none))))))
 
 module _ (s : List ℕ) where
   -- record i of the sheet passes
@@ -160,10 +175,14 @@ module _ (s : List ℕ) where
   ended-empty = refl
 
   module _ (i : ℕ) (first : before s i .head .kind ≡ 0 → ⊥) where
-    pub ended-no-stream : length (before s i .streams) ≡ 0 → ended s i ≡ Not 6 (length s)
+    pub ended-no-message : lacking (before s i) ≡ true → ended s i ≡ Not 20 (length s)
     unfolding ended endChecks verdict
-    ended-no-stream e = rw (ne-eqb (before s i .head .kind) 0 first, e)
+    ended-no-message l = rw (ne-eqb (before s i .head .kind) 0 first, l)
 
-    pub ended-sheet : (length (before s i .streams) ≡ 0 → ⊥) → ended s i ≡ Read (before s i)
+    pub ended-no-stream : lacking (before s i) ≡ false → length (before s i .streams) ≡ 0 → ended s i ≡ Not 6 (length s)
     unfolding ended endChecks verdict
-    ended-sheet h = rw (ne-eqb (before s i .head .kind) 0 first, ne-eqb (length (before s i .streams)) 0 h)
+    ended-no-stream l e = rw (ne-eqb (before s i .head .kind) 0 first, l, e)
+
+    pub ended-sheet : lacking (before s i) ≡ false → (length (before s i .streams) ≡ 0 → ⊥) → ended s i ≡ Read (before s i)
+    unfolding ended endChecks verdict
+    ended-sheet l h = rw (ne-eqb (before s i .head .kind) 0 first, l, ne-eqb (length (before s i .streams)) 0 h)

@@ -1,6 +1,6 @@
 -- The numbers that the parts of the reader answer at a record are the verdict on that record. Assumes nothing.
 use mathlib.Core.Path.{_≡_, refl}
-use mathlib.Core.Bool.{Bool, true, false, not}
+use mathlib.Core.Bool.{Bool, true, false, cond, not, _&&_, _||_}
 use mathlib.Core.List.{List, [], _∷_}
 use Prim.Native.Nat.{ℕ, zero, suc, _+_}
 use borrow.Author.Tests.{leb-true, leb-false, lt-ltb, le-ltb}
@@ -8,9 +8,9 @@ use lib.ListN.{length, getD}
 use lib.Dec.{leb, ltb}
 use Rattle.common.specs.Checks.{Check, check, Verdict, verdict}
 use Rattle.common.specs.Checks.Verdict.{Refused}
-use Rattle.sheet_record.specs.Kinds.{known, sizeOf, decode, inRange}
+use Rattle.sheet_record.specs.Kinds.{known, isStream, sizeOf, decode, inRange}
 use Rattle.sheet_judge.specs.Own.{ownNo}
-use Rattle.sheet_read.specs.Sheets.{given, fits, overLimit, metBefore}
+use Rattle.sheet_read.specs.Sheets.{given, fits, lacking, repeated, overLimit, metBefore}
 use Rattle.sheet_read.specs.Whole.{placeOf, before, recordChecks, judge}
 
 -- a number that is not 0 is a refusal
@@ -54,9 +54,14 @@ module _ (s : List ℕ) (i : ℕ) where
       (leb (placeOf s i + sizeOf (getD s (placeOf s i) 0)) (length s))
       (inRange (given (before s i) (decode s (placeOf s i) .a)) (decode s (placeOf s i)))
 
-  pub judge-own : judge s i ≡ numbered ownAt (placeOf s i) (verdict lateChecks)
-  unfolding judge recordChecks decode lateChecks ownAt
+  -- 20
+  unfoldable pub wrongAt : Bool
+  wrongAt = repeated (before s i) (decode s (placeOf s i)) || (isStream (decode s (placeOf s i) .kind) && lacking (before s i))
+
+  pub judge-own : judge s i ≡ numbered ownAt (placeOf s i) (cond wrongAt (Refused 20 (placeOf s i)) (verdict lateChecks))
+  unfolding judge recordChecks decode lateChecks ownAt wrongAt verdict
   judge-own =
       rw (above (placeOf s i + sizeOf (getD s (placeOf s i) 0)) (length s))
       (own-first (known (getD s (placeOf s i) 0)) (fits (before s i) (getD s (placeOf s i) 0)) (leb (placeOf s i + sizeOf (getD s (placeOf s i) 0)) (length s))
-      (inRange (given (before s i) (decode s (placeOf s i) .a)) (decode s (placeOf s i))) (placeOf s i) lateChecks)
+      (inRange (given (before s i) (decode s (placeOf s i) .a)) (decode s (placeOf s i))) (placeOf s i)
+      (check 20 (repeated (before s i) (decode s (placeOf s i)) || (isStream (decode s (placeOf s i) .kind) && lacking (before s i))) (placeOf s i) ∷ lateChecks))

@@ -16,7 +16,8 @@ use Rattle.sheet_record.specs.Kinds.{kinds, lineOf, busOf, Part, partOf, isFirs
 use Rattle.sheet_record.specs.Kinds.Part.{no-part, first, setting, stream}
 use Rattle.sheet_record.proofs.Tables.{both-true}
 use Rattle.sheet_record.proofs.Parts.{setting-behind, stream-bus}
-use Rattle.sheet_read.specs.Sheets.{Sheet, having, headOf, sheetOf, busIn, ofKind, placed, again, fits}
+use Rattle.sheet_messages.specs.Messages.{messageBy}
+use Rattle.sheet_read.specs.Sheets.{Sheet, having, headOf, sheetOf, busIn, given, messageOf, longestOf, ofKind, placed, again, fits}
 use Rattle.sheet_read.specs.Records.{recordsIn}
 use Rattle.sheet_read.specs.Whole.{placeOf, recordsOf, before, firstStream}
 use Rattle.sheet_read.proofs.Walk.{having-it, not-having, length-records, record-at, head-at, settings-more, streams-more}
@@ -27,12 +28,28 @@ never e = let z : _≡_ {A = ℕ} 0 1 = cc in absurd (omega arith)
 
 -- ---- Limits
 
--- what a first record is given, and what it sets
+-- what a first record is given
 abbrev pub no-limits : Given
 no-limits = record { masters = 0; message = 0 }
 
-abbrev pub limits-of : Record → Given
-limits-of h = record { masters = h .a; message = h .c }
+pub given-none : (y : ℕ) → given (sheetOf []) y ≡ no-limits
+unfolding sheetOf headOf messageOf
+given-none y = refl
+
+-- what is given is set by the first record and the settings
+pub given-same : (S S' : Sheet) (y : ℕ) → S .head ≡ S' .head → S .settings ≡ S' .settings → given S y ≡ given S' y
+unfolding messageOf
+given-same S S' y h e = rw (h, e)
+
+-- M of the ring, and of a bus that has none 0
+pub message-of-ring : (S : Sheet) (y : ℕ) → (S .head .kind ≡ 9 → ⊥) → messageOf S y ≡ S .head .c
+unfolding messageOf
+message-of-ring S y n = rw (ne-eqb (S .head .kind) 9 n)
+
+-- behind kind 9, the master's own
+pub message-of-master : (S : Sheet) (y : ℕ) → S .head .kind ≡ 9 → messageOf S y ≡ messageBy (longestOf y (S .settings))
+unfolding messageOf
+message-of-master S y e = rw e
 
 -- ---- A kind has one part
 
@@ -127,6 +144,11 @@ pub edition-fits : (S : Sheet) → fits S 8 ≡ (eqb (S .head .kind) 1 && (eqb (
 unfolding fits partOf lineOf kinds
 edition-fits S = refl
 
+-- a longest message: behind kind 9, before the streams
+pub message-fits : (S : Sheet) → fits S 10 ≡ (eqb (S .head .kind) 9 && (eqb (length (S .streams)) 0 && true))
+unfolding fits partOf lineOf kinds
+message-fits S = refl
+
 -- no setting fits behind a stream
 pub setting-late : (S : Sheet) (k : ℕ) → 1 ≤ length (S .streams) → isSetting k ≡ true → fits S k ≡ false
 unfolding fits isSetting
@@ -152,10 +174,14 @@ fits-first k = split (partOf k) refl
     some-bus (inr (inl e)) q = omega (arith, bus-none)
     some-bus (inr (inr e)) q = omega (arith, bus-none)
 
+    behind-some : {h : ℕ} → h ≡ 1 ⊎ h ≡ 9 → 0 ≡ h → ⊥
+    behind-some (inl e) z = omega arith
+    behind-some (inr e) z = omega arith
+
     split : (p : Part) → partOf k ≡ p → placed (sheetOf []) k p ≡ isFirstPart p
     split no-part q = refl
     split first q = refl
-    split (setting h t) q = rw (ne-eqb 0 h (λ z. omega (arith, setting-behind k h t q)))
+    split (setting h t) q = rw (ne-eqb 0 h (λ z. behind-some (setting-behind k h t q) z))
     split stream q = ne-eqb (busOf 0) (busOf k) (some-bus (stream-bus k (ap isStreamPart q)))
 
 -- and that is not `nothing`

@@ -2,6 +2,7 @@
 use mathlib.Core.Path.{_≡_, refl, ap, _∙_}
 use mathlib.Core.Bool.{Bool, true, false, not, _&&_, _||_}
 use mathlib.Core.List.{List, [], _∷_, _++_}
+use mathlib.Core.Logic.{_⊎_, inl, inr}
 use Prim.Native.Nat.{ℕ, _+_, _≤_, _<_, _^_}
 use borrow.Author.Tests.{lt-ltb, le-ltb, ltb-false, not-false}
 use native.Mathlib.Omega.{arith}
@@ -20,6 +21,7 @@ use Rattle.sheet_record.specs.Kinds.{Kind, kinds, lineOf, fieldsOf, some, known
 use Rattle.sheet_write.specs.Writing.{greatest, needed, roomCheck, writeChecks, freeChecks, putBy, pastedBy, putAnswer, putBytes, freeAnswer, freeBytes}
 use Rattle.sheet_record.proofs.Numbers.{length-pasted, pasted-front}
 use Rattle.sheet_record.proofs.Tables.{at-every-line, both-true}
+use Rattle.sheet_record.proofs.Parts.{by-kind}
 use Rattle.sheet_write.proofs.Trips.{length-encode, decode-encode, whole-encode}
 
 -- what a call answers and leaves in the buffer
@@ -105,6 +107,32 @@ written-known k e = split (written k) (known k) e (at-every-line knownIf refl re
     split true b e t = t
     split false true e t = refl
     split false false e t = e
+
+-- k is none of these, in the form in which the last arm of a `match` with arms for them, the last first, knows it
+unfoldable pub NoneIn : List ℕ → ℕ → Type 0
+NoneIn [] k = Unit {0}
+NoneIn (x ∷ xs) k = NoneIn xs k × (k ≡ x → ⊥)
+
+-- the two that are left of what the writer puts
+pub ring-or-message : (k : ℕ) → written k ≡ true → NoneIn (8 ∷ 7 ∷ 6 ∷ 5 ∷ 4 ∷ 2 ∷ 1 ∷ []) k → k ≡ 9 ⊎ k ≡ 10
+unfolding written lineOf kinds NoneIn
+ring-or-message =
+    by-kind (λ k. written k ≡ true → NoneIn (8 ∷ 7 ∷ 6 ∷ 5 ∷ 4 ∷ 2 ∷ 1 ∷ []) k → k ≡ 9 ⊎ k ≡ 10)
+    (λ e n. never e)
+    (λ e n. absurd (n .0 .0 .0 .0 .0 .0 .1 refl))
+    (λ e n. absurd (n .0 .0 .0 .0 .0 .1 refl))
+    (λ e n. never e)
+    (λ e n. absurd (n .0 .0 .0 .0 .1 refl))
+    (λ e n. absurd (n .0 .0 .0 .1 refl))
+    (λ e n. absurd (n .0 .0 .1 refl))
+    (λ e n. absurd (n .0 .1 refl))
+    (λ e n. absurd (n .1 refl))
+    (λ e n. inl refl)
+    (λ e n. inr refl)
+    (λ m e n. never e)
+  where
+    never : {A : Type 0} → false ≡ true → A
+    never e = let z : _≡_ {A = ℕ} 0 1 = cc in absurd (omega arith)
 
 -- what the buffer b then holds: the record, up to the place that was answered, and before and after it what it had
 pub record Stands (b now : List ℕ) (at : ℕ) (r : Record) (e : ℕ) : Type 0 where

