@@ -1,3 +1,4 @@
+pub mod Begins
 pub mod Behind
 pub mod Cases
 pub mod Counts
@@ -5,6 +6,7 @@ pub mod Examples
 pub mod Fronts
 pub mod Judged
 pub mod Kept
+pub mod Messages
 pub mod Order
 pub mod Settings
 pub mod Editions

@@ -11,11 +11,12 @@ use Rattle.sheet_record.specs.declared.Met.{Met}
 use Rattle.sheet_record.specs.Kinds.{isSetting, decode, metOf}
 use Rattle.common.specs.Checks.Verdict.{Passed}
 use Rattle.common.specs.Runs.{tab}
+use Rattle.sheet_messages.specs.Messages.{messageAt}
 use Rattle.sheet_read.specs.Sheets.{Sheet, busIn, messageOf, lacking, sheetOf, fits}
 use Rattle.sheet_read.specs.Whole.{Outcome, placeOf, before, firstStream, judge, reading, told}
 use Rattle.sheet_read.specs.Whole.Outcome.{Read, Not}
 use Rattle.sheet_read.specs.declared.Reading.the-variants as answer
-use Rattle.sheet_read.specs.declared.Settings.{Settings}
+use Rattle.sheet_read.specs.declared.Settling.{Settling}
 
 -- the first record of the sheet passed: it is `head`, and the place behind it is `first`
 pub record Begun (s : List ℕ) (head : Record) (first : ℕ) : Type 0 where
@@ -25,7 +26,7 @@ pub record Begun (s : List ℕ) (head : Record) (first : ℕ) : Type 0 where
   pub is-first : first ≡ placeOf s 1
 
 -- it and the settings behind it passed, c of them; the place behind those is `first`, and no setting that fits stands there. Place y of `messages` has the
--- longest message of master y, and `lacks` says whether one is missing
+-- longest message of master y, it tells that of any other number too, and `lacks` says whether one is missing
 pub record Opened (s : List ℕ) (head : Record) (first : ℕ) (messages : List ℕ) (lacks : Bool) : Type 0 where
   pub c : ℕ
   pub inside : (i : ℕ) → i ≤ c → placeOf s i < length s
@@ -35,10 +36,11 @@ pub record Opened (s : List ℕ) (head : Record) (first : ℕ) (messages : List 
   pub is-first : first ≡ placeOf s (suc c)
   pub ends : isSetting (getD s first 0) ≡ true → fits (before s (suc c)) (getD s first 0) ≡ false
   pub limits : messages ≡ tab (messageOf (before s (suc c))) 33
+  pub of-any : (y : ℕ) → messageAt messages y ≡ messageOf (before s (suc c)) y
   pub is-lacking : lacks ≡ lacking (before s (suc c))
 
 -- what the settings come to: one of them is refused, as reading refuses the sheet, or all passed
-pub record Settles (s : List ℕ) (head : Record) (messages : List ℕ) (r : Settings) : Type 0 where
+pub record Settles (s : List ℕ) (head : Record) (messages : List ℕ) (r : Settling) : Type 0 where
   pub refused : (r .no ≡ 0 → ⊥) → answer.Refused (r .no) (r .at) ≡ told s (reading s)
   pub opened : r .no ≡ 0 → Opened s head (r .at) messages (r .lacks)
 

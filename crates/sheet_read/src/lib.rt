@@ -24,7 +24,7 @@ pub enum Reading {
 
 // What the settings of a sheet come to, which stand between its first record and its streams: the number of a refusal and its place; or 0, the place
 // just after them, and whether a master's longest message is missing.
-pub struct Settings {
+pub struct Settling {
     pub no: u8,
     pub at: usize,
     pub lacks: bool,
@@ -58,9 +58,10 @@ fn read_streams(
         let right = sheet_judge::is_stream(bus, kind);
         let met = sheet_judge::stream_at(s, at, bus);
         let stream = met.found;
+        let message = sheet_messages::message_of(messages, stream.a);
         let given = Given {
             masters: head.a,
-            message: sheet_messages::message_of(messages, stream.a),
+            message,
         };
         let ranged = sheet_judge::stream_in_range(bus, given, stream);
         let own = sheet_judge::own_no(kind, right, met.next != at, ranged);
@@ -81,11 +82,12 @@ fn read_streams(
         n += 1;
         at = met.next;
     }
+    let end = s.len();
+    if lacks {
+        return Reading::Refused { no: 20, place: end };
+    }
     if n == 0 {
-        return Reading::Refused {
-            no: if lacks { 20 } else { 6 },
-            place: s.len(),
-        };
+        return Reading::Refused { no: 6, place: end };
     }
     let accepted = Reading::Accepted {
         head,
@@ -102,10 +104,10 @@ fn read_streams(
 }
 
 // Passes the edition, which stands behind a P-NET segment.
-fn pass_edition(s: &[u8], head: Record, first: usize) -> Settings
+fn pass_edition(s: &[u8], head: Record, first: usize) -> Settling
     requires { ⌜ Begun (now s) head first ⌝ }
     requires { ⌜ (head .kind ≡ 1) × (getD (now s) first 0 ≡ 8) ⌝ }
-    ensures { λ r. ⌜ Settles (now (s .entry)) head (replicate 33 0) r ⌝ }
+    ensures { λ r. ⌜ Settles (now (s .entry)) head (replicate 33 (head .c)) r ⌝ }
 {
     let met = sheet_record::record_of(s, first, 8);
     let given = Given {
@@ -113,17 +115,24 @@ fn pass_edition(s: &[u8], head: Record, first: usize) -> Settings
         message: head.c,
     };
     let ranged = sheet_ranges::in_range_of(8, given, met.found);
-    let no = sheet_judge::own_no(8, true, met.next != first, ranged);
-    Settings {
-        no,
-        at: if no == 0 { met.next } else { first },
+    let own = sheet_judge::own_no(8, true, met.next != first, ranged);
+    if own != 0 {
+        return Settling {
+            no: own,
+            at: first,
+            lacks: false,
+        };
+    }
+    Settling {
+        no: 0,
+        at: met.next,
         lacks: false,
     }
 }
 
 // Passes the longest messages, which stand behind a ring that has none itself: each master's once. Those that are given are kept, at place y that of
 // master y.
-fn pass_messages(s: &[u8], head: Record, first: usize, messages: &mut [u32; 33]) -> Settings
+fn pass_messages(s: &[u8], head: Record, first: usize, messages: &mut [u32; 33]) -> Settling
     requires { ⌜ Begun (now s) head first ⌝ }
     requires { ⌜ head .kind ≡ 9 ⌝ }
     requires { ⌜ now messages ≡ replicate 33 0 ⌝ }
@@ -140,7 +149,7 @@ fn pass_messages(s: &[u8], head: Record, first: usize, messages: &mut [u32; 33])
         let ranged = sheet_ranges::in_range_of(10, given, message);
         let own = sheet_judge::own_no(10, true, met.next != at, ranged);
         if own != 0 {
-            return Settings {
+            return Settling {
                 no: own,
                 at,
                 lacks: false,
@@ -148,7 +157,7 @@ fn pass_messages(s: &[u8], head: Record, first: usize, messages: &mut [u32; 33])
         }
         let master = message.a as usize;
         if messages[master] != 0 {
-            return Settings {
+            return Settling {
                 no: 20,
                 at,
                 lacks: false,
@@ -159,11 +168,11 @@ fn pass_messages(s: &[u8], head: Record, first: usize, messages: &mut [u32; 33])
     }
     let lacks = sheet_messages::lacks(messages, head.a);
     sheet_messages::count_missing(messages);
-    Settings { no: 0, at, lacks }
+    Settling { no: 0, at, lacks }
 }
 
 // Passes the settings of a sheet, and tells the longest message that counts for each master.
-fn pass_settings(s: &[u8], head: Record, first: usize, messages: &mut [u32; 33]) -> Settings
+fn pass_settings(s: &[u8], head: Record, first: usize, messages: &mut [u32; 33]) -> Settling
     requires { ⌜ Begun (now s) head first ⌝ }
     ensures { λ r. ⌜ Settles (now (s .entry)) head (now (messages .exit)) r ⌝ }
 {
@@ -178,7 +187,7 @@ fn pass_settings(s: &[u8], head: Record, first: usize, messages: &mut [u32; 33])
             return pass_edition(s, head, first);
         }
     }
-    Settings {
+    Settling {
         no: 0,
         at: first,
         lacks: false,
