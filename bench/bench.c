@@ -192,12 +192,27 @@ static void with_edition(uint32_t edition, uint32_t silent)
     sheet[2] = 8, sheet[3] = (uint8_t)edition;
 }
 
+static void ring_streams(uint32_t masters, uint32_t streams)
+{
+    for (uint32_t i = 0; i < streams; i++)
+        put(4, 1), put(i % masters + 1, 1), put(100 + i % 400, 4), put(900000000 - 100 * (uint64_t)i, 4);
+}
+
 static void profibus_sheet(uint32_t masters, uint32_t streams)
 {
     length = 0;
     put(3, 1), put(masters, 1), put(1000, 4), put(500, 4);
-    for (uint32_t i = 0; i < streams; i++)
-        put(4, 1), put(i % masters + 1, 1), put(100 + i % 400, 4), put(900000000 - 100 * (uint64_t)i, 4);
+    ring_streams(masters, streams);
+}
+
+/* the same with each master's own longest message, the last master's first */
+static void open_ring(uint32_t masters, uint32_t streams)
+{
+    length = 0;
+    put(9, 1), put(masters, 1), put(1000, 4);
+    for (uint32_t y = masters; y > 0; y--)
+        put(10, 1), put(y, 1), put(500 + y, 4);
+    ring_streams(masters, streams);
 }
 
 /* periods in rows: powers of two up to `longest`, so that the table has that many rows */
@@ -560,6 +575,12 @@ int main(void)
     line("PROFIBUS, 10 masters, 400 streams", our_profibus, their_profibus);
     profibus_sheet(10, 800);
     line("PROFIBUS, 10 masters, 800 streams", our_profibus, their_profibus);
+    open_ring(3, 3);
+    line("PROFIBUS kind 9, 3 masters, 3 streams", our_profibus, their_profibus);
+    open_ring(10, 800);
+    line("PROFIBUS kind 9, 10 masters, 800 streams", our_profibus, their_profibus);
+    open_ring(32, 800);
+    line("PROFIBUS kind 9, 32 masters, 800 streams", our_profibus, their_profibus);
     worldfip_sheet(4, 4, 3);
     line("WorldFIP, 4 variables, 4 rows", our_worldfip, their_worldfip);
     worldfip_sheet(16, 256, 8);
@@ -586,6 +607,10 @@ int main(void)
     pnet_sheet(20, 800, 100000), text_lines();
     with_jitter(50000), text_lines();
     pnet_sheet(20, 800, 100000), with_edition(2, 0), text_lines();
+
+    open_ring(32, 800), text_of_sheet();
+    line("PROFIBUS kind 9, 800 streams, written", our_text, their_text);
+    line("PROFIBUS kind 9, 800 streams, read", our_sheet, their_sheet);
 
     printf("\n" NAME " %15s %15s %8s %21s\n", "capture", "proved", "plain C", "ratio", "ns a record");
     pnet_sheet(2, 3, 100000);
@@ -623,6 +648,9 @@ int main(void)
     spoiled("urgent first, 36 streams, 3 masters", sheet, &length, our_urgent, their_urgent);
     profibus_sheet(10, 100);
     spoiled("PROFIBUS, 10 masters, 100 streams", sheet, &length, our_profibus, their_profibus);
+    open_ring(10, 100);
+    spoiled("PROFIBUS kind 9, 10 masters, 100 streams", sheet, &length, our_profibus, their_profibus);
+    spoiled("a ring of kind 9 written as text", sheet, &length, our_text, their_text);
     worldfip_sheet(16, 256, 8);
     spoiled("WorldFIP, 16 variables, 256 rows", sheet, &length, our_worldfip, their_worldfip);
     pnet_sheet(2, 3, 100000);
@@ -647,6 +675,9 @@ int main(void)
     with_edition(2, 0);
     text_of_sheet();
     spoiled("a text of 12 lines with J and an edition", text, &written, our_sheet, their_sheet);
+    open_ring(4, 10);
+    text_of_sheet();
+    spoiled("a text of 15 lines of a ring", text, &written, our_sheet, their_sheet);
     worldfip_sheet(16, 256, 8);
     text_of_sheet();
     spoiled("a text of 17 lines", text, &written, our_sheet, their_sheet);

@@ -26,6 +26,8 @@ NAMES = {
     6: "WorldFIP variable",
     7: "P-NET stream with jitter",
     8: "P-NET rule",
+    9: "PROFIBUS ring",
+    10: "PROFIBUS master",
 }
 # each field's bytes, name and unit
 FIELDS = {
@@ -41,6 +43,8 @@ FIELDS = {
     5: [(4, "one buffer exchange E", " us")],
     6: [(2, "identifier", ""), (4, "period", " us")],
     8: [(1, "edition", "")],
+    9: [(1, "masters n", ""), (4, "ring latency L", " bp")],
+    10: [(1, "number", ""), (4, "longest message", " bp")],
 }
 FIELDS[7] = FIELDS[2] + [(4, "release jitter J", " bp")]
 
@@ -62,6 +66,16 @@ def of_edition(edition, deadline):
 def with_an_alarm(deadline, of_second):
     """One master that is alone, so V is 250 bp: an alarm, and two streams that ask seldom."""
     return [(1, 1), (2, 1, 203, 500, deadline), (2, 1, 203, 100_000, of_second), (2, 1, 203, 100_000, 100_000)]
+
+
+RING = [(3, 3, 300, 500), (4, 1, 400, 8_400), (4, 1, 500, 10_000), (4, 2, 300, 5_000)]
+# master 5 is a slow drive, whose longest message is twelve times that of any other
+WITH_A_SLOW_DRIVE = [(4, 1, 400, 24_000), (4, 1, 500, 40_000), (4, 2, 300, 12_000), (4, 5, 6_000, 60_000)]
+
+
+def own_messages(*longest):
+    """The longest message of each master, from the first on."""
+    return [(10, master, message) for master, message in enumerate(longest, start=1)]
 
 
 # Source 004's plant: 5 ms are 384 bp, so its spacings are whole numbers of bp
@@ -237,8 +251,9 @@ SAMPLES = [
     ),
     (
         "profibus-ring",
-        "Accepted. Stream 1 alone fails at 2,501 bp.",
-        [(3, 3, 300, 500), (4, 1, 400, 8_400), (4, 1, 500, 10_000), (4, 2, 300, 5_000)],
+        "Accepted. Stream 1 alone fails at 2,501 bp. A ring of kind 3, which has one longest message for\n"
+        "all masters and no text; profibus-ring-rewritten is the same ring, as it is written now.",
+        RING,
         0,
         "PROFIBUS ring\nTTR 2500 bp limited by stream 1\n",
     ),
@@ -246,9 +261,36 @@ SAMPLES = [
         "profibus-ring-late",
         "Refused with 9. At a rotation time of 300 bp, the latency, stream 3 needs\n"
         "300 + 3 * 500 + 300 = 2,100 bp and has one less.",
-        [(3, 3, 300, 500), (4, 1, 400, 8_400), (4, 1, 500, 10_000), (4, 2, 300, 2_099)],
+        RING[:3] + [(4, 2, 300, 2_099)],
         0,
         "refused 9 at stream 3\n",
+    ),
+    (
+        "profibus-ring-rewritten",
+        "Accepted. This is what planner --rewrite profibus-ring.sheet writes: the ring without its M, that M\n"
+        "for each master, then the streams. Its report is the same.",
+        [(9, 3, 300)] + own_messages(500, 500, 500) + RING[1:],
+        0,
+        "PROFIBUS ring\nTTR 2500 bp limited by stream 1\n",
+    ),
+    (
+        "profibus-slow-drive",
+        "Accepted. Master 5 is a slow drive with messages of up to 6,000 bp, and no other has one above\n"
+        "500 bp. Each master counts with its own: 4 * 500 + 6,000 = 8,000 bp. Stream 3 has\n"
+        "12,000 - 300 - 8,000 bp, which is the TTR. With 6,000 bp for every master it would be\n"
+        "profibus-slow-drive-for-all, and refused.",
+        [(9, 5, 100)] + own_messages(500, 500, 500, 500, 6_000) + WITH_A_SLOW_DRIVE,
+        0,
+        "PROFIBUS ring\nTTR 3700 bp limited by stream 3\n",
+    ),
+    (
+        "profibus-slow-drive-for-all",
+        "Refused with 9. The ring of profibus-slow-drive by kind 3, in which the slow drive's longest message\n"
+        "counts for all five masters, 30,000 bp: at a rotation time of 100 bp stream 1 needs\n"
+        "2 * 30,100 + 400 = 60,600 bp and has 24,000 bp.",
+        [(3, 5, 100, 6_000)] + WITH_A_SLOW_DRIVE,
+        0,
+        "refused 9 at stream 1\n",
     ),
     (
         "worldfip-table",
@@ -299,7 +341,17 @@ SAMPLES = [
         0,
         "refused 3 at byte 14\n",
     ),
+    (
+        "damaged-ring",
+        "Refused with 20. Masters 3 and 1 have their longest message, in any order, and master 2 has none when\n"
+        "the first stream comes. It needs one, without streams of its own too: it may send all the same.",
+        [(9, 3, 300), (10, 3, 500), (10, 1, 500), (4, 1, 400, 8_400)],
+        0,
+        "refused 20 at byte 18\n",
+    ),
 ]
+# what --rewrite makes of a sample is another
+REWRITTEN = {"profibus-ring": "profibus-ring-rewritten"}
 
 # Real cells, from source 004, to start from one that looks like yours; where its figure is another than ours, the listing says why. Fields as above.
 CELLS = [
@@ -419,8 +471,9 @@ CELLS = [
         "profibus-six-masters",
         "Accepted. A ring of six masters with 17 streams (source 004, Table 5.7), any\n"
         "low-priority traffic beside them. The ring runs at 1 Mbit/s, so a bp of it is 1 us: C\n"
-        "and M of 2 ms are 2,000 bp, L of 0.1 ms is 100 bp, and nothing is rounded. Else C, M\n"
-        "and L are to be rounded up and D down: what is accepted so is safe.\n"
+        "and every master's longest message of 2 ms are 2,000 bp, L of 0.1 ms is 100 bp, and\n"
+        "nothing is rounded. Else C, messages and L are to be rounded up and D down: what is\n"
+        "accepted so is safe.\n"
         "\n"
         "The rule is the source's: (60,000 - 2,000) / 3 - 6 * 2,000 bp, rounded down. It prints\n"
         "7.33 ms for 7,333 bp (7.333 ms) and says master 4 or 5; the report has the first stream\n"
@@ -429,7 +482,8 @@ CELLS = [
         "\n"
         "Under its other rule, for few low-priority messages a turn, the source finds D of 50 and\n"
         "60 ms too short (70.1 ms at least). Page 01 goes by source 002 and has no such rule.",
-        [(3, 6, 100, 2_000)]
+        [(9, 6, 100)]
+        + own_messages(*[2_000] * 6)
         + [
             (4, master, 2_000, deadline)
             for master, deadlines in (
@@ -927,6 +981,9 @@ def command_listing(command, about, report):
 def files():
     """Every file's name and contents."""
     made = dict(sheet_files())
+    for old, new in REWRITTEN.items():
+        if second_opinion.rewrite_sheet(made[old + ".sheet"]) != made[new + ".sheet"]:
+            sys.exit("%s: the second opinion rewrites it otherwise" % old)
     made.update(capture_files(made))
     made.update(path_files(made))
     made.update(urgent_files(made))

@@ -1,9 +1,10 @@
-"""Compare a planner's reports, and what it exports and imports, with the second opinion's, byte by byte.
+"""Compare a planner's reports, and what it exports, imports and rewrites, with the second opinion's, byte by byte.
 
-    compare.py PROGRAM... [--seed S] [--count N] [--captures N] [--paths N] [--texts N] [--urgents N] [--jobs J]
+    compare.py PROGRAM... [--seed S] [--count N] [--captures N] [--paths N] [--texts N] [--urgents N] [--rewrites N] [--jobs J]
 
 So many sheets, then so many pairs of a sheet and a capture, then so many paths, then so many texts, then so many sheets with urgent requests first,
-some beside a capture. Two runs are made on each text.
+some beside a capture, then so many sheets that are rewritten. Two runs are made on each text, and on each ring of kind 3 that is rewritten: the new
+sheet has to have the report of the old one.
 
 PROGRAM may be several words, so that a program built for another machine can
 be run under an emulator. Its exit status is held to the second opinion's too.
@@ -22,6 +23,7 @@ sys.dont_write_bytecode = True
 
 import captures  # noqa: E402
 import paths  # noqa: E402
+import rewrites  # noqa: E402
 import second_opinion  # noqa: E402
 import sheets  # noqa: E402
 import texts  # noqa: E402
@@ -35,8 +37,12 @@ LEAST_OF_EACH = 10
 
 ACCEPTED = ["P-NET segment", "PROFIBUS ring", "WorldFIP table", "P-NET path", "P-NET urgent first"]
 OF_SHEETS = ["accepted, " + head for head in ACCEPTED[:3]] + [
-    "refused %d" % number for number in range(1, 13)
-] + ["accepted, P-NET segment, by J", "accepted, P-NET segment, by edition 2", "refused 8, by edition 2"]
+    "refused %d" % number for number in (*range(1, 13), 20)
+] + ["accepted, P-NET segment, by J", "accepted, P-NET segment, by edition 2", "refused 8, by edition 2"] + [
+    "accepted, PROFIBUS ring, by own messages"
+]
+# those that reading gives
+OF_READING = (1, 2, 3, 4, 5, 6, 7, 20)
 OF_CAPTURES = [
     "every answer within its bound",
     "answers above the bound",
@@ -53,12 +59,16 @@ OF_CAPTURES = [
 OF_PATHS = ["accepted, P-NET path", "accepted, P-NET path, of both editions", "sheet of a path refused", "text of a path refused 23"] + [
     "path refused %d" % number for number in (4, 17, 18, 19)
 ] + ["path refused 19, by edition 2"]
-# a text never stands for a cut record or an unknown kind, and for a ring not before its first record has a word
-OF_TEXTS = ["import accepted, kind 1", "import accepted, kind 1 with kind 8", "import accepted, kind 5"] + [
-    "import refused %d" % number for number in (1, 3, 4, 5, 6, 7, 23)
+# a text never stands for a cut record, an unknown kind or a ring of kind 3
+OF_TEXTS = ["import accepted, kind 1", "import accepted, kind 1 with kind 8", "import accepted, kind 5", "import accepted, kind 9 with kind 10"] + [
+    "import refused %d" % number for number in (1, 3, 4, 5, 6, 7, 20, 23)
 ] + [
-    "export accepted, kind 1", "export accepted, kind 1 with kind 8", "export accepted, kind 5", "export refused 2 for kind 3", "export refused by reading", "export refused 23",
-] + ["report of it: " + one for one in ("accepted, P-NET segment", "accepted, WorldFIP table", "refused 23")]
+    "export accepted, kind 1", "export accepted, kind 1 with kind 8", "export accepted, kind 5", "export accepted, kind 9 with kind 10",
+    "export refused 2 for kind 3", "export refused by reading", "export refused 23",
+] + ["report of it: " + one for one in ("accepted, P-NET segment", "accepted, PROFIBUS ring", "accepted, WorldFIP table", "refused 23")]
+OF_REWRITES = ["rewrite accepted, " + one for one in ("kind 1", "kind 1 with kind 8", "kind 3", "kind 5", "kind 9 with kind 10")] + [
+    "rewrite refused %d" % number for number in (*OF_READING, 23)
+] + ["rewritten: " + one for one in ("accepted, PROFIBUS ring", "refused 9")]
 
 MANY_ROUNDS = 100
 # by reading: 1 to 7, but for 3 at byte 0, which is that of another bus too
@@ -142,7 +152,16 @@ def under_edition_1(data):
     return b"".join(second_opinion.record_of(kind, fields) for kind, fields in records if kind != 8)
 
 
-CAUSES = {"edition 2": under_edition_1, "J": without_jitter}
+def with_one_message(data):
+    """The same ring with the longest of all messages as every master's."""
+    sheet = second_opinion.read(data)
+    if sheet.kind != 9:
+        return data
+    streams = b"".join(second_opinion.record_of(kind, fields) for kind, fields in sheet.records if kind == 4)
+    return second_opinion.record_of(3, (*sheet.head, max(sheet.messages.values()))) + streams
+
+
+CAUSES = {"edition 2": under_edition_1, "J": without_jitter, "own messages": with_one_message}
 
 
 def with_cause(one, outcomes, data, shown, expected):
@@ -215,7 +234,7 @@ def compare_path(task):
     return path_with_cause(one, segments, times, deadline), difference
 
 
-FILTERS = {"--import": second_opinion.import_text, "--export": second_opinion.export_given}
+FILTERS = {"--import": second_opinion.import_text, "--export": second_opinion.export_given, "--rewrite": second_opinion.rewrite_given}
 
 
 def kinds_of(sheet):
@@ -229,6 +248,8 @@ def outcome_of_filter(command, given, answer):
         return "import " + ("refused %d" % answer.number if isinstance(answer, Refusal) else "accepted, " + kinds_of(second_opinion.read(answer)))
     data = second_opinion.sheet_given(given)
     sheet = data if isinstance(data, Refusal) else second_opinion.read(data)
+    if command == "--rewrite":
+        return "rewrite " + ("refused %d" % sheet.number if isinstance(sheet, Refusal) else "accepted, " + kinds_of(sheet))
     if isinstance(sheet, Refusal):
         return "export refused 23" if sheet.number == 23 else "export refused by reading"
     return "export %s %s" % ("refused 2 for" if isinstance(answer, Refusal) else "accepted,", kinds_of(sheet))
@@ -278,12 +299,33 @@ def runs_on_texts(program, seed, count):
             yield program, name, command, data, number // 3 % 3
 
 
+def compare_rewritten(task):
+    """The report of a ring that was rewritten is that of the ring of kind 3."""
+    program, name, given, data = task
+    one, difference = compare_one((program, "rewritten: " + name, data, data, second_opinion.report(given)))
+    return "rewritten: " + one, difference
+
+
+def compare_rewrite(task):
+    """What a sheet is rewritten as, or what a rewritten one has for a report."""
+    program, name, given, way, made = task
+    return compare_text((program, name, "--rewrite", given, way)) if made is None else compare_rewritten((program, name, given, made))
+
+
+def runs_on_rewrites(program, seed, count):
+    for number, (name, given) in enumerate(rewrites.rewrites(seed, count)):
+        made = second_opinion.rewrite_given(given)
+        yield program, name, given, number % 3, None
+        if not isinstance(made, Refusal) and given[0] == 3:
+            yield program, name, given, number % 3, made
+
+
 def outcome_of_urgent(given, expected):
     """What --urgent makes of a sheet, and what is special about that."""
     head, *lines = expected.decode("ascii").splitlines()
     one = "urgent accepted"
     if head.startswith("refused "):
-        one = "urgent " + (head if head == "refused 3 at byte 0" else "refused by reading" if int(head.split()[1]) <= 7 else " ".join(head.split()[:2]))
+        one = "urgent " + (head if head == "refused 3 at byte 0" else "refused by reading" if int(head.split()[1]) in OF_READING else " ".join(head.split()[:2]))
     elif max(int(line.split(" rounds ")[0].split()[-1]) for line in lines if line.startswith("stream ")) >= MANY_ROUNDS:
         return "urgent accepted, of %d rounds or more" % MANY_ROUNDS
     elif lines[-1].startswith("first come refused 8"):
@@ -296,7 +338,7 @@ def outcome_beside_figures(given, capture, expected):
     head, *lines = expected.decode("ascii").splitlines()
     if head.startswith("refused "):
         number = int(head.split()[1])
-        return "beside x: " + ("capture refused" if " capture " in head else "sheet refused %s" % ("before that" if number <= 7 else number))
+        return "beside x: " + ("capture refused" if " capture " in head else "sheet refused %s" % ("before that" if number in OF_READING else number))
     one = "beside x: " + outcome(expected)
     named = one + ", not so beside R"
     return named if named in OF_URGENTS and second_opinion.capture_lines(given, capture)[-1] != lines[-1] else one
@@ -336,7 +378,7 @@ def compare_urgent(task):
 
 
 def arguments(words):
-    options = {"--seed": 1, "--count": 3000, "--captures": 1000, "--paths": 1000, "--texts": 1000, "--urgents": 1500, "--jobs": os.cpu_count() or 1}
+    options = {"--seed": 1, "--count": 3000, "--captures": 1000, "--paths": 1000, "--texts": 1300, "--urgents": 1500, "--rewrites": 1000, "--jobs": os.cpu_count() or 1}
     program = []
     rest = iter(words)
     for word in rest:
@@ -378,7 +420,7 @@ def main():
     if shutil.which(program[0]) is None:
         sys.exit("no such program: %s" % program[0])
     seed, jobs = options["--seed"], options["--jobs"]
-    count, pairs, ways, written, urgent = (options[word] for word in ("--count", "--captures", "--paths", "--texts", "--urgents"))
+    count, pairs, ways, written, urgent, old = (options[word] for word in ("--count", "--captures", "--paths", "--texts", "--urgents", "--rewrites"))
     tasks = ((program, name, data) for name, data in sheets.sheets(seed, count))
     good = compare_all(compare_sheet, tasks, count, OF_SHEETS, jobs, "sheets")
     tasks = ((program, *pair) for pair in captures.captures(seed, pairs))
@@ -389,6 +431,8 @@ def main():
     good &= compare_all(compare_text, tasks, written, OF_TEXTS, jobs, "runs on texts")
     tasks = ((program, *one) for one in urgents.urgents(seed, urgent))
     good &= compare_all(compare_urgent, tasks, urgent, OF_URGENTS, jobs, "sheets with urgent requests first")
+    tasks = runs_on_rewrites(program, seed, old)
+    good &= compare_all(compare_rewrite, tasks, old, OF_REWRITES, jobs, "runs on sheets to rewrite")
     return 0 if good else 1
 
 

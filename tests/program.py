@@ -33,6 +33,8 @@ GOOD = {
     6: (17, 1000),
     7: (1, 203, second_opinion.BILLION, 1, 0),
     8: (1,),
+    9: (1, 300),
+    10: (1, 500),
 }
 # what a field's greatest value is called, where it stands in another field, with the others as above
 NAMED = {
@@ -45,11 +47,13 @@ NAMED = {
 }
 FIRST = second_opinion.FIRST_KINDS
 PHRASES = (
-    "The first record is %d, %d or %d;" % FIRST,
+    "The first record is %d, %d, %d or %d;" % FIRST,
     "at most %d streams" % second_opinion.STREAMS_LIMIT,
     "at most %d for one master" % second_opinion.STREAMS_LIMIT_OF_MASTER,
     "at most %d variables" % second_opinion.VARIABLES_LIMIT,
-    "one of kind 8 may stand just behind kind 1.",
+    "one of kind 8 may stand just behind kind 1",
+    "one of kind 10 for each master, in any order, stands behind kind 9",
+    "Kind 3 is read and no longer written",
     "Edition 1 of the P-NET rule, which holds without kind 8,",
     "%d bp if it has no streams; edition 2 charges every master the longest" % second_opinion.UNUSED_VISIT,
     "48 in %d us" % second_opinion.us_up(48),
@@ -67,11 +71,12 @@ PHRASES = (
     "1 to %d gateways" % second_opinion.GATEWAYS_LIMIT,
     "wherever SHEET stands",
     "A ring of kind 3 has no text",
+    "--rewrite ",
     "dragging counts up, 203 bp becomes 204 bp",
     "--urgent ",
 )
 # those that a program can show: its own room is never short, so 13 is not among them
-REFUSALS = [number for number in range(1, 20) if number != 13] + [21, 23]
+REFUSALS = [number for number in range(1, 22) if number != 13] + [23]
 GOOD_SHEET = bytes.fromhex("0101020100cb000003e8000003e8")
 # T 1000, D 700, J 300
 JITTER_SHEET = bytes.fromhex("0101070100cb000003e8000002bc0000012c")
@@ -84,11 +89,17 @@ URGENT_SHEET = bytes.fromhex("0101" "020100cb000001f4000001f4" + "020100cb000186
 # D of 499 bp, below its figure
 LATE_SHEET = URGENT_SHEET.replace(bytes.fromhex("000001f4000001f4"), bytes.fromhex("000001f3000001f3"))
 RING_SHEET = bytes.fromhex("03010000012c000001f4" "040100000190000020d0")
+# the same ring in kinds 9 and 10
+NEW_RING_SHEET = bytes.fromhex("09010000012c" "0a01000001f4" "040100000190000020d0")
+NEW_RING_TEXT = b"profibus-ring,1,300 bp\nprofibus-message,1,500 bp\nprofibus-stream,1,400 bp,8400 bp\n"
+# 800 streams, 32 masters
+LONGEST_RING = bytes([9, 32, 0, 0, 0, 1]) + b"".join(bytes([10, 32 - i, 0, 0, 0, 9]) for i in range(32)) + b"".join(
+    bytes([4, 1 + i % 32, 0, 0, 0, 9, 59, 154, 202, 0]) for i in range(800))
 BAD_TEXT = slips.TEXT.replace(b"203 bp", b"203bp")
 # 64 variables in each of 4,096 rows: no pipe holds its report
 TABLE = bytes.fromhex("0500000001") + b"".join(
     b"\x06" + (60_000 + n).to_bytes(2, "big") + (1_000 if n else 4_096_000).to_bytes(4, "big") for n in range(64))
-KIND = re.compile(r" {3}(\d) +(\d+)  ([^:]+): (.*)")
+KIND = re.compile(r" {2,3}(\d+) +(\d+)  ([^:]+): (.*)")
 FIELD = re.compile(r"(.+) \((\d)\) (?:(any)|(\d+)\.\.(\w+(?: ?- ?\w+)?)(?: (bp|us))?)$")
 UNTIMED = ("masters", "master", "identifier", "edition")
 
@@ -181,7 +192,8 @@ def help_troubles(text):
                 yield "kind %d: %s" % (kind, trouble)
     flowing = " ".join(text.split())
     later = re.search(r"all later ones are ([^.;]*) to match", flowing)
-    if not later or sorted(re.findall(r"\d", later.group(1))) != sorted(str(kind) for kinds in second_opinion.STREAM_KINDS.values() for kind in kinds):
+    behind = {str(kind) for kinds in second_opinion.STREAM_KINDS.values() for kind in kinds}
+    if not later or sorted(re.findall(r"\d+", later.group(1))) != sorted(behind):
         yield "not told: which kinds stand behind the first record"
     for words in PHRASES:
         if words not in flowing:
@@ -250,7 +262,7 @@ def word_troubles(program, folder, sheet):
     yield from complaint_troubles(program, ["--urgent", sheet, "x" * 5000], "%s..: longer than" % ("x" * 60))
     yield from complaint_troubles(program, ["--urgent", sheet, "--help"], "unknown option --help; planner --help")
     yield from complaint_troubles(program, ["--urgent", "-", "-"], "standard input")
-    for command, most in (("--export", 1), ("--import", 1), ("--urgent", 2)):
+    for command, most in (("--export", 1), ("--import", 1), ("--rewrite", 1), ("--urgent", 2)):
         yield from complaint_troubles(program, [command, missing], "%s: No such file" % missing)
         yield from complaint_troubles(program, [command, folder], "%s: Is a directory" % folder)
         yield from complaint_troubles(program, [command] + [sheet] * (most + 1), "too many words")
@@ -273,18 +285,21 @@ def refused_troubles(program, words, told, data=b""):
 
 def exchange_troubles(program, folder, sheet, text):
     """Sheets as text and back, by name and on standard input, whole or not at all."""
-    edition = os.path.join(folder, "edition.csv")
-    with open(edition, "wb") as file:
-        file.write(EDITION_TEXT)
+    edition, ring, old_ring = (os.path.join(folder, name) for name in ("edition.csv", "ring.sheet", "old-ring.sheet"))
+    for name, data in ((edition, EDITION_TEXT), (ring, NEW_RING_SHEET), (old_ring, RING_SHEET)):
+        with open(name, "wb") as file:
+            file.write(data)
     for command, data, name, made in (
         ("--export", GOOD_SHEET, sheet, slips.TEXT), ("--export", slips.TEXT, text, slips.TEXT), ("--import", slips.TEXT, text, GOOD_SHEET),
         ("--export", EDITION_TEXT, edition, EDITION_TEXT), ("--import", EDITION_TEXT, edition, EDITION_SHEET),
+        ("--export", NEW_RING_SHEET, ring, NEW_RING_TEXT), ("--rewrite", RING_SHEET, old_ring, NEW_RING_SHEET),
+        ("--rewrite", NEW_RING_SHEET, ring, NEW_RING_SHEET), ("--rewrite", GOOD_SHEET, sheet, GOOD_SHEET), ("--rewrite", slips.TEXT, text, GOOD_SHEET),
     ):
         for words, given in (([command], data), ([command, "-"], data), ([command, name], b"")):
             done = slips.call(program, words, given, env=AS_BUILT)
             if (done.stdout, done.stderr, done.returncode) != (made, b"", 0):
                 yield "%s: wrote %r, said %r and ended with %d" % (words, done.stdout, done.stderr, done.returncode)
-    for data in (GOOD_SHEET, TABLE, GOOD_SHEET[:2] + GOOD_SHEET[2:] * 80, JITTER_SHEET, EDITION_SHEET, LONGEST_SHEET):
+    for data in (GOOD_SHEET, TABLE, GOOD_SHEET[:2] + GOOD_SHEET[2:] * 80, JITTER_SHEET, EDITION_SHEET, LONGEST_SHEET, NEW_RING_SHEET, LONGEST_RING):
         name = os.path.join(folder, "any.sheet")
         with open(name, "wb") as file:
             file.write(data)
@@ -295,7 +310,16 @@ def exchange_troubles(program, folder, sheet, text):
     for command, data, told in (
         ("--export", b"", name + "refused 1 at byte 0\n"),
         ("--export", GOOD_SHEET[:2], name + "refused 6 at byte 2\n"),
-        ("--export", RING_SHEET, name + "refused 2 at byte 0\nplanner: a PROFIBUS ring of kind 3 has no text form\n"),
+        ("--export", RING_SHEET, name + "refused 2 at byte 0\nplanner: a PROFIBUS ring of kind 3 has no text form"),
+        ("--export", NEW_RING_SHEET[:6] + NEW_RING_SHEET[12:], name + "refused 20 at byte 6\n"),
+        ("--import", NEW_RING_TEXT.replace(b"ring,1", b"ring,2"), name + "refused 20 at byte 12\n"),
+        ("--import", NEW_RING_TEXT.replace(b"ring,1", b"ring,2"), name + "byte 12 of the sheet is line 3 of the text\n"),
+        ("--rewrite", b"", name + "refused 1 at byte 0\n"),
+        ("--rewrite", RING_SHEET[:10], name + "refused 6 at byte 10\n"),
+        ("--rewrite", RING_SHEET[:-1], name + "refused 1 at byte 10\n"),
+        ("--rewrite", NEW_RING_SHEET[:6], name + "refused 20 at byte 6\n"),
+        ("--rewrite", BAD_TEXT, name + "refused 23 at line 2\n"),
+        ("--rewrite", BAD_TEXT, name + "line 2, column 18 has 'bp'; "),
         ("--export", BAD_TEXT, name + "refused 23 at line 2\n"),
         ("--export", BAD_TEXT, name + "line 2, column 18 has 'bp'; "),
         ("--export", b" " + slips.TEXT, name + "taken for bytes"),
@@ -343,6 +367,26 @@ def edition_troubles(program, folder):
         yield from end_troubles(program, [name, "-"], ending, event(16, 1, 0) + event(17, 1, took))
 
 
+def ring_troubles(program, folder):
+    """The samples of rings: how each ends, and that one of kind 3 is rewritten with the report that it had, which is then written as text."""
+    samples = ROOT / "samples"
+    for name, ending in (("profibus-ring", 0), ("profibus-ring-late", 1), ("profibus-slow-drive", 0), ("profibus-slow-drive-for-all", 1), ("damaged-ring", 1)):
+        yield from end_troubles(program, [str(samples / (name + ".sheet"))], ending)
+    new = os.path.join(folder, "new.sheet")
+    for old in sorted(samples.glob("profibus-*.sheet")):
+        done = slips.call(program, ["--rewrite", str(old)], env=AS_BUILT)
+        with open(new, "wb") as file:
+            file.write(done.stdout)
+        if (done.stderr, done.returncode) != (b"", 0) or (done.stdout == old.read_bytes()) != (old.read_bytes()[0] == 9):
+            yield "%s: rewritten as %r, said %r and ended with %d" % (old, done.stdout, done.stderr, done.returncode)
+        yield from same_troubles(program, [new], [str(old)])
+        if slips.call(program, ["--rewrite", new], env=AS_BUILT).stdout != done.stdout:
+            yield "%s: rewritten again, it is another" % old
+        text = slips.call(program, ["--export", new], env=AS_BUILT)
+        if text.returncode != 0 or not text.stdout.startswith(b"profibus-ring,"):
+            yield "%s: rewritten and exported: %r" % (old, text.stdout)
+
+
 def long_troubles(program):
     """Texts that are longer than any sheet: the first line that is not of the form, however far behind, and no line behind it."""
     text = slips.SEGMENT + slips.STREAM * 6000
@@ -386,6 +430,7 @@ def text_troubles(program, folder, sheet):
         if (out, status) != (report, 1) or ": line 2, column 18 has 'bp'; wanted there: a blank" not in err:
             yield "%s: wrote %r, said %r and ended with %d" % (words, out, err, status)
     yield from edition_troubles(program, folder)
+    yield from ring_troubles(program, folder)
     yield from long_troubles(program)
 
 
@@ -464,7 +509,7 @@ def event(kind, stream, stamp):
 
 def status_troubles(program, sheet):
     """Each case of the table in README."""
-    for data, ending in ((GOOD_SHEET, 0), (b"", 1), (GOOD_SHEET[:-1], 1), (TABLE, 0)):
+    for data, ending in ((GOOD_SHEET, 0), (b"", 1), (GOOD_SHEET[:-1], 1), (TABLE, 0), (RING_SHEET, 0), (NEW_RING_SHEET, 0), (NEW_RING_SHEET[:6], 1)):
         for words in ([], ["-"], ["--"], ["--", "-"]):
             yield from end_troubles(program, words, ending, data)
     asked, answered = event(16, 1, 0), event(17, 1, 250)
@@ -513,7 +558,7 @@ def cut_troubles(program, sheet):
     with tempfile.NamedTemporaryFile() as table, tempfile.NamedTemporaryFile() as capture:
         table.write(TABLE)
         table.flush()
-        calls = [[sheet], [sheet, capture.name], ["--path", "510", "bp", sheet, "1", "5", "bp", sheet, "1"], ["--path", "1", "bp"], ["--help"], [table.name], ["--export", sheet], ["--export", table.name]]
+        calls = [[sheet], [sheet, capture.name], ["--path", "510", "bp", sheet, "1", "5", "bp", sheet, "1"], ["--path", "1", "bp"], ["--help"], [table.name], ["--export", sheet], ["--export", table.name], ["--rewrite", sheet]]
         calls += [["--urgent", sheet], ["--urgent", sheet, capture.name], ["--urgent", table.name]]
         for words in calls:
             with open("/dev/full", "wb") as full:
@@ -532,7 +577,7 @@ def cut_troubles(program, sheet):
 
 def terminal_troubles(program):
     """No name, and someone at a terminal: the usage, and 2."""
-    for words in ([], ["--export"], ["--import"], ["--urgent"]):
+    for words in ([], ["--export"], ["--import"], ["--rewrite"], ["--urgent"]):
         controller, terminal = pty.openpty()
         done = subprocess.run(
             program + words, stdin=terminal, stdout=subprocess.PIPE, stderr=subprocess.PIPE, timeout=60, check=False, env=AS_BUILT)

@@ -1,5 +1,5 @@
 """Run a planner on every sample sheet, text, capture and path, and with urgent requests first where a listing says so, and compare its report
-with the one in the listing, and its exit status with the second opinion's; and turn each sheet into its text and back.
+with the one in the listing, and its exit status with the second opinion's; and turn each sheet into its text and back, and rewrite it.
 
     samples.py PROGRAM...
 """
@@ -39,6 +39,9 @@ def of_sheet(program, file):
     _, expected = listed(file)
     yield reported(program, expected, file.read_bytes())
     yield reported(program + [str(file)], expected)
+    made = second_opinion.rewrite_given(file.read_bytes())
+    refused = isinstance(made, second_opinion.Refusal)
+    yield differs(program + ["--rewrite", str(file)], b"" if refused else made, int(refused))
 
 
 def of_text(program, text):

@@ -19,9 +19,10 @@ from collections import namedtuple
 
 Refusal = namedtuple("Refusal", "number place")
 
-# head: the first record's fields; edition: of the P-NET rule, 1 where none is written; streams: one tuple per stream or variable, of
-# its fields, and for P-NET always with J at the end; records: kind and fields of every record as it stands
-Sheet = namedtuple("Sheet", "kind head edition streams records")
+# head: the first record's fields; edition: of the P-NET rule, 1 where none is written; messages: the longest message of each master of a
+# ring; streams: one tuple per stream or variable, of its fields, and for P-NET always with J at the end; records: kind and fields of every
+# record as it stands
+Sheet = namedtuple("Sheet", "kind head edition messages streams records")
 
 # one number for each of the masters 1..N
 PnetPlan = namedtuple("PnetPlan", "bound refined rounds")
@@ -71,12 +72,18 @@ WIDTHS = {
     6: (2, 4),
     7: (1, 2, 4, 4, 4),
     8: (1,),
+    9: (1, 4),
+    10: (1, 4),
 }
-FIRST_KINDS = (1, 3, 5)
-# page 02, Ask 10: what may stand just behind a first record, and nowhere else
-SECOND_KINDS = {1: (8,), 3: (), 5: ()}
+FIRST_KINDS = (1, 3, 5, 9)
+# page 02, Ask 8: read, and no longer written
+RETIRED = (3,)
+# a bus by the kind of its first record on page 01: a ring is of kind 3 or 9
+BUS = {1: 1, 3: 3, 5: 5, 9: 3}
+# page 02, Asks 8 and 10: what may stand between a first record and the streams, and nowhere else; kind 8 just behind the first record
+SETTING_KINDS = {1: (8,), 3: (), 5: (), 9: (10,)}
 # the streams or variables that follow
-STREAM_KINDS = {1: (2, 7), 3: (4,), 5: (6,)}
+STREAM_KINDS = {1: (2, 7), 3: (4,), 5: (6,), 9: (4,)}
 # page 02, Ask 14: how the line of a record begins, and what stands behind the number of each field; kind 3 has no line
 WORDS = {
     1: "pnet-segment",
@@ -86,6 +93,8 @@ WORDS = {
     6: "worldfip-variable",
     7: "pnet-jitter-stream",
     8: "pnet-edition",
+    9: "profibus-ring",
+    10: "profibus-message",
 }
 UNITS = {
     1: ("",),
@@ -95,6 +104,8 @@ UNITS = {
     6: ("", " us"),
     7: ("", " bp", " bp", " bp", " bp"),
     8: ("",),
+    9: ("", " bp"),
+    10: ("", " bp"),
 }
 
 BILLION = 1_000_000_000
@@ -132,8 +143,9 @@ def pnet_stream(kind, fields):
 def in_range(kind, fields, masters=MASTERS_LIMIT, message=MESSAGE_LIMIT):
     """Whether the fields keep the page's ranges.
 
-    `masters` and `message` are what another record says (N or n, and M); the
-    writer, which sees one record alone, leaves them at their greatest.
+    `masters` and `message` are what another record says (N or n, and the
+    longest message of the record's master); the writer, which sees one record
+    alone, leaves them at their greatest.
     """
     if kind == 1:
         (n,) = fields
@@ -157,6 +169,12 @@ def in_range(kind, fields, masters=MASTERS_LIMIT, message=MESSAGE_LIMIT):
     if kind == 4:
         master, c, d = fields
         return 1 <= master <= masters and 1 <= c <= message and 1 <= d <= BILLION
+    if kind == 9:
+        n, latency = fields
+        return 1 <= n <= MASTERS_LIMIT and 1 <= latency <= LATENCY_LIMIT
+    if kind == 10:
+        master, longest = fields
+        return 1 <= master <= masters and 1 <= longest <= MESSAGE_LIMIT
     if kind == 5:
         (e,) = fields
         return 1 <= e <= 1_000_000
@@ -174,17 +192,20 @@ def in_position(kind, before):
     """Whether a record of this kind may stand behind these."""
     if not before:
         return kind in FIRST_KINDS
-    head_kind = before[0][0]
-    return kind in STREAM_KINDS[head_kind] or (kind in SECOND_KINDS[head_kind] and len(before) == 1)
+    head_kind, last = before[0][0], before[-1][0]
+    if kind in SETTING_KINDS[head_kind]:
+        return len(before) == 1 or (kind == 10 and last == 10)
+    return kind in STREAM_KINDS[head_kind]
 
 
 def read(data):
-    """The sheet, or the first refusal among 1 to 7 in the page's order."""
+    """The sheet, or the first refusal among 1 to 7 and 20 in the page's order."""
     if len(data) == 0:
         return Refusal(1, 0)
     head_kind = None
     head = None
     edition = 1
+    messages = {}
     streams = []
     records = []
     per_master = {}
@@ -205,10 +226,19 @@ def read(data):
             if not in_range(kind, fields):
                 return Refusal(4, place)
             head_kind, head = kind, fields
+            if kind == 3:
+                messages = dict.fromkeys(range(1, head[0] + 1), head[2])
         elif kind == 8:
             if not in_range(kind, fields):
                 return Refusal(4, place)
             (edition,) = fields
+        elif kind == 10:
+            if not in_range(kind, fields, masters=head[0]):
+                return Refusal(4, place)
+            master, longest = fields
+            if master in messages:
+                return Refusal(20, place)
+            messages[master] = longest
         elif kind == 6:
             if not in_range(kind, fields):
                 return Refusal(4, place)
@@ -219,13 +249,12 @@ def read(data):
             identifiers.add(fields[0])
             streams.append(fields)
         else:
-            if head_kind == 1:
-                ranged = in_range(kind, fields, masters=head[0])
-            else:
-                ranged = in_range(kind, fields, masters=head[0], message=head[2])
-            if not ranged:
-                return Refusal(4, place)
             master = fields[0]
+            # a longest message that is missing counts as 100,000
+            if not in_range(kind, fields, masters=head[0], message=messages.get(master, MESSAGE_LIMIT)):
+                return Refusal(4, place)
+            if lacks_message(head_kind, head, messages):
+                return Refusal(20, place)
             count = per_master.get(master, 0)
             if len(streams) == STREAMS_LIMIT or count == STREAMS_LIMIT_OF_MASTER:
                 return Refusal(5, place)
@@ -233,14 +262,21 @@ def read(data):
             streams.append(pnet_stream(kind, fields) if head_kind == 1 else fields)
         records.append((kind, fields))
         place = end
+    if lacks_message(head_kind, head, messages):
+        return Refusal(20, len(data))
     if not streams:
         return Refusal(6, len(data))
-    return Sheet(head_kind, head, edition, streams, records)
+    return Sheet(head_kind, head, edition, messages, streams, records)
 
 
-def read_for(data, head_kind):
+def lacks_message(head_kind, head, messages):
+    """Whether a master of this ring, which has these longest messages so far, is without one; no other sheet has one to miss."""
+    return BUS[head_kind] == 3 and any(master not in messages for master in range(1, head[0] + 1))
+
+
+def read_for(data, bus):
     sheet = read(data)
-    if isinstance(sheet, Sheet) and sheet.kind != head_kind:
+    if isinstance(sheet, Sheet) and BUS[sheet.kind] != bus:
         return Refusal(3, 0)
     return sheet
 
@@ -250,7 +286,7 @@ def read_for(data, head_kind):
 
 def write_record(buffer_length, place, kind, numbers):
     """The record's bytes and the place just after it, or 2, 4 or 13."""
-    if kind not in WIDTHS:
+    if kind not in WIDTHS or kind in RETIRED:
         return Refusal(2, place)
     if len(numbers) != len(WIDTHS[kind]):
         raise ValueError("a record of kind %d has %d fields" % (kind, len(WIDTHS[kind])))
@@ -262,6 +298,25 @@ def write_record(buffer_length, place, kind, numbers):
     if end > buffer_length:
         return Refusal(13, end)
     return Written(end, record_of(kind, numbers))
+
+
+def rewrite_sheet(data, lent=None):
+    """The sheet in kinds that are written, or the first refusal; `lent` is the length of the lent room.
+
+    Page 02, Ask 8: a ring of kind 3 means M for every master, so that it is kind 9, then kind 10 for each master in ascending order, then its
+    streams. Any other sheet is as it was.
+    """
+    sheet = read(data)
+    if isinstance(sheet, Refusal):
+        return sheet
+    records = sheet.records
+    if sheet.kind == 3:
+        n, latency, longest = sheet.head
+        records = [(9, (n, latency))] + [(10, (master, longest)) for master in range(1, n + 1)] + records[1:]
+    made = b"".join(record_of(kind, fields) for kind, fields in records)
+    if lent is not None and lent < len(made):
+        return Refusal(13, len(made))
+    return made
 
 
 # ---------------------------------------------------------------- texts
@@ -340,6 +395,12 @@ def export_given(given):
     """What `--export` makes of a sheet that it is given as text or as bytes."""
     data = sheet_given(given)
     return data if isinstance(data, Refusal) else export_sheet(data)
+
+
+def rewrite_given(given):
+    """What `--rewrite` makes of a sheet that it is given as text or as bytes."""
+    data = sheet_given(given)
+    return data if isinstance(data, Refusal) else rewrite_sheet(data)
 
 
 # ---------------------------------------------------------------- P-NET
@@ -475,18 +536,19 @@ def plan_urgent(data, lent=None):
 
 
 def plan_profibus(data):
-    """The largest TTR at which all streams pass, and what limits it."""
+    """The largest TTR at which all streams pass, and what limits it; page 02, Ask 8: a turn has room for one longest message of each master."""
     sheet = read_for(data, 3)
     if isinstance(sheet, Refusal):
         return sheet
-    n, latency, longest = sheet.head
+    latency = sheet.head[1]
+    every_message = sum(sheet.messages.values())
     count = {}
     for master, _, _ in sheet.streams:
         count[master] = count.get(master, 0) + 1
 
     def first_failing(ttr):
         for number, (master, c, d) in enumerate(sheet.streams, start=1):
-            if count[master] * (ttr + n * longest) + c > d:
+            if count[master] * (ttr + every_message) + c > d:
                 return number
         return None
 
@@ -494,7 +556,7 @@ def plan_profibus(data):
     if failing is not None:
         return Refusal(9, failing)
     # every stream passes at L, so each of these quotients is at least L
-    ttr = min((d - c) // count[master] - n * longest for master, c, d in sheet.streams)
+    ttr = min((d - c) // count[master] - every_message for master, c, d in sheet.streams)
     assert first_failing(ttr) is None
     return ProfibusPlan(ttr, first_failing(ttr + 1))
 
@@ -675,7 +737,7 @@ def cross_path(segments, times, deadline):
 def refusal_line(refusal):
     number, place = refusal
     line = "refused %d" % number
-    if number <= 7:
+    if number <= 7 or number == 20:
         line += " at byte %d" % place
     elif number in (8, 9, 21):
         line += " at stream %d" % place
@@ -706,7 +768,7 @@ def report_lines(given):
                 )
         return lines
 
-    if sheet.kind == 3:
+    if BUS[sheet.kind] == 3:
         plan = plan_profibus(data)
         if isinstance(plan, Refusal):
             return [refusal_line(plan)]

@@ -14,7 +14,10 @@ from sheets_pnet import (
     pnet_busy_master, pnet_chain, pnet_jitter, pnet_jitter_counts, pnet_jitter_edge, pnet_late, pnet_links, pnet_many,
     pnet_other_edition, pnet_over, pnet_roomy, pnet_tight,
 )
-from sheets_ring import profibus_below, profibus_exact, profibus_over, profibus_random, profibus_short, profibus_ties
+from sheets_ring import (
+    above_own_message, messages_astray, messages_missing, messages_out_of_range, messages_repeated, profibus_below, profibus_exact, profibus_over,
+    profibus_random, profibus_short, profibus_ties, ring_cut,
+)
 from sheets_table import (
     worldfip_full_row, worldfip_harmonic, worldfip_huge, worldfip_last_row, worldfip_many_rows, worldfip_many_slots,
     worldfip_mixed, worldfip_no_fit, worldfip_one_slot, worldfip_over, worldfip_repeated, worldfip_wrapping,
@@ -24,6 +27,7 @@ FAMILIES = [
     pnet_roomy, pnet_tight, pnet_busy_master, pnet_chain, pnet_links, pnet_late, pnet_many, pnet_over,
     pnet_jitter, pnet_jitter, pnet_jitter_counts, pnet_jitter_edge, pnet_jitter_edge, pnet_other_edition,
     profibus_random, profibus_exact, profibus_ties, profibus_below, profibus_short, profibus_over,
+    messages_missing, messages_repeated, messages_astray, messages_out_of_range, above_own_message, ring_cut,
     worldfip_harmonic, worldfip_mixed, worldfip_one_slot, worldfip_many_slots,
     worldfip_full_row, worldfip_last_row, worldfip_many_rows, worldfip_huge,
     worldfip_wrapping, worldfip_no_fit, worldfip_over, worldfip_repeated,

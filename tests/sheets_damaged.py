@@ -54,7 +54,7 @@ def wrong_kind(rng):
     """Another kind byte at the head of a record, known or unknown."""
     parts = records_of(rng.choice(SOUND)(rng))
     at = rng.randrange(len(parts))
-    kind = rng.choice([0, 1, 2, 3, 4, 5, 6, 7, 8, 9, 16, 99, 255])
+    kind = rng.choice([0, 1, 2, 3, 4, 5, 6, 7, 8, 9, 10, 11, 16, 99, 255])
     parts[at] = bytes([kind]) + parts[at][1:]
     data = b"".join(parts[: at + 1])
     # without its body the wrong kind must still be named before the cut
@@ -63,7 +63,7 @@ def wrong_kind(rng):
 
 def noise(rng):
     data = rng.randbytes(rng.choice([1, 2, 3, 12, 50, 500]))
-    return rng.choice([b"", bytes([rng.randrange(9)])]) + data
+    return rng.choice([b"", bytes([rng.randrange(11)])]) + data
 
 
 def edition_astray(rng):
@@ -81,6 +81,8 @@ def no_stream(rng):
         [(1, rng.randint(1, 32)), (8, rng.randint(1, 2))],
         [(3, rng.randint(1, 32), rng.randint(1, 100_000), rng.randint(1, 100_000))],
         [(5, rng.randint(1, 1_000_000))],
+        [(9, rng.randint(1, 32), rng.randint(1, 100_000))],
+        [(9, 2, rng.randint(1, 100_000)), (10, 2, rng.randint(1, 100_000)), (10, 1, rng.randint(1, 100_000))],
     ])
     return sheet(head)
 
@@ -95,6 +97,8 @@ SOUND_RECORD = {
     6: [17, 1_000],
     7: [2, 203, 100_000, 60_000, 30_000],
     8: [2],
+    9: [3, 300],
+    10: [2, 500],
 }
 RANGES = {
     1: [(1, 32)],
@@ -106,8 +110,10 @@ RANGES = {
     # T has to hold D and J
     7: [(1, 4), (1, 1_548), (90_000, BILLION), (1, 70_000), (0, 40_000)],
     8: [(1, 2)],
+    9: [(1, 32), (1, 100_000)],
+    10: [(1, 3), (1, 100_000)],
 }
-HEAD_OF = {2: 1, 4: 3, 6: 5, 7: 1, 8: 1}
+HEAD_OF = {2: 1, 4: 3, 6: 5, 7: 1, 8: 1, 10: 9}
 
 
 def with_field(kind, field, value, before=()):
@@ -117,8 +123,11 @@ def with_field(kind, field, value, before=()):
     if kind in (1, 3, 5):
         rest = [1] + SOUND_RECORD[kind + 1][1:] if kind != 5 else SOUND_RECORD[6]
         return sheet([(kind, *numbers), (kind + 1, *rest)])
+    if kind == 9:
+        masters = range(1, min(numbers[0], 32) + 1)
+        return sheet([(9, *numbers)] + [(10, y, 500) for y in masters] + [(4, 1, *SOUND_RECORD[4][1:])])
     head = (HEAD_OF[kind], *SOUND_RECORD[HEAD_OF[kind]])
-    behind = [(2, *SOUND_RECORD[2])] if kind == 8 else []
+    behind = {8: [(2, *SOUND_RECORD[2])], 10: [(10, 1, 500), (10, 3, 500), (4, 1, *SOUND_RECORD[4][1:])]}.get(kind, [])
     return sheet([head, *before, (kind, *numbers), *behind])
 
 
@@ -134,7 +143,7 @@ def field_edge(rng):
     field = rng.randrange(len(WIDTHS[kind]))
     value = rng.choice(around(kind, field))
     before = []
-    if kind in HEAD_OF and kind != 8:
+    if kind in HEAD_OF and kind not in (8, 10):
         before = [(kind, *SOUND_RECORD[kind]) for _ in range(rng.choice([0, 0, 1, 3]))]
         if kind == 6:
             before = [(6, 100 + i, 1_000) for i in range(len(before))]

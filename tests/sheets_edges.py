@@ -77,10 +77,99 @@ def edition_limits(rng):
     for name, last in [
         ("801st", one_more), ("801st of kind 2", record(2, 1, 200, 5_000_000, 4_500_000)), ("801st, cut", one_more[:-1]),
         ("801st, out of range", record(7, 33, 200, 5_000_000, 4_500_000, 500_000)), ("edition again", record(8, 2)), ("edition again, cut", bytes([8])),
-        ("801st, unknown kind", bytes([9])), ("megabytes of kind 7", one_more * (2 * MEGABYTE // 16)),
+        ("801st, unknown kind", bytes([11])), ("megabytes of kind 7", one_more * (2 * MEGABYTE // 16)),
     ]:
         yield "the longest sheet with the edition, then %s" % name, longest + last
     yield "a megabyte of editions", record(1, 4) + record(8, 1) * (MEGABYTE // 2)
+
+
+def message_places():
+    """The longest messages of a ring of kind 9 where they may stand, and where they may not."""
+    head, one, two, stream = (9, 2, 300), (10, 1, 500), (10, 2, 900), (4, 1, 400, 8_400)
+    for name, records in [
+        ("ascending", [head, one, two, stream]),
+        ("descending", [head, two, one, stream]),
+        ("for a master without streams", [head, one, two, (4, 2, 900, 8_400)]),
+        ("none", [head]),
+        ("none, and a stream", [head, stream]),
+        ("none, and a stream out of range", [head, (4, 3, 400, 8_400)]),
+        ("none, and a stream of 100,000 bp", [head, (4, 1, 100_000, 8_400)]),
+        ("none, and a stream of 100,001 bp", [head, (4, 1, 100_001, 8_400)]),
+        ("the first missing at the end", [head, two]),
+        ("the last missing at the end", [head, one]),
+        ("the first missing at a stream", [head, two, stream]),
+        ("the last missing at a stream", [head, one, stream]),
+        ("the last missing at its own stream of 100,000 bp", [head, one, (4, 2, 100_000, 8_400)]),
+        ("the last missing at its own stream of 100,001 bp", [head, one, (4, 2, 100_001, 8_400)]),
+        ("the last missing at another's stream above its own", [head, one, (4, 1, 501, 8_400)]),
+        ("the last missing, and given behind a stream", [head, one, stream, two]),
+        ("twice the same", [head, one, one, two, stream]),
+        ("twice the same, and one missing", [head, one, one, stream]),
+        ("again with another number", [head, one, two, (10, 1, 9), stream]),
+        ("again, out of range", [head, one, two, (10, 1, 0), stream]),
+        ("again, above its range", [head, one, two, (10, 1, 100_001), stream]),
+        ("of master 0", [head, one, (10, 0, 500), two, stream]),
+        ("of master 3", [head, one, two, (10, 3, 500), stream]),
+        ("with no stream", [head, one, two]),
+        ("behind a stream", [head, one, two, stream, one]),
+        ("between streams", [head, one, two, stream, two, stream]),
+        ("first", [one, head, two, stream]),
+        ("alone", [one]),
+        ("behind a ring of kind 3", [(3, 2, 300, 500), one, stream]),
+        ("behind a segment", [(1, 2), one, (2, 1, 203, 100_000, 90_000)]),
+        ("behind an exchange", [(5, 400), one, (6, 17, 1_000)]),
+        ("then the ring again", [head, one, two, head, stream]),
+        ("then a ring of kind 3", [head, one, two, (3, 2, 300, 500), stream]),
+        ("then an edition", [head, one, two, (8, 1), stream]),
+        ("then a segment's stream", [head, one, two, (2, 1, 203, 100_000, 90_000)]),
+        ("behind no masters", [(9, 0, 300), one, stream]),
+        ("behind 33 masters", [(9, 33, 300), one, stream]),
+        ("C just its own", [head, one, two, (4, 1, 500, 8_400), (4, 2, 900, 8_400)]),
+        ("C above its own, and not above the other's", [head, one, two, (4, 1, 501, 8_400)]),
+        ("C above both", [head, one, two, (4, 2, 901, 8_400)]),
+    ]:
+        yield "longest message: %s" % name, sheet(records)
+    for name, records in [("cut", [head]), ("cut behind another", [head, one]), ("cut behind all", [head, one, two]), ("cut behind a stream", [head, one, two, stream])]:
+        for length in (1, 2, 5):
+            yield "longest message: %s, %d bytes" % (name, length), sheet(records) + record(*one)[:length]
+    for length in (1, 2, 9):
+        yield "longest message: missing at a stream cut after %d bytes" % length, sheet([head, one]) + record(*stream)[:length]
+    yield "longest message, then an unknown kind", sheet([head, one]) + bytes([11])
+
+
+def message_figures():
+    """TTR by the sum of the longest messages, whatever master has which."""
+    streams = [(1, 400, 8_400), (1, 500, 10_000), (2, 300, 5_000)]
+    for longest in ([500] * 3, [500, 300, 700], [500, 300, 4_000 - 500 - 300 - 300], [500, 300, 3_200], [500, 300, 3_201], [500, 300, 100_000]):
+        messages = list(enumerate(longest, start=1))
+        for name, own in (("", messages), (", the other way round", messages[::-1])):
+            yield "ring with longest messages %s%s" % (longest, name), profibus_sheet(3, 300, own, streams)
+    for latency in (2_499, 2_500, 2_501):
+        yield "ring of kind 9 with L %d" % latency, profibus_sheet(3, latency, [(y, 500) for y in (2, 3, 1)], streams)
+    yield "greatest TTR of kind 9", profibus_sheet(1, 1, [(1, 1)], [(1, 1, BILLION)])
+    greatest = [(y, 100_000) for y in range(1, 33)]
+    for d in (264_100_000, 264_099_999, 264_100_079, 264_100_080):
+        yield "greatest ring of kind 9, D %d" % d, profibus_sheet(32, 100_000, greatest, [(1, 100_000, d)] + [(1, 100_000, BILLION)] * 79)
+
+
+def message_limits():
+    """As many streams and masters as there may be in a ring of kind 9, and more."""
+    for count in (79, 80, 81):
+        yield "%d streams on one master of kind 9" % count, profibus_sheet(1, 1, [(1, 1)], [(1, 1, 1_000_000)] * count)
+    messages = [(y, y) for y in range(32, 0, -1)]
+    full = profibus_sheet(32, 1, messages, [(y, y, 1_000_000) for y in range(1, 33) for _ in range(25)])
+    yield "the longest ring", full
+    for name, last in [
+        ("the 801st", record(4, 5, 5, 1_000_000)), ("the 801st, above its master's", record(4, 5, 6, 1_000_000)), ("the 801st, D 0", record(4, 5, 5, 0)),
+        ("a longest message", record(10, 5, 5)), ("a longest message, cut", bytes([10])), ("a megabyte of streams", record(4, 5, 5, 1_000_000) * (MEGABYTE // 10)),
+        ("a megabyte of longest messages", record(10, 5, 5) * (MEGABYTE // 6)),
+    ]:
+        yield "the longest ring, then %s" % name, full + last
+    for missing in (1, 16, 31, 32):
+        others = [pair for pair in messages if pair[0] != missing]
+        yield "32 masters, longest message %d missing" % missing, profibus_sheet(32, 1, others, [(32, 1, 9)])
+        yield "32 masters, longest message %d missing at the end" % missing, profibus_sheet(32, 1, others, [])
+    yield "a megabyte of one longest message", profibus_sheet(2, 1, [(1, 1)], []) + record(10, 1, 1) * (MEGABYTE // 6)
 
 
 def edges(rng):
@@ -153,7 +242,7 @@ def edges(rng):
     yield "the 801st, out of range", full_segment(rng, 32, [25] * 32) + record(2, 33, 1, 9, 9)
     yield "the 801st, cut", full_segment(rng, 32, [25] * 32) + one_more[:-1]
     yield "the 801st, wrong kind", full_segment(rng, 32, [25] * 32) + bytes([4])
-    yield "the 801st, unknown kind", full_segment(rng, 32, [25] * 32) + bytes([9])
+    yield "the 801st, unknown kind", full_segment(rng, 32, [25] * 32) + bytes([11])
     yield "the 801st, kind 8", full_segment(rng, 32, [25] * 32) + record(8, 1)
     yield "the 801st and 81st at once", eighty + one_more
     longest = full_segment(rng, 32, [25] * 32, kinds=(7,))
@@ -166,13 +255,16 @@ def edges(rng):
     yield "the 801st of kind 7, out of range", longest + record(7, 1, 200, 5_000_000, 4_500_000, 500_001)
     yield "the 801st of kind 7, cut", longest + one_late[:-1]
     yield "the 801st behind kind 7, wrong kind", longest + bytes([4])
-    yield "the 801st behind kind 7, unknown kind", longest + bytes([9])
+    yield "the 801st behind kind 7, unknown kind", longest + bytes([11])
     yield "the 801st of kinds 2 and 7", full_segment(rng, 32, [25] * 32, kinds=(2, 7)) + one_late
     ring800 = profibus_sheet(32, 1, 1, [(y, 1, 1_000_000) for y in range(1, 33) for _ in range(25)])
     yield "800 ring streams", ring800
     yield "the 801st ring stream", ring800 + record(4, 5, 1, 1_000_000)
     yield "the 801st ring stream, D 0", ring800 + record(4, 5, 1, 0)
 
+    yield from message_places()
+    yield from message_figures()
+    yield from message_limits()
     yield from edition_places()
     yield from edition_figures()
     yield from edition_limits(rng)

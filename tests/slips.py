@@ -11,13 +11,16 @@ SEGMENT = b"pnet-segment,1\n"
 TEXT = SEGMENT + STREAM
 JITTER = b"pnet-jitter-stream,1,203 bp,1000 bp,700 bp,300 bp\n"
 EDITION = b"pnet-edition,2\n"
+RING_OF_TWO = b"profibus-ring,2,300 bp\n"
+MESSAGES = (b"profibus-message,1,500 bp\n", b"profibus-message,2,500 bp\n")
+RING_STREAM = b"profibus-stream,1,400 bp,8400 bp\n"
 # the form that is told beside a slip
 FORMS = {
     b"pnet-se": "pnet-segment,MASTERS\n",
     b"pnet-st": "pnet-stream,MASTER,CYCLE bp,SPACING bp,DEADLINE bp\n",
     b"pnet-ji": "pnet-jitter-stream,MASTER,CYCLE bp,SPACING bp,DEADLINE bp,JITTER bp\n",
     b"pnet-ed": "pnet-edition,EDITION\n",
-    b"profibu": "profibus-stream,MASTER,CYCLE bp,DEADLINE bp\n",
+    b"profibu": ("profibus-stream,MASTER,CYCLE bp,DEADLINE bp\n", "profibus-ring,MASTERS,LATENCY bp\n", "profibus-message,MASTER,MESSAGE bp\n"),
     b"worldfi": ("worldfip-exchange,EXCHANGE us\n", "worldfip-variable,IDENTIFIER,PERIOD us\n"),
 }
 LF = "save with LF line ends, or: tr -d '\\r' < TEXT"
@@ -32,7 +35,6 @@ ZERO = "a number has no zero in front"
 UNENDED = "the last line has no end"
 AROUND = "no blank stands before or behind a cell"
 SMALL = "words have small letters only"
-RING = "a PROFIBUS ring of kind 3 has no text form"
 BYTES = "this begins as the bytes of a sheet do"
 DIGITS = "a number is decimal digits alone"
 WORDS = "; wanted there: a word of these, and a comma"
@@ -97,6 +99,21 @@ LINES = (
     (EDITION[:-1], ", column 15 is the end of the text; wanted there: the end of the line", UNENDED),
     (b"profibus-stream,300,400 bp,8400 bp\n", ", column 17 has '300'; " + BIG % "255", None),
     (b"profibus-stream,1,9999999999 bp,8400 bp\n", ", column 19 has '9999999999 bp'; " + BIG % "4294967295 bp", None),
+    (b"profibus-ring,3,300bp\n", ", column 20 has 'bp'; wanted there: a blank and the unit bp", BLANK),
+    (b"profibus-ring,3,300\n", ", column 20 is the end of the line; wanted there: a blank and the unit bp", UNIT),
+    (b"profibus-ring,3,300 us\n", ", column 21 has 'us'; wanted there: the unit bp", UNIT),
+    (b"profibus-ring,3 bp,300 bp\n", ", column 16 has ' bp'; wanted there: a comma and the next cell", AROUND),
+    (b"profibus-ring,3\n", ", column 16 is the end of the line; wanted there: a comma and the next cell", None),
+    (b"profibus-ring,3,300 bp,500 bp\n", ", column 23 has ',500 bp'; wanted there: the end of the line", None),
+    (b"profibus-ring,256,300 bp\n", ", column 15 has '256'; " + BIG % "255", None),
+    (b"profibus-ring,3,4294967296 bp\n", ", column 17 has '4294967296 bp'; " + BIG % "4294967295 bp", None),
+    (b"profibus-message,1,500\n", ", column 23 is the end of the line; wanted there: a blank and the unit bp", UNIT),
+    (b"profibus-message,M01,500 bp\n", ", column 18 has 'M01'; wanted there: a number", DIGITS),
+    (b"profibus-message,1,0500 bp\n", ", column 20 has '0500 bp'; wanted there: a number", ZERO),
+    (b"profibus-message,1,500 bp,,\n", ", column 26 has ','; wanted there: the end of the line", PADDED),
+    (b"profibus-message,256,500 bp\n", ", column 18 has '256'; " + BIG % "255", None),
+    (b"profibus-message,1,4294967296 bp\n", ", column 20 has '4294967296 bp'; " + BIG % "4294967295 bp", None),
+    (MESSAGES[0][:-1], ", column 26 is the end of the text; wanted there: the end of the line", UNENDED),
     (b"worldfip-exchange,4294967296 us\n", ", column 19 has '4294967296 us'; " + BIG % "4294967295 us", None),
     (b"worldfip-variable,65536,1000 us\n", ", column 19 has '65536'; " + BIG % "65535", None),
     (b"pnet-stream," + b"9" * 99 + b",203 bp,1000 bp,1000 bp\n", ", column 13 has '%s..'; " % ("9" * 24) + BIG % "255", None),
@@ -114,7 +131,9 @@ STRANGE_LINES = (
     (b"pnet-stream\t1\n", ", column 1 has 'pnet-stream\\x091'" + WORDS, SEPARATORS),
     (b" " + STREAM, ", column 1 has ' pnet-stream'" + WORDS, AROUND),
     (b"PNET-STREAM,1\n", ", column 1 has 'PNET-STREAM'" + WORDS, SMALL),
-    (b"profibus-ring,1,300 bp,500 bp\n", ", column 1 has 'profibus-ring'" + WORDS, RING),
+    (b"profibus-rings,1,300 bp\n", ", column 1 has 'profibus-rings'" + WORDS, None),
+    (b"profibus-message;1;500 bp\n", ", column 1 has 'profibus-message;1;500 b..'" + WORDS, SEPARATORS),
+    (b"PROFIBUS-RING,1,300 bp\n", ", column 1 has 'PROFIBUS-RING'" + WORDS, SMALL),
     (b"pnet-segmen", ", column 1 has 'pnet-segmen'" + WORDS, None),
     (b"pnet-jitter,1,203 bp,1000 bp,700 bp,300 bp\n", ", column 1 has 'pnet-jitter'" + WORDS, None),
     (b"PNET-JITTER-STREAM,1\n", ", column 1 has 'PNET-JITTER-STREAM'" + WORDS, SMALL),
@@ -141,6 +160,15 @@ REFUSED = (
     (SEGMENT + (STREAM + JITTER) * 40 + JITTER, "refused 5 at byte 1122\n", "byte 1122 of the sheet is line 82 of the text\n"),
     (b"worldfip-exchange,1 us\n" + b"worldfip-variable,1,1 us\n" * 2, "refused 7 at byte 12\n", "byte 12 of the sheet is line 3 of the text\n"),
     (b"profibus-stream,1,1 bp,1 bp\n", "refused 3 at byte 0\n", "byte 0 of the sheet is line 1 of the text\n"),
+    (MESSAGES[0], "refused 3 at byte 0\n", "byte 0 of the sheet is line 1 of the text\n"),
+    (RING_OF_TWO, "refused 20 at byte 6\n", "byte 6 is where the sheet ends, behind the last line of the text\n"),
+    (RING_OF_TWO + MESSAGES[1], "refused 20 at byte 12\n", "byte 12 is where the sheet ends, behind the last line of the text\n"),
+    (RING_OF_TWO + MESSAGES[1] + RING_STREAM, "refused 20 at byte 12\n", "byte 12 of the sheet is line 3 of the text\n"),
+    (RING_OF_TWO + MESSAGES[1] * 2 + RING_STREAM, "refused 20 at byte 12\n", "byte 12 of the sheet is line 3 of the text\n"),
+    (RING_OF_TWO + b"".join(MESSAGES), "refused 6 at byte 18\n", "byte 18 is where the sheet ends, behind the last line of the text\n"),
+    (RING_OF_TWO + b"".join(MESSAGES) + RING_STREAM.replace(b"400", b"501"), "refused 4 at byte 18\n", "byte 18 of the sheet is line 4 of the text\n"),
+    (RING_OF_TWO + b"".join(MESSAGES) + RING_STREAM + MESSAGES[0], "refused 3 at byte 28\n", "byte 28 of the sheet is line 5 of the text\n"),
+    (RING_OF_TWO + b"profibus-message,3,500 bp\n", "refused 4 at byte 6\n", "byte 6 of the sheet is line 2 of the text\n"),
     (SEGMENT + b"pnet-edition,3\n" + STREAM, "refused 4 at byte 2\n", "byte 2 of the sheet is line 2 of the text\n"),
     (SEGMENT + b"pnet-edition,0\n" + STREAM, "refused 4 at byte 2\n", "byte 2 of the sheet is line 2 of the text\n"),
     (SEGMENT + EDITION, "refused 6 at byte 4\n", "byte 4 is where the sheet ends, behind the last line of the text\n"),
@@ -149,7 +177,7 @@ REFUSED = (
     (EDITION + TEXT, "refused 3 at byte 0\n", "byte 0 of the sheet is line 1 of the text\n"),
     (SEGMENT + EDITION + STREAM + JITTER.replace(b",1,", b",2,", 1), "refused 4 at byte 16\n", "byte 16 of the sheet is line 4 of the text\n"),
 )
-# bytes that no one takes for a text
+# bytes that no one takes for a text; the one that begins with a new line is a record of kind 10
 PLAIN = (b"\x0b", b"\x00pnet-segment,1\n", b"p\x00n\x00e\x00t\x00", b"\x80pnet-segment,1\n", b"\xef\xbb", b"pnet\x7f", b"\nx", TEXT[:5] + b"\x01" + TEXT[5:])
 
 
@@ -206,7 +234,8 @@ def first_line_troubles(program, folder):
             yield trouble(done, "refused 2 at byte 0\n", parts + ([advice] if advice else []))
     for data in PLAIN:
         done = call(program, [], data)
-        if (done.stdout, done.stderr, done.returncode) != (b"refused 2 at byte 0\n", b"", 1):
+        report = b"refused %d at byte 0\n" % (3 if data[0] == 10 else 2)
+        if (done.stdout, done.stderr, done.returncode) != (report, b"", 1):
             yield "%r: wrote %r, said %r and ended with %d" % (data, done.stdout, done.stderr, done.returncode)
 
 

@@ -20,17 +20,24 @@ from vectors import GOOD_LINE, HEAD_LINE
 # what a program may read at once; any other length is as good a place for a seam
 PIECES = (4_096, 16_384, 65_534, 65_536)
 
+# rings that read, of both kinds; those of kind 3 have no text
+RINGS = [sheets_ring.profibus_random, sheets_ring.profibus_exact, sheets_ring.profibus_ties, sheets_ring.profibus_below, sheets_ring.profibus_short]
+
+
+def open_ring(rng):
+    """A ring of kind 9."""
+    return second_opinion.rewrite_sheet(rng.choice(RINGS)(rng))
+
+
 # sheets that read and have a text
 SHORT_SHEETS = [
-    sheets_pnet.pnet_roomy, sheets_pnet.pnet_tight, sheets_pnet.pnet_late, sheets_pnet.pnet_jitter_counts,
+    sheets_pnet.pnet_roomy, sheets_pnet.pnet_tight, sheets_pnet.pnet_late, sheets_pnet.pnet_jitter_counts, open_ring, open_ring,
     sheets_table.worldfip_mixed, sheets_table.worldfip_one_slot, sheets_table.worldfip_harmonic,
 ]
 SHEETS = SHORT_SHEETS + [
     sheets_pnet.pnet_busy_master, sheets_pnet.pnet_links, sheets_pnet.pnet_many, sheets_pnet.pnet_jitter, sheets_pnet.pnet_jitter,
     sheets_table.worldfip_many_slots, sheets_table.worldfip_full_row, sheets_table.worldfip_many_rows, sheets_table.worldfip_huge, sheets_table.worldfip_no_fit,
 ]
-# sheets that read and have none
-RINGS = [sheets_ring.profibus_random, sheets_ring.profibus_exact, sheets_ring.profibus_ties, sheets_ring.profibus_below, sheets_ring.profibus_short]
 
 
 def records_of(data):
@@ -221,7 +228,9 @@ def other_number(rng, records):
 
 
 def no_stream(rng, records):
-    return records[: 2 if records[1][0] == 8 else 1]
+    """With all that stands before the streams, or with the first record alone."""
+    before = [record for record in records if record[0] not in second_opinion.STREAM_KINDS[1] + (4, 6)]
+    return before[: rng.choice([1, len(before), len(before)])]
 
 
 def no_head(rng, records):
@@ -248,7 +257,18 @@ def other_edition(rng, records):
     return records
 
 
-MISREADINGS = [other_number, other_number, other_number, no_stream, no_stream, no_head, moved, borrowed, other_edition]
+def other_message(rng, records):
+    """A longest message dropped, or one more, in range or not, behind the first record or anywhere."""
+    given = [at for at, (kind, _) in enumerate(records) if kind == 10]
+    if given and rng.random() < 0.5:
+        del records[rng.choice(given)]
+        return records
+    one = (10, [rng.choice([0, 1, 1, 2, 33]), rng.choice([0, 1, 500, 100_000, 100_001])])
+    records.insert(rng.choice([1, 1, 1 + len(given), rng.randint(0, len(records))]), one)
+    return records
+
+
+MISREADINGS = [other_number, other_number, other_number, no_stream, no_stream, no_head, moved, borrowed, other_edition, other_message, other_message]
 
 
 def misread(rng):
@@ -269,6 +289,8 @@ def over(rng):
     n = rng.choice([0, 1, 10, 32])
     if n == 0:
         records = [(5, [1])] + [(6, [i, 10_000]) for i in rng.sample(range(65_536), 64 + more)]
+    elif rng.random() < 0.3:
+        records = [(9, [n, 1])] + [(10, [y, 9]) for y in range(n, 0, -1)] + [(4, [1 + i % n, 9, 9_000_000]) for i in range(min(80 * n, 800) + more)]
     else:
         ends = rng.choice([[(2, 9_000_000)], [(7, 9_000_000, 0)], [(2, 9_000_000), (7, 8_000_000, 1_000_000)]])
         records = [(1, [n])] + rng.choice([[], [(8, [2])]])
@@ -295,6 +317,7 @@ def noise(rng):
 
 
 def ring(rng):
+    """A ring of kind 3 or 9, as bytes."""
     return rng.choice(RINGS)(rng)
 
 
@@ -305,7 +328,7 @@ def as_bytes(rng):
 
 FAMILIES = [
     exported, exported, exported, short, short, short, short, slipped, slipped, slipped, slipped, slipped, slipped, cut_short,
-    misread, misread, misread, misread, misread, met_before, over, over, empty, noise, ring, as_bytes, as_bytes, as_bytes,
+    misread, misread, misread, misread, misread, met_before, over, over, empty, noise, ring, ring, as_bytes, as_bytes, as_bytes,
 ]
 
 
@@ -336,6 +359,8 @@ def long_edges():
     yield "a megabyte of segments", HEAD_LINE * most
     yield "a megabyte of editions", HEAD_LINE + b"pnet-edition,2\n" * (sheet_records.MEGABYTE // 15)
     yield "a megabyte of editions, then a bad line", HEAD_LINE + b"pnet-edition,2\n" * (sheet_records.MEGABYTE // 15) + b"pnet-edition,256\n"
+    yield "a megabyte of longest messages", b"profibus-ring,2,9 bp\n" + b"profibus-message,1,9 bp\n" * (sheet_records.MEGABYTE // 24)
+    yield "a megabyte of longest messages, then a bad line", b"profibus-ring,2,9 bp\n" + b"profibus-message,1,9 bp\n" * (sheet_records.MEGABYTE // 24) + b"profibus-message,1,9\n"
     yield "a megabyte of variables", b"worldfip-exchange,1 us\n" + b"worldfip-variable,1,9 us\n" * most
     for what, one in (("digits", b"1"), ("zeros", b"0"), ("blanks", b" "), ("commas", b","), ("zero bytes", b"\0")):
         yield "a megabyte of %s in a line" % what, HEAD_LINE + b"pnet-stream,1" + one * sheet_records.MEGABYTE + GOOD_LINE
@@ -348,11 +373,14 @@ def edges(rng):
         yield line, vectors.text_case(line)[1]
     for name, line in vectors.slips():
         yield name, HEAD_LINE + line + GOOD_LINE
-    # each field at the ends of its bytes and its range; kind 4 follows kind 3 alone, which has no line
-    for kind in (1, 2, 5, 6, 7, 8):
+    # each field at the ends of its bytes and its range; kind 4 is tried behind kind 9, since kind 3 has no line
+    for kind in WORDS:
         for field in range(len(WIDTHS[kind])):
             for value in sheets_damaged.around(kind, field):
-                yield "kind %d field %d is %d" % (kind, field + 1, value), written(records_of(sheets_damaged.with_field(kind, field, value)))
+                records = records_of(sheets_damaged.with_field(kind, field, value))
+                if kind == 4:
+                    records[:1] = [(9, [3, 300]), (10, [3, 500]), (10, [2, 500]), (10, [1, 500])]
+                yield "kind %d field %d is %d" % (kind, field + 1, value), written(records)
     for j in (0, 1, 999, 1_000, 1_001, sheet_records.ONES):
         for d in sorted({1, 1_000 - j, 1_001 - j}):
             if 0 <= d:
@@ -375,6 +403,11 @@ def edges(rng):
     yield "800 streams", written(records_of(sheets_pnet.full_segment(rng, 32, [25] * 32)))
     yield "800 streams of kind 7", written(records_of(sheets_pnet.full_segment(rng, 32, [25] * 32, kinds=(7,))))
     yield "800 streams of kinds 2 and 7", written(records_of(sheets_pnet.full_segment(rng, 32, [25] * 32, kinds=(2, 7))))
+    ring800 = [(9, [32, 100_000])] + [(10, [y, 100_000]) for y in range(32, 0, -1)] + [(4, [10 + i % 23, 100_000, sheet_records.BILLION]) for i in range(800)]
+    yield "the longest text of a ring", written(ring800)
+    yield "the longest text of a ring, then a stream", written(ring800 + ring800[-1:])
+    yield "the longest text of a ring, then a longest message", written(ring800 + ring800[1:2])
+    yield "the longest text of a ring, then a bad line", written(ring800) + b"profibus-message,1,9\n"
     yield "64 variables", written([(5, [1_000_000])] + [(6, [65_535 - i, sheet_records.BILLION]) for i in range(64)])
     yield from long_edges()
 

@@ -97,6 +97,10 @@ UNEVEN = [
     (2, 2, 303, 100_000, 100_000),
 ]
 RING = [(3, 3, 300, 500), (4, 1, 400, 8_400), (4, 1, 500, 10_000), (4, 2, 300, 5_000)]
+# page 02, Ask 8: the same ring with each master's own longest message, and with one slow drive, which counts once
+OPEN_RING = [(9, 3, 300), (10, 1, 500), (10, 2, 500), (10, 3, 500), *RING[1:]]
+SLOW_DRIVE = [(9, 3, 300), (10, 3, 2_000), (10, 1, 500), (10, 2, 300), *RING[1:]]
+SLOW_DRIVE_OF_ALL = [(3, 3, 300, 2_000), *RING[1:]]
 TABLE = [(5, 400), (6, 17, 1_000), (6, 18, 2_000), (6, 19, 4_000), (6, 20, 4_000)]
 TABLE_LATE = TABLE[:3] + [(6, 19, 2_000)] + TABLE[4:]
 E210 = [(5, 210)] + [(6, i, 1_000) for i in (1, 2, 3, 4)] + [(6, 5, 3_000)]
@@ -107,6 +111,7 @@ EIGHTY_EACH = [(1, 10)] + [
 # page 02, Ask 11: V is 250 bp, and first come has 750 bp for each stream
 URGENT = [(1, 1), (2, 1, 203, 500, 500), (2, 1, 203, 100_000, 100_000), (2, 1, 203, 100_000, 100_000)]
 
+FULL_RING = sheet((9, 32, 1), *[(10, y, 1) for y in range(32, 0, -1)], *[(4, 1 + i % 32, 1, 9) for i in range(800)])
 JITTERS = sheet((1, 32), *[(7, 1 + i % 32, 203, 1_000, 700, 300) for i in range(800)])
 LONGEST = JITTERS[:2] + sheet((8, 2)) + JITTERS[2:]
 
@@ -127,6 +132,9 @@ PAGE = [
     ("pnet", sheet(*WAITING), "R 1000 500; W 1000 500; rounds 2 1"),
     ("profibus", sheet(*RING), "TTR 2500 by 1"),
     ("report", sheet(*RING), "PROFIBUS ring\nTTR 2500 bp limited by stream 1\n"),
+    ("report", sheet(*OPEN_RING), "PROFIBUS ring\nTTR 2500 bp limited by stream 1\n"),
+    ("report", sheet(*SLOW_DRIVE), "PROFIBUS ring\nTTR 1200 bp limited by stream 1\n"),
+    ("report", sheet(*SLOW_DRIVE_OF_ALL), "refused 9 at stream 1\n"),
     ("worldfip", sheet(*TABLE), "microcycle 1000; slots 2; rows 3 5 3 9"),
     ("report", sheet(*TABLE),
      "WorldFIP table\n"
@@ -144,16 +152,100 @@ PAGE = [
     ("report", bytes([1, 4]), "refused 6 at byte 2\n"),
 ]
 
-# call, sheet in hex (for write: place, buffer length, kind and numbers), for capture the capture too, answer
-READINGS = """
+# call, sheet in hex (for write: place, buffer length, kind and numbers), for capture the capture too, answer (for rewrite in hex)
+READINGS = r"""
 pnet | 05 00000190 | 6 at 5
 pnet | 05 | 1 at 0
 worldfip | 01 21 | 4 at 0
 pnet | 05 00000190 06 0011 000003e8 | 3 at 0
 read | 07 | 3 at 0
 read | 08 | 3 at 0
-read | 09 | 2 at 0
+read | 09 | 1 at 0
+read | 0a | 3 at 0
+read | 0b | 2 at 0
 read | 10 | 2 at 0
+read | 09 02 00000064 0a 02 00000009 0a 01 00000008 04 01 00000008 0000ffff | accepted
+read | 09 02 00000064 0a 01 00000008 04 01 00000008 0000ffff | 20 at 12
+read | 09 01 000186a1 | 4 at 0
+read | 09 01 00000064 0a 01 00000001 | 6 at 12
+read | 09 01 00000064 | 20 at 6
+read | 09 02 00000064 0a 01 000001f4 04 01 000001f5 00000009 | 4 at 12
+read | 09 02 00000064 0a 01 000001f4 04 02 000001f5 00000009 | 20 at 12
+read | 09 02 00000064 0a 01 000001f4 04 02 000186a1 00000009 | 4 at 12
+read | 09 02 00000064 0a 01 000001f4 04 02 | 1 at 12
+read | 09 01 00000064 0a 01 000001f4 04 01 00000001 00000009 0a 01 000001f4 | 3 at 22
+read | 09 01 00000064 0a 01 000001f4 0a 01 00000000 | 4 at 12
+read | 03 01 00000064 000001f4 0a 01 000001f4 | 3 at 10
+report | 09 01 00000064 | refused 20 at byte 6\n
+read | 09 02 00000064 0a 01 000001f4 0a 01 000001f5 | 20 at 12
+read | 09 02 00000064 0a 01 000001f4 0a 01 000001f4 0a 02 000001f4 04 01 00000001 00000009 | 20 at 12
+read | 09 02 00000064 0a 01 000001f4 0a 03 000001f4 | 4 at 12
+read | 09 02 00000064 0a 00 000001f4 | 4 at 6
+read | 09 02 00000064 0a 01 00000000 | 4 at 6
+read | 09 02 00000064 0a 01 000186a0 | 20 at 12
+read | 09 02 00000064 0a 01 000186a1 | 4 at 6
+read | 09 02 00000064 0a 01 0000 | 1 at 6
+read | 09 02 00000064 0a | 1 at 6
+read | 09 02 00000064 0b | 2 at 6
+read | 09 02 00000064 02 | 3 at 6
+read | 09 02 00000064 08 | 3 at 6
+read | 09 02 00000064 09 | 3 at 6
+read | 09 02 00000064 03 | 3 at 6
+read | 09 02 00000064 04 | 1 at 6
+read | 09 02 00000064 04 01 00000001 00000001 | 20 at 6
+read | 09 02 00000064 04 03 00000001 00000001 | 4 at 6
+read | 09 02 00000064 04 02 000186a0 00000001 | 20 at 6
+read | 09 02 00000064 04 02 000186a1 00000001 | 4 at 6
+read | 09 02 00000064 0a 01 00000001 0a 02 00000001 | 6 at 18
+read | 09 02 00000064 0a 01 00000001 0a 02 00000002 04 01 00000001 00000001 04 02 00000002 00000001 | accepted
+read | 09 02 00000064 0a 01 00000001 0a 02 00000002 04 01 00000002 00000001 | 4 at 18
+read | 09 02 00000064 0a 01 00000001 0a 02 00000002 04 02 00000003 00000001 | 4 at 18
+read | 09 01 00000064 0a 01 000001f4 04 01 00000001 00000009 0a | 3 at 22
+read | 09 01 00000064 0a 01 000001f4 04 01 00000001 00000009 09 | 3 at 22
+read | 09 00 00000064 | 4 at 0
+read | 09 21 00000064 | 4 at 0
+read | 09 20 00000000 | 4 at 0
+read | 09 20 000186a0 | 20 at 6
+read | 09 01 000000 | 1 at 0
+read | 0104 0a | 3 at 2
+read | 0104 09 | 3 at 2
+read | 05 00000190 0a 01 00000001 | 3 at 5
+read | 03 01 00000064 000001f4 09 | 3 at 10
+pnet | 09 01 00000064 0a 01 000001f4 04 01 00000001 00000009 | 3 at 0
+worldfip | 09 01 00000064 0a 01 000001f4 04 01 00000001 00000009 | 3 at 0
+worldfip | 09 01 00000064 | 20 at 6
+profibus | 09 01 00000064 0a 01 000001f4 04 01 00000001 00000009 | 9 at 1
+profibus | 09 02 00000064 0a 02 00000190 0a 01 0000000a 04 01 0000000a 00000208 | TTR 100 by 1
+profibus | 09 02 00000064 0a 02 00000190 0a 01 0000000a 04 01 0000000a 00000207 | 9 at 1
+profibus | 03 02 00000064 00000190 04 01 0000000a 00000208 | 9 at 1
+profibus | 09 01 00000064 0a 01 0000000a 04 01 0000000a 000003e9 04 01 0000000a 000003e8 | TTR 485 by 1
+write | 7 | 0 | 3 0 0 0 | 2 at 7
+write | 7 | 99 | 3 1 1 1 | 2 at 7
+write | 18446744073709551615 | 0 | 3 1 1 1 | 2 at 18446744073709551615
+write | 0 | 6 | 9 32 100000 | 0920000186a0 then 6
+write | 0 | 6 | 9 33 100000 | 4 at 0
+write | 0 | 6 | 9 32 100001 | 4 at 0
+write | 0 | 6 | 9 0 1 | 4 at 0
+write | 0 | 6 | 9 1 0 | 4 at 0
+write | 6 | 12 | 10 32 100000 | 0a20000186a0 then 12
+write | 6 | 12 | 10 33 100000 | 4 at 6
+write | 6 | 12 | 10 32 100001 | 4 at 6
+write | 6 | 12 | 10 0 1 | 4 at 6
+write | 6 | 12 | 10 1 0 | 4 at 6
+write | 6 | 11 | 10 1 1 | 13 at 12
+write | 18446744073709551609 | 9 | 9 1 1 | 13 at 18446744073709551615
+write | 18446744073709551610 | 9 | 10 1 1 | 13 at 0
+write | 0 | 6 | 11 1 1 | 2 at 0
+rewrite | 03 01 00000064 000001f4 04 01 00000001 00000009 | 0901000000640a01000001f404010000000100000009
+rewrite | 03 03 00000064 000001f4 04 02 000001f4 00000009 04 01 00000001 00000009 | 0903000000640a01000001f40a02000001f40a03000001f40402000001f40000000904010000000100000009
+rewrite | 09 02 00000064 0a 02 00000009 0a 01 00000008 04 01 00000008 0000ffff | 0902000000640a02000000090a01000000080401000000080000ffff
+rewrite | 0101 0802 020100cb000003e8000003e8 | 01010802020100cb000003e8000003e8
+rewrite | 0500000190 060011000003e8 | 0500000190060011000003e8
+rewrite | - | 1 at 0
+rewrite | 03 | 1 at 0
+rewrite | 03 01 00000064 000001f4 | 6 at 10
+rewrite | 03 01 00000064 000001f4 04 01 000001f5 00000009 | 4 at 10
+rewrite | 09 01 00000064 | 20 at 6
 pnet | 0102 0802 020100cb000186a0000186a0 | R 500 0; W 260 0; rounds 1 0
 pnet | 0103 0802 020300cb00000bb800000bb8 02020035000005dc000005dc 0203000300000bb800000bb8 | R 0 750 1500; W 0 510 1020; rounds 0 1 2
 read | 0104 0801 0802 020100cb000003e8000003e8 | 3 at 4
@@ -350,7 +442,33 @@ export | 03 01 00000001 00000001 | 6 at 10
 export | 03 01 00000001 00000001 04 01 00000001 000003e8 | 2 at 0
 import | pnet-segment,2\npnet-jitter-stream,1,9 bp,99 bp,9 bp,0 bp\n | 010207010009000000630000000900000000
 import | pnet-segment,1\npnet-edition,1\npnet-jitter-stream,1,9 bp,99 bp,9 bp,0 bp\n | 0101080107010009000000630000000900000000
-import | pnet-segment,3\nprofibus-ring,3,300 bp\n | 23 at 2
+import | pnet-segment,3\nprofibus-ring,3,300 bp\n | 3 at 2
+import | profibus-ring,2,100 bp\nprofibus-message,1,500 bp\nprofibus-message,2,9 bp\nprofibus-stream,2,9 bp,8400 bp\n | 0902000000640a01000001f40a0200000009040200000009000020d0
+export | 09 02 00000064 0a 02 00000009 0a 01 000001f4 04 02 00000009 000020d0 | profibus-ring,2,100 bp\nprofibus-message,2,9 bp\nprofibus-message,1,500 bp\nprofibus-stream,2,9 bp,8400 bp\n
+import | profibus-ring,2,100 bp\nprofibus-message,2,9 bp\nprofibus-message,1,500 bp\nprofibus-stream,2,9 bp,8400 bp\n | 0902000000640a02000000090a01000001f4040200000009000020d0
+import | profibus-ring,2,100 bp\n | 20 at 6
+import | profibus-ring,1,100 bp\nprofibus-message,1,500 bp\n | 6 at 12
+import | profibus-ring,2,100 bp\nprofibus-message,1,500 bp\nprofibus-message,1,500 bp\n | 20 at 12
+import | profibus-ring,2,100 bp\nprofibus-message,1,500 bp\nprofibus-stream,1,400 bp,8400 bp\n | 20 at 12
+import | profibus-ring,2,100 bp\nprofibus-message,1,500 bp\nprofibus-stream,1,501 bp,8400 bp\n | 4 at 12
+import | profibus-ring,2,100 bp\nprofibus-message,3,500 bp\n | 4 at 6
+import | profibus-ring,2,100 bp\nprofibus-message,1,0 bp\n | 4 at 6
+import | profibus-ring,2,100 bp\nprofibus-message,1,100001 bp\n | 4 at 6
+import | profibus-ring,2,100 bp\nprofibus-message,1,4294967295 bp\n | 4 at 6
+import | profibus-ring,2,100 bp\nprofibus-message,1,4294967296 bp\n | 23 at 2
+import | profibus-ring,2,100 bp\nprofibus-message,256,500 bp\n | 23 at 2
+import | profibus-ring,33,100 bp\n | 4 at 0
+import | profibus-ring,32,100001 bp\n | 4 at 0
+import | profibus-ring,256,100 bp\n | 23 at 1
+import | profibus-ring,2,4294967296 bp\n | 23 at 1
+import | profibus-ring,2,100\n | 23 at 1
+import | profibus-ring,2 bp,100 bp\n | 23 at 1
+import | profibus-message,1,500 bp\n | 3 at 0
+import | pnet-segment,2\nprofibus-message,1,500 bp\n | 3 at 2
+import | profibus-ring,1,100 bp\nprofibus-message,1,500 bp\nprofibus-stream,1,400 bp,8400 bp\nprofibus-message,1,500 bp\n | 3 at 22
+import | profibus-ring,1,100 bp\nprofibus-message,1,500 bp\nprofibus-ring,1,100 bp\n | 3 at 12
+export | 09 01 00000064 | 20 at 6
+export | 0a | 3 at 0
 export | 0101 0802 07 01 0009 000003e8 00000384 00000000 | pnet-segment,1\npnet-edition,2\npnet-jitter-stream,1,9 bp,1000 bp,900 bp,0 bp\n
 import | pnet-segment,1\npnet-edition,2\npnet-jitter-stream,1,9 bp,1000 bp,900 bp,0 bp\n | 0101080207010009000003e80000038400000000
 import | pnet-segment,33\n | 4 at 0
@@ -371,7 +489,8 @@ import | worldfip-exchange,400 us\nworldfip-variable,0,1000 us\nworldfip-variabl
 export | - | 1 at 0
 export | 07 | 3 at 0
 export | 08 | 3 at 0
-export | 09 | 2 at 0
+export | 09 | 1 at 0
+export | 0b | 2 at 0
 export | 0104 0801 | 6 at 4
 export | 0104 0803 | 4 at 2
 export | 0101 020100cb000003e8000003e8 0801 | 3 at 14
@@ -532,8 +651,35 @@ worldfip-exchange,4294967296 us
 worldfip-variable,65536,1000 us
 worldfip-variable,17,4294967296 us
 profibus-ring,3,300 bp,500 bp
-profibus-ring,3,300 bp
-profibus-message,1,500 bp
+profibus-ring
+profibus-ring,
+profibus-ring,3
+profibus-ring,3,
+profibus-ring,3,300
+profibus-ring,3,300 us
+profibus-ring,3 bp,300 bp
+profibus-ring,03,300 bp
+profibus-ring,3,300 bp,
+profibus-ring,3,300  bp
+profibus-ring,256,300 bp
+profibus-ring,3,4294967296 bp
+profibus-rings,3,300 bp
+Profibus-ring,3,300 bp
+\x20profibus-ring,3,300 bp
+profibus-message
+profibus-message,
+profibus-message,1
+profibus-message,1,500
+profibus-message,1,500 us
+profibus-message,1 bp,500 bp
+profibus-message,M01,500 bp
+profibus-message,1,0500 bp
+profibus-message,1,500 bp,
+profibus-message,1,500 bp,9 bp
+profibus-message,256,500 bp
+profibus-message,1,4294967296 bp
+profibus-messages,1,500 bp
+profibus_message,1,500 bp
 pnet-edition
 pnet-edition,
 pnet-edition,02
@@ -641,6 +787,27 @@ PROSE = [
      lambda: opinion.plan_worldfip(sheet((5, 2), (6, 1, 17), (6, 2, 241)), 0), "10 at 0"),
     ("3 for another bus", lambda: opinion.plan_profibus(sheet(*TABLE)), "3 at 0"),
     ("3 for another bus", lambda: opinion.plan_worldfip(sheet(*RING)), "3 at 0"),
+    ("a ring of kind 3 rewritten", lambda: in_hex(opinion.rewrite_sheet(sheet(*RING))), sheet(*OPEN_RING).hex()),
+    ("a ring of kind 9 rewritten, in its own order", lambda: in_hex(opinion.rewrite_sheet(sheet(*SLOW_DRIVE))), sheet(*SLOW_DRIVE).hex()),
+    ("room for the ring rewritten", lambda: in_hex(opinion.rewrite_sheet(sheet(*RING), 54)), sheet(*OPEN_RING).hex()),
+    ("no room for the ring rewritten", lambda: opinion.rewrite_sheet(sheet(*RING), 53), "13 at 54"),
+    ("6 before 13 on rewriting", lambda: opinion.rewrite_sheet(sheet(RING[0]), 0), "6 at 10"),
+    ("a sheet refused with 9 is rewritten", lambda: opinion.report(opinion.rewrite_sheet(sheet(*SLOW_DRIVE_OF_ALL))), "refused 9 at stream 1\n"),
+    ("a text rewritten", lambda: in_hex(opinion.rewrite_given(HEAD_LINE + GOOD_LINE)), "0102020100cb000003e8000003e8"),
+    ("a text with a bad line is not rewritten", lambda: opinion.rewrite_given(HEAD_LINE + b"\n"), "23 at 2"),
+    ("the longest ring rewritten",
+     lambda: len(opinion.rewrite_sheet(sheet((3, 32, 1, 1), *[(4, 1 + i % 32, 1, 9) for i in range(800)]))), "8198"),
+    ("800 streams of a ring of kind 9", lambda: opinion.read(FULL_RING), "accepted"),
+    ("the 801st of a ring of kind 9", lambda: opinion.read(FULL_RING + sheet((4, 1, 1, 9))), "5 at 8198"),
+    ("the 801st of a ring of kind 9, out of range", lambda: opinion.read(FULL_RING + sheet((4, 1, 2, 9))), "4 at 8198"),
+    ("the 81st of a master of a ring of kind 9", lambda: opinion.read(sheet((9, 1, 1), (10, 1, 1), *[(4, 1, 1, 9)] * 81)), "5 at 812"),
+    ("a longest message behind 800 streams", lambda: opinion.read(FULL_RING + sheet((10, 1, 1))), "3 at 8198"),
+    ("the ring with nothing but its first record missing", lambda: opinion.read(FULL_RING[6:]), "3 at 0"),
+    ("the last master's longest message missing", lambda: opinion.read(FULL_RING[:192] + FULL_RING[198:]), "20 at 192"),
+    ("the first master's longest message missing", lambda: opinion.read(FULL_RING[:6] + FULL_RING[12:]), "20 at 192"),
+    ("a longest message too many", lambda: opinion.read(FULL_RING[:198] + FULL_RING[192:]), "20 at 198"),
+    ("the greatest sum of longest messages",
+     lambda: opinion.plan_profibus(sheet((9, 32, 1), *[(10, y, 100_000) for y in range(1, 33)], (4, 32, 1, 1_000_000_000))), "TTR 996799999 by 1"),
     ("a master alone", lambda: opinion.plan_pnet(sheet((1, 1), (2, 1, 203, 1000, 1000))),
      "R 250; W 250; rounds 1"),
     ("a silent master costs 10",
@@ -948,7 +1115,9 @@ PROSE = [
     ("a word and its comma make a text", lambda: opinion.report(b"worldfip-variable,"), "refused 23 at line 1\n"),
     ("a word alone makes none", lambda: opinion.report(b"worldfip-variable\n"), "refused 2 at byte 0\n"),
     ("a word with something before it makes none", lambda: opinion.report(b"\xef\xbb\xbf" + HEAD_LINE + GOOD_LINE), "refused 2 at byte 0\n"),
-    ("the word of a kind that is not there makes none", lambda: opinion.report(b"profibus-ring,3,300 bp\n"), "refused 2 at byte 0\n"),
+    ("the word of kind 9 makes a text", lambda: opinion.report(b"profibus-ring,3,300 bp\n"), "refused 20 at byte 6\n"),
+    ("the word of kind 10 makes a text", lambda: opinion.report(b"profibus-message,"), "refused 23 at line 1\n"),
+    ("the word of a kind that is not there makes none", lambda: opinion.report(b"worldfip-edition,2\n"), "refused 2 at byte 0\n"),
     ("a text is exported as itself", lambda: opinion.export_given(HEAD_LINE + GOOD_LINE), (HEAD_LINE + GOOD_LINE).decode("ascii")),
     ("a text with a bad line is not exported", lambda: opinion.export_given(HEAD_LINE + b"\n"), "23 at 2"),
     ("bytes are not imported", lambda: opinion.import_text(sheet(*TWO_MASTERS)), "23 at 1"),
@@ -997,7 +1166,7 @@ PROSE = [
      "gateway 2 request 30 bp reply 30 bp\n"
      "segment 3 M01 bound 1220 bp\n"
      "total 4000 bp 52083334 ns deadline 4000 bp\n"),
-    ("unknown kind to the writer", lambda: opinion.write_record(0, 9, 9, ()), "2 at 9"),
+    ("unknown kind to the writer", lambda: opinion.write_record(0, 9, 11, ()), "2 at 9"),
     ("a whole record", lambda: opinion.write_record(14, 2, 2, (32, 1_548, 9, 9)),
      "0220060c0000000900000009 then 14"),
     ("one byte short", lambda: opinion.write_record(13, 2, 2, (32, 1_548, 9, 9)), "13 at 14"),
@@ -1013,6 +1182,7 @@ def call(name, *data):
         "capture": opinion.compare_capture,
         "beside x": lambda *pair: opinion.compare_capture(*pair, promised=opinion.urgent_first),
         "export": opinion.export_sheet,
+        "rewrite": lambda data: in_hex(opinion.rewrite_sheet(data)),
         "import": lambda text: in_hex(opinion.import_text(text)),
         "read": opinion.read,
         "pnet": opinion.plan_pnet,
@@ -1045,7 +1215,7 @@ def vectors():
                 opinion.write_record(l, p, k, x)), expected
         else:
             data = [bytes.fromhex(part.replace("-", "")) for part in given]
-            yield line, lambda n=name, d=data: call(n, *d), expected
+            yield line, lambda n=name, d=data: call(n, *d), expected.replace("\\n", "\n")
     for line in PATHS.strip().splitlines():
         *path, expected = path_of(line)
         yield line, lambda p=path: opinion.cross_path(*p), expected

@@ -9,7 +9,8 @@ use planner_output::complain;
 use sheet_read::Reading;
 use sheet_write::Put;
 
-fn refuse(name: &[u8], no: u8, place: usize) -> u8 {
+// Says of an input how it is refused.
+pub(crate) fn refuse(name: &[u8], no: u8, place: usize) -> u8 {
     blame(name);
     planner_output::put_refusal(libc::STDERR_FILENO, no, place);
     REFUSED
@@ -19,7 +20,9 @@ fn refuse(name: &[u8], no: u8, place: usize) -> u8 {
 fn refuse_text(name: &[u8], no: u8, place: usize, first: u8) -> u8 {
     let status = refuse(name, no, place);
     if (no == 2) & (place == 0) & (first == 3) {
-        complain(b"planner: a PROFIBUS ring of kind 3 has no text form\n");
+        complain(
+            b"planner: a PROFIBUS ring of kind 3 has no text form; --rewrite makes a sheet that has one\n",
+        );
     }
     status
 }

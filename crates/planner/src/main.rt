@@ -3,6 +3,7 @@
 // says last, on descriptor 3.
 mod along;
 mod exchange;
+mod rewrite;
 
 use libc::STDIN_FILENO;
 use planner_io::help;
@@ -50,6 +51,7 @@ fn serve(number: usize, fd: i32, name: &[u8]) -> u8 {
         2 => plan(fd, name, true),
         3 => exchange::exchange(fd, name, false),
         4 => exchange::exchange(fd, name, true),
+        5 => rewrite::rewrite(fd, name),
         _ => plan(fd, name, false),
     }
 }
@@ -167,7 +169,7 @@ fn by_command(number: usize, count: usize) -> u8 {
     }
     if count > 3 {
         return give_up(
-            b"planner: too many words: --export and --import take one name; planner --help says more\n",
+            b"planner: too many words: --export, --import and --rewrite take one name; planner --help says more\n",
         );
     }
     if words::is_option(2) {
@@ -185,10 +187,10 @@ fn by_words(count: usize) -> u8 {
     match number {
         1 => along::plan(count),
         2 => by_plain_names(number, 2, count),
-        3 | 4 => by_command(number, count),
-        5 | 6 => unless_cut(help::help(), ACCEPTED),
-        7 => unless_cut(help::version(), ACCEPTED),
-        8 => by_names(0, 2, count),
+        3 | 4 | 5 => by_command(number, count),
+        6 | 7 => unless_cut(help::help(), ACCEPTED),
+        8 => unless_cut(help::version(), ACCEPTED),
+        9 => by_names(0, 2, count),
         _ => by_plain_names(0, 1, count),
     }
 }

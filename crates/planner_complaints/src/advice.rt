@@ -7,12 +7,12 @@ use crate::scan::is_blank;
 use crate::scan::is_digit;
 use crate::scan::is_letter;
 use crate::scan::is_padding;
+use crate::scan::is_sheet;
 use planner_output::complain;
-use sheet_record::known;
 use sheet_said::begins;
 
 // How the likeliest slips are mended.
-pub(crate) const ADVICE: [u8; 908] =
+pub(crate) const ADVICE: [u8; 915] =
     *b"a line ends with LF alone: save with LF line ends, or: tr -d '\\r' < TEXT
 one blank stands between a number and its unit, as in 203 bp
 each time has its unit: bp on P-NET and PROFIBUS, us on WorldFIP
@@ -25,7 +25,7 @@ a number has no zero in front
 the last line has no end: a newline is missing behind it
 no blank stands before or behind a cell
 words have small letters only
-a PROFIBUS ring of kind 3 has no text form: give that sheet as bytes
+a ring has no longest message: each master has its own, on a line behind it
 this begins as the bytes of a sheet do, and a text was wanted
 a number is decimal digits alone: no sign, no point, no separator
 ";
@@ -81,19 +81,16 @@ pub(crate) fn advice_on_word(line: &[u8]) -> usize {
     if is_padding(line, 0) {
         return EMPTY;
     }
+    if is_sheet(line) {
+        return BYTES;
+    }
     if is_blank(first) {
         return NO_BLANK;
-    }
-    if known(first) {
-        return BYTES;
     }
     advice_on_letters(line, first)
 }
 
 pub(crate) fn advice_on_letters(line: &[u8], first: u8) -> usize {
-    if begins(line, b"profibus-ring") {
-        return RING;
-    }
     let comma = find(line, 0, b',');
     if (find(line, 0, b';') < comma) | (find(line, 0, b'\t') < comma) {
         return SEPARATORS;
@@ -115,6 +112,9 @@ pub(crate) fn advice_on_end(line: &[u8], slip: Slip) -> usize {
     }
     if (slip.wanted == b'\n') & is_padding(line, slip.at) {
         return PADDED;
+    }
+    if (slip.wanted == b'\n') & begins(line, b"profibus-ring,") {
+        return RING;
     }
     0
 }

@@ -1,4 +1,5 @@
 // Looking at the bytes of a line.
+use sheet_record::known;
 ghost use Prim.Native.Nat.{_≤_};
 ghost use lib.ListN.{length};
 
@@ -24,6 +25,12 @@ pub(crate) fn is_letter(byte: u8) -> bool {
 
 pub(crate) fn is_blank(byte: u8) -> bool {
     (byte == b' ') | (byte == b'\t')
+}
+
+// It begins as the bytes of a sheet do. A tab is the number of kind 9, too; in a ring the highest byte of its latency, which is 0, stands two places behind it.
+pub(crate) fn is_sheet(line: &[u8]) -> bool {
+    let first = byte_at(line, 0);
+    known(first) & ((first != b'\t') | (byte_at(line, 2) == 0))
 }
 
 // The first place from one on where a byte stands, the end if it stands nowhere.

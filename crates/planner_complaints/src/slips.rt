@@ -12,6 +12,7 @@ use crate::scan::byte_at;
 use crate::scan::find;
 use crate::scan::is_blank;
 use crate::scan::is_digit;
+use crate::scan::is_sheet;
 use crate::scan::one_more;
 use crate::show;
 use libc::STDERR_FILENO;
@@ -19,7 +20,6 @@ use planner_output::complain;
 use planner_output::end_of;
 use sheet_line::LINE;
 use sheet_read::Reading;
-use sheet_record::known;
 use sheet_record::record_at;
 use sheet_said::begins;
 use sheet_said::kind_in;
@@ -27,7 +27,7 @@ use sheet_said::kind_in;
 // ---- Lists of words, a line for each number from 1 on
 
 // The form of a line, by its kind. Kind 3 has none.
-const FORMS: [u8; 275] = *b"pnet-segment,MASTERS
+const FORMS: [u8; 343] = *b"pnet-segment,MASTERS
 pnet-stream,MASTER,CYCLE bp,SPACING bp,DEADLINE bp
 
 profibus-stream,MASTER,CYCLE bp,DEADLINE bp
@@ -35,6 +35,8 @@ worldfip-exchange,EXCHANGE us
 worldfip-variable,IDENTIFIER,PERIOD us
 pnet-jitter-stream,MASTER,CYCLE bp,SPACING bp,DEADLINE bp,JITTER bp
 pnet-edition,EDITION
+profibus-ring,MASTERS,LATENCY bp
+profibus-message,MASTER,MESSAGE bp
 ";
 
 // What can be wanted at a place.
@@ -147,7 +149,7 @@ fn tell_word(name: &[u8], number: usize, line: &[u8]) {
     show_place(name, number, line, 0);
     tell_wanted(WORD);
     complain(
-        b"planner: pnet-segment, pnet-stream, profibus-stream, worldfip-exchange, worldfip-variable, pnet-jitter-stream, pnet-edition\n",
+        b"planner: pnet-segment, pnet-stream, profibus-stream, worldfip-exchange, worldfip-variable, pnet-jitter-stream, pnet-edition, profibus-ring, profibus-message\n",
     );
     advise(advice_on_word(line));
 }
@@ -267,7 +269,7 @@ fn tell_first(name: &[u8], line: &[u8]) {
 
 // The same of a sheet that was taken for bytes and begins with no record.
 pub fn of_bytes(name: &[u8], s: &[u8]) {
-    if known(byte_at(s, 0)) {
+    if is_sheet(s) {
         return;
     }
     let front = end_of(LINE, one_more(find(s, 0, b'\n')));

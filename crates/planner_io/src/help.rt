@@ -5,7 +5,7 @@ use planner_output::complain;
 use planner_output::put;
 
 // The version of the project.
-const VERSION: [u8; 14] = *b"planner 1.9.0
+const VERSION: [u8; 15] = *b"planner 1.10.0
 ";
 
 // How the program is called, but for its commands.
@@ -21,11 +21,12 @@ planner COMMAND ..       with a command, a word of the list below
 ";
 
 // The commands, a line for each: its word, what follows, what it does. A command's number is its line's, from 1 (`main` knows it by that).
-pub(crate) const COMMANDS: [u8; 585] =
+pub(crate) const COMMANDS: [u8; 666] =
     *b"--path DEADLINE bp SHEET MASTER TIME bp SHEET MASTER ..  the report of a path
 --urgent [SHEET] [CAPTURE]                               urgent requests first
 --export [SHEET]                                         the sheet as text
 --import [TEXT]                                          the sheet of a text
+--rewrite [SHEET]                                        rings as kinds 9 and 10
 --help                                                   this text
 -h                                                       the same
 --version                                                the version
@@ -76,6 +77,9 @@ kind  body  fields, each with its bytes and its range
             C (2) 1..1548 bp, spacing T (4) 1..1000000000 bp, deadline
             D (4) 1..T-J bp, jitter J (4) 0..T-1 bp
    8     1  P-NET rule: edition (1) 1..2
+   9     5  PROFIBUS ring: masters n (1) 1..32, ring latency L (4) 1..100000 bp
+  10     5  PROFIBUS longest message: master (1) 1..n, its longest message
+            M (4) 1..100000 bp
 ",
     )
 }
@@ -83,11 +87,13 @@ kind  body  fields, each with its bytes and its range
 fn rules() -> bool {
     put(
         b"
-The first record is 1, 3 or 5; all later ones are 2 or 7, 4 or 6 to match, but
-one of kind 8 may stand just behind kind 1. P-NET and PROFIBUS: at most 800
-streams, at most 80 for one master. WorldFIP: at most 64 variables, no
-identifier twice. us are microseconds and ns nanoseconds. bp are bit periods: of
-P-NET, 48 in 625 us or 6 in 78125 ns; of that ring for PROFIBUS.
+The first record is 1, 3, 5 or 9; all later ones are 2 or 7, 4 or 6 to match,
+but one of kind 8 may stand just behind kind 1, and one of kind 10 for each
+master, in any order, stands behind kind 9. Kind 3 is read and no longer
+written: its M is that of every master. P-NET and PROFIBUS: at most 800 streams,
+at most 80 for one master. WorldFIP: at most 64 variables, no identifier twice.
+us are microseconds and ns nanoseconds. bp are bit periods: of P-NET, 48 in 625
+us or 6 in 78125 ns; of that ring for PROFIBUS.
 
 Edition 1 of the P-NET rule, which holds without kind 8, charges each master the
 longest that it holds the token itself, and 10 bp if it has no streams; edition
@@ -113,11 +119,14 @@ one of these words and a comma, and has one record a line:
    worldfip-variable,IDENTIFIER,PERIOD us
    pnet-jitter-stream,MASTER,CYCLE bp,SPACING bp,DEADLINE bp,JITTER bp
    pnet-edition,EDITION
+   profibus-ring,MASTERS,LATENCY bp
+   profibus-message,MASTER,MESSAGE bp
 
 Numbers are decimal digits with no zero in front; behind each time stands one
 blank and its unit; each line ends with LF, the last one too. --export writes
-just that, and --import takes nothing else. A ring of kind 3 has no text. A
-sheet of three records:
+just that, and --import takes nothing else. A ring of kind 3 has no text:
+--rewrite makes it one of kind 9, with its M in a kind 10 for each master, which
+means the same, and writes any other sheet as it is. A sheet of three records:
 
    pnet-segment,2
    pnet-stream,1,203 bp,1000 bp,1000 bp
@@ -206,7 +215,7 @@ fn refusals() -> bool {
         b"
 A sheet that cannot be planned is refused with a number and a place:
 
-   1  it is empty, or ends inside a record    2  a kind that is not 1..8
+   1  it is empty, or ends inside a record    2  a kind that is not 1..10
    3  a kind in the wrong position            4  a field out of range
    5  one stream more than a limit allows     6  a first record and no stream
    7  an identifier met before                8  a P-NET bound above a deadline
@@ -215,7 +224,8 @@ A sheet that cannot be planned is refused with a number and a place:
   14  a stream that is not on the sheet      15  an answer with no request open
   16  a request while one is open            17  a path of not 1 to 10 gateways
   18  a MASTER absent or without streams     19  a path's total above DEADLINE
-  21  a P-NET figure above a deadline        23  a line not of a text's form
+  20  a master's kind 10 twice or missing    21  a P-NET figure above a deadline
+  23  a line not of a text's form
 
 In a capture 1 is a record that is cut, 2 a kind that is neither 16 nor 17, and
 the place is a byte of the capture. In a path 4 is a TIME or the DEADLINE out of

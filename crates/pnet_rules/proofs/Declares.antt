@@ -8,7 +8,7 @@ use lib.ListN.{getD}
 use Rattle.sheet_record.specs.declared.Given.{Given}
 use Rattle.sheet_record.specs.declared.Record.{Record}
 use Rattle.sheet_record.specs.Kinds.{pnet, isStreamOf, nothing, inRange}
-use Rattle.sheet_record.proofs.Parts.{first-bus}
+use Rattle.sheet_record.proofs.Parts.{pnet-first}
 use Rattle.sheet_ranges.proofs.Ranges.{segment-ranges, pnet-ranges}
 use Rattle.sheet_read.specs.Sheets.{Sheet, sheetOf, busIn, given, countOf, longestOf}
 use Rattle.sheet_read.proofs.Counts.{counted-by-number, longest-by-number}
@@ -45,7 +45,7 @@ longest-of H k = longest-by-number k (H .streams)
 pub declared : (s : List ℕ) (H : Sheet) → Known s H → busIn H ≡ pnet → Declared (segmentOf H)
 unfolding segmentOf streamAt
 declared s H known k =
-    let m = segment-ranges (given (sheetOf []) (H .head .a)) (H .head) (known .head-ranged) (sym (first-bus (H .head .kind) (known .head-first)) ∙ k) .masters in
+    let m = segment-ranges (given (sheetOf []) (H .head .a)) (H .head) (known .head-ranged) (pnet-first (H .head .kind) (known .head-first) k) .masters in
     record {
       masters-from = m .least;
       masters-to = m .most;

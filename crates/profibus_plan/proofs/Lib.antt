@@ -1,4 +1,5 @@
 pub mod Answers
 pub mod Examples
 pub mod Passing
+pub mod Same
 pub mod Tight

@@ -1,18 +1,21 @@
--- What a pass over the streams meets: stream after stream of the sheet's ring, and each master's count. Assumes nothing.
-use mathlib.Core.Path.{_≡_, sym, ap}
+-- What a pass over the streams meets: stream after stream of the sheet's ring, each master's count, and the masters' longest messages. Assumes nothing.
+use mathlib.Core.Path.{_≡_, refl, sym, ap, _∙_}
 use mathlib.Core.List.{List}
-use Prim.Native.Nat.{ℕ, _+_, _-_, _<_}
+use Prim.Native.Nat.{ℕ, _+_, _-_, _≤_, _<_}
 use native.Mathlib.Omega.{arith}
 use borrow.Author.Tests.{ne-eqb}
+use lib.ListN.{getD}
 use Rattle.common.specs.Runs.{tab}
-use Rattle.common.proofs.Runs.{tab-same}
+use Rattle.common.specs.Sums.{upto}
+use Rattle.common.proofs.Runs.{tab-same, getD-tab}
+use Rattle.common.proofs.Sums.{upto-same}
 use Rattle.sheet_record.specs.declared.Met.{Met}
 use Rattle.sheet_record.specs.Kinds.{profibus, worldfip, streamMet}
 use Rattle.sheet_read.specs.Sheets.{busIn}
-use Rattle.sheet_read.specs.Whole.{reading, streamsOfMaster, countsTold}
+use Rattle.sheet_read.specs.Whole.{reading, streamsOfMaster, countsTold, messagesTold}
 use Rattle.sheet_read.specs.Steps.{sheetIn, streamPlace, Ready}
 use Rattle.sheet_read.proofs.Taken.{ready-known, stream-met}
-use Rattle.profibus_rules.specs.Ring.{Ring, Stream, streamOf, streamAt, ringOf, On, count, Declared}
+use Rattle.profibus_rules.specs.Ring.{Ring, Stream, streamOf, streamAt, ringOf, On, count, messages, Declared}
 use Rattle.profibus_rules.proofs.Declared.{declared, count-is}
 
 -- ---- Stream after stream
@@ -59,3 +62,23 @@ module _ (s : List ℕ) (first n : ℕ) (ready : Ready s profibus first n) where
       let other : busIn S ≡ worldfip → ⊥ = λ e. omega (arith, ready .on-bus) in
       rw (ready .reads, ne-eqb (busIn S) worldfip other)
       (tab-same (streamsOfMaster S) (count (ringOf S)) 33 (λ k l. sym (count-is S k)))
+
+  -- and the messages each master's longest
+  pub ready-messages : (old : List ℕ) → messagesTold (reading s) old ≡ tab (ringOf (sheetIn s) .longest) 33
+  unfolding messagesTold ringOf
+  ready-messages old =
+      let other : busIn (sheetIn s) ≡ worldfip → ⊥ = λ e. omega (arith, ready .on-bus) in
+      rw (ready .reads, ne-eqb (busIn (sheetIn s)) worldfip other) refl
+
+-- ---- The longest messages in a run
+
+module _ (R : Ring) (declared : Declared R) (run : List ℕ) (is : run ≡ tab (R .longest) 33) where
+  message-at : (y : ℕ) → y ≤ R .masters → getD run y 0 ≡ R .longest y
+  message-at y hi = ap (λ (l : List ℕ). getD l y 0) is ∙ getD-tab (R .longest) 33 y (omega (arith, declared .masters-in))
+
+  pub messages-short : (y : ℕ) → 1 ≤ y → y ≤ R .masters → getD run y 0 ≤ 100000
+  messages-short y lo hi = omega (arith, message-at y hi, declared .longest-in y lo hi)
+
+  pub messages-sum : upto (λ y. getD run y 0) (R .masters) ≡ messages R
+  unfolding messages
+  messages-sum = upto-same (λ y. getD run y 0) (R .longest) (R .masters) (λ y lo hi. message-at y hi)

@@ -1,11 +1,14 @@
-// The PROFIBUS planner, page 01 'PROFIBUS rotation time'.
+// The PROFIBUS planner, page 01 'PROFIBUS rotation time', and page 02 'Ask 8'.
 pub mod answer;
 
 pub use answer::Plan;
 use sheet_read::Reading;
 use units::RingPeriods;
 ghost use mathlib.Core.Path.{_≡_};
+ghost use Prim.Native.Nat.{ℕ, _≤_};
+ghost use lib.ListN.{getD};
 ghost use Rattle.common.specs.Runs.{tab};
+ghost use Rattle.common.specs.Sums.{upto};
 ghost use Rattle.sheet_record.specs.Kinds.{profibus};
 ghost use Rattle.sheet_read.specs.Whole.{reading};
 ghost use Rattle.sheet_read.specs.Steps.{sheetIn, Ready};
@@ -15,6 +18,21 @@ ghost use Rattle.profibus_plan.specs.Planned.{planOf};
 
 // The longest deadline of a sheet. No stream bears a rotation as long, since C is at least 1.
 const LONGEST: u64 = 1000000000;
+
+// The longest messages of masters 1..n together.
+fn together(messages: &[u32; 33], n: u32) -> u64
+    requires { ⌜ (n ≤ 32) × ((y : ℕ) → 1 ≤ y → y ≤ n → getD (now messages) y 0 ≤ 100000) ⌝ }
+    ensures { λ r. ⌜ r ≡ upto (λ y. getD (now (messages .entry)) y 0) n ⌝ }
+{
+    let last = n as usize;
+    let mut total: u64 = 0;
+    let mut y: usize = 0;
+    while y < last {
+        y += 1;
+        total += messages[y] as u64;
+    }
+    total
+}
 
 // The largest TTR, or the first stream that fails at L. A stream shares out its D only where it fails at the rotation that all
 // before it bear; so the first to bear less than L allows is the first that fails at L, and of equals the first is kept.
@@ -65,7 +83,8 @@ pub fn plan(s: &[u8]) -> Plan
     ensures { λ r. ⌜ r ≡ planOf (reading (now (s .entry))) ⌝ }
 {
     let mut counts: [u8; 33] = [0; 33];
-    match sheet_read::read_counting(s, &mut counts) {
+    let mut messages: [u32; 33] = [0; 33];
+    match sheet_read::read_ring(s, &mut counts, &mut messages) {
         Reading::Refused { no, place } => Plan::Refused { no, place },
         Reading::Accepted {
             head,
@@ -75,7 +94,7 @@ pub fn plan(s: &[u8]) -> Plan
             if sheet_record::bus_of(head.kind) != 3 {
                 return Plan::Refused { no: 3, place: 0 };
             }
-            let longest = head.a as u64 * head.c as u64;
+            let longest = together(&messages, head.a);
             largest_target(s, first, streams, &counts, head.b as u64, longest)
         }
     }

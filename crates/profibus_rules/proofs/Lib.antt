@@ -2,4 +2,5 @@ pub mod Answer
 pub mod Declared
 pub mod Examples
 pub mod Rule
+pub mod Same
 pub mod Sizes

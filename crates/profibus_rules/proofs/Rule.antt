@@ -1,21 +1,21 @@
 -- Laws of the passing rule: a stream that passes at a target passes at less, and it passes exactly if it bears the rotation.
 -- Assumes nothing.
-use mathlib.Core.Path.{_≡_, refl}
+use mathlib.Core.Path.{_≡_, refl, _∙_}
 use Prim.Native.Nat.{ℕ, _+_, _-_, _*_, _/_, _≤_, _<_}
 use native.Mathlib.Nat.{le-div-iff-mul-le, mul-le-mul, mul-le-mul-left, mul-comm}
 use native.Mathlib.Decide.{decLe}
 use native.Mathlib.Omega.{arith}
 use borrow.Author.Tests.{eq-eqb}
 use Rattle.common.specs.Sums.{when}
-use Rattle.common.proofs.Sums.{upto-term, upto-even}
-use Rattle.sheet_read.specs.Sheets.{Sheet, mastersOf}
+use Rattle.common.proofs.Sums.{upto-same, upto-term, upto-even}
+use Rattle.sheet_read.specs.Sheets.{Sheet, mastersOf, messageOf}
 use Rattle.profibus_rules.specs.Ring.{Ring, ringOf, On, owns, count, messages, rotation, needed, Declared}
 use Rattle.profibus_rules.specs.Target.{AllPass, bears}
 
--- the sum of the longest messages is the page's n·M where one M holds for all
-pub messages-of-one : (S : Sheet) → messages (ringOf S) ≡ mastersOf S * S .head .c
-unfolding messages ringOf
-messages-of-one S = upto-even (S .head .c) (mastersOf S)
+-- behind kind 3 the sum of the longest messages is page 01's n·M
+pub messages-of-one : (S : Sheet) → S .head .kind ≡ 3 → messages (ringOf S) ≡ mastersOf S * S .head .c
+unfolding messages ringOf messageOf
+messages-of-one S k = upto-same (messageOf S) (λ y. S .head .c) (mastersOf S) (λ y lo hi. rw k) ∙ upto-even (S .head .c) (mastersOf S)
 
 -- ---- A lower target
 

@@ -1,6 +1,7 @@
--- Page 01, 'PROFIBUS rotation time': a ring, h, and what a stream needs at a rotation target TTR. The page's n·M is the sum of the
--- masters' longest messages here, which is n·M where one M holds for all. Assumes nothing.
+-- Page 01, 'PROFIBUS rotation time', and page 02, Ask 8: a ring, h, and what a stream needs at a rotation target TTR. Page 01's n·M is the sum of the masters'
+-- longest messages here: each has its own behind kind 9, and M behind kind 3. Assumes nothing.
 use Prim.Native.Nat.{ℕ, _+_, _-_, _*_, _≤_}
+use mathlib.Core.Path.{_≡_}
 use mathlib.Core.List.{List}
 use mathlib.Core.Bool.{Bool}
 use lib.ListN.{length, getD}
@@ -61,17 +62,17 @@ unfoldable pub count : Ring → ℕ → ℕ
 unfolding upto owns
 count R k = upto (λ i. when (owns R k i) 1) (R .number)
 
--- the masters' longest messages together: n·M
+-- the longest messages of masters 1..n together, of those without streams too; it stands for n·M
 unfoldable pub messages : Ring → ℕ
 unfolding upto
 messages R = upto (R .longest) (R .masters)
 
--- TTR + n·M
+-- TTR and these messages
 unfoldable pub rotation : Ring → ℕ → ℕ
 unfolding messages
 rotation R ttr = ttr + messages R
 
--- h·(TTR + n·M) + C of stream i
+-- h·(TTR + these messages) + C of stream i
 unfoldable pub needed : Ring → ℕ → ℕ → ℕ
 unfolding count rotation
 needed R ttr i = count R (R .stream i .master) * rotation R ttr + R .stream i .cycle
@@ -92,3 +93,13 @@ pub record Declared (R : Ring) : Type 0 where
   pub master-in : (i : ℕ) → On R i → (1 ≤ R .stream i .master) × (R .stream i .master ≤ R .masters)
   pub cycle-in : (i : ℕ) → On R i → (1 ≤ R .stream i .cycle) × (R .stream i .cycle ≤ R .longest (R .stream i .master))
   pub deadline-in : (i : ℕ) → On R i → (1 ≤ R .stream i .deadline) × (R .stream i .deadline ≤ 1000000000)
+
+-- ---- One ring, said twice
+
+-- R' has what R has: n, L, the longest message of each master, and the streams
+pub record SameRings (R R' : Ring) : Type 0 where
+  pub masters : R' .masters ≡ R .masters
+  pub latency : R' .latency ≡ R .latency
+  pub longest : (y : ℕ) → 1 ≤ y → y ≤ R .masters → R' .longest y ≡ R .longest y
+  pub number : R' .number ≡ R .number
+  pub stream : (i : ℕ) → R' .stream i ≡ R .stream i

@@ -14,7 +14,8 @@ use Rattle.capture_ages.specs.declared.Watch.{Watch}
 use Rattle.capture_ages.specs.Clock.{began}
 use Rattle.report_phrases.specs.Phrases.{refusalText}
 use Rattle.report_beside.specs.declared.Begun.the-variants as begun
-use Rattle.report_beside.specs.Steps.{over, begunAs, begunText}
+use Rattle.text.specs.Text.{over}
+use Rattle.report_beside.specs.Steps.{begunAs, begunText}
 
 module _ (urgent : Bool) (old : List ℕ) where
   pub begun-on : (o : Outcome) (m n : ℕ) (w : Watch) → planOf o ≡ plan.Accepted m n → w ≡ began

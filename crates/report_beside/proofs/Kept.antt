@@ -37,7 +37,8 @@ use Rattle.report_beside.specs.declared.Heard.the-variants as told
 use Rattle.report_beside.specs.declared.Reported.{Reported}
 use Rattle.report_beside.specs.declared.Reported.the-variants as reported
 use Rattle.report_beside.specs.Whole.{Tally, none, unheard, seenAfter, waiting, after, textOf, cleanOf, laid, limitOf, figures, tallyOf, watchOf, heardReport, heardClean, laidReport, laidClean, besideReport, besideClean}
-use Rattle.report_beside.specs.Steps.{last, over, begunAs, begunText, heardAs, heardText, heardTally, reportedAs}
+use Rattle.text.specs.Text.{over}
+use Rattle.report_beside.specs.Steps.{last, begunAs, begunText, heardAs, heardText, heardTally, reportedAs}
 use Rattle.report_beside.specs.Kept.{Kept, Refuses, Ends, Begins, Hears, Reports, Holds, Tells}
 use Rattle.report_beside.specs.Kept.Ends.{whole, at-last}
 use Rattle.report_beside.proofs.Pieces.{seen-none, after-none, joined-passes, joined-refused, refused-behind, seen-joined, after-joined}
@@ -230,7 +231,6 @@ module _ {urgent : Bool} {s c masters R T J : List ℕ} {h : Hearing} {k : Tally
 -- ---- What a program holds and writes
 
 front : (t old : List ℕ) {new : List ℕ} {n : ℕ} → n ≡ length t → new ≡ over t old → take n new ≡ t
-unfolding over
 front t old l w = rw (l, w) (take-append-seam t (drop (length t) old))
 
 tells-refused : {urgent : Bool} {s c old new : List ℕ} {n : ℕ} → Refuses urgent s c old new n → Tells urgent s new n false

@@ -15,7 +15,8 @@ use Rattle.report_beside.specs.declared.Hearing.{Hearing}
 use Rattle.report_beside.specs.declared.Heard.{Heard}
 use Rattle.report_beside.specs.declared.Heard.the-variants as told
 use Rattle.report_beside.specs.Whole.{Tally, tally, seenAfter, waiting, after}
-use Rattle.report_beside.specs.Steps.{last, over, heardAs, heardText, heardTally}
+use Rattle.text.specs.Text.{over}
+use Rattle.report_beside.specs.Steps.{last, heardAs, heardText, heardTally}
 use Rattle.report_beside.specs.Kept.{Kept, Hears}
 use Rattle.report_beside.proofs.Kept.{hears}
 

@@ -4,7 +4,7 @@ use mathlib.Core.Path.{_≡_, ap, _∙_}
 use mathlib.Core.List.{List}
 use mathlib.Core.Bool.{Bool}
 use lib.ListN.{length}
-use Rattle.text.specs.Text.{item}
+use Rattle.text.specs.Text.{item, over}
 use Rattle.capture_ages.specs.declared.Watch.{Watch}
 use Rattle.capture_watch.specs.Follow.{overdueRun}
 use Rattle.report_faults.specs.Faults.{clean}
@@ -12,7 +12,7 @@ use Rattle.report_capture.specs.Shown.{captureText}
 use Rattle.report_beside.specs.declared.Hearing.{Hearing}
 use Rattle.report_beside.specs.declared.Reported.{Reported}
 use Rattle.report_beside.specs.Whole.{Tally, tally, none, textOf, cleanOf}
-use Rattle.report_beside.specs.Steps.{over, reportedAs}
+use Rattle.report_beside.specs.Steps.{reportedAs}
 use Rattle.report_beside.specs.Kept.{Kept, Reports}
 use Rattle.report_beside.proofs.Kept.{reports}
 

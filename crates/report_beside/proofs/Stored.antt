@@ -4,16 +4,14 @@ use mathlib.Core.Path.{_≡_}
 use mathlib.Core.List.{List}
 use native.Mathlib.Omega.{arith}
 use lib.ListN.{length, length-append}
-use Rattle.text.specs.Text.{word, Wrote}
+use Rattle.text.specs.Text.{word, Wrote, over}
 use Rattle.text.proofs.Lengths.{decimal-any}
 use Rattle.text.proofs.Writing.{wrote-front}
 use Rattle.report_phrases.specs.Phrases.{refusedText, refusalText}
 use Rattle.report_phrases.proofs.Lengths.{refused-most}
 use Rattle.report_capture.specs.Shown.{mostCapture, captureRefusal}
-use Rattle.report_beside.specs.Steps.{over}
 
 pub stored : {t old new : List ℕ} {n : ℕ} → Wrote old 0 t new n → length t ≤ mostCapture → length old ≡ mostCapture → (n ≡ length t) × (new ≡ over t old)
-unfolding over
 stored w few long = wrote-front w (omega (arith, few, long))
 
 -- a refusal has room

@@ -18,7 +18,8 @@ use Rattle.report_beside.specs.declared.Heard.{Heard}
 use Rattle.report_beside.specs.declared.Heard.the-variants as told
 use Rattle.report_beside.specs.declared.Reported.{Reported}
 use Rattle.report_beside.specs.Whole.{Tally, tally, laid, limitOf, figures, tallyOf, watchOf, besideReport, besideClean}
-use Rattle.report_beside.specs.Steps.{last, over, reportedAs}
+use Rattle.text.specs.Text.{over}
+use Rattle.report_beside.specs.Steps.{last, reportedAs}
 
 -- neither sheet nor capture is refused so far, and the runs hold what they leave
 pub record Kept (urgent : Bool) (s c : List ℕ) (h : Hearing) (masters R T J : List ℕ) (k : Tally) : Type 0 where

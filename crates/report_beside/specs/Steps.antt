@@ -1,15 +1,16 @@
 -- What beginning with a sheet, hearing a piece and reporting answer, and what they leave in lent memory, on any input. Words of contracts
 -- alone: what they come to, from the first byte on, is in Kept. Assumes nothing.
 use Prim.Native.Nat.{ℕ, _+_, _^_}
-use mathlib.Core.List.{List, _++_}
+use mathlib.Core.List.{List}
 use mathlib.Core.Bool.{Bool, true, false, cond}
-use lib.ListN.{length, drop}
+use lib.ListN.{length}
 use Rattle.sheet_read.specs.Whole.{Outcome}
 use Rattle.sheet_read.specs.Whole.Outcome.{Read, Not}
 use Rattle.capture_tally.specs.declared.Taken.{Taken}
 use Rattle.capture_tally.specs.declared.Taken.the-variants as taken
 use Rattle.capture_ages.specs.declared.Watch.{Watch}
 use Rattle.capture_ages.specs.Clock.{began}
+use Rattle.text.specs.Text.{over}
 use Rattle.report_phrases.specs.Phrases.{refusalText}
 use Rattle.report_capture.specs.Shown.{captureRefusal}
 use Rattle.report_beside.specs.declared.Hearing.{Hearing}
@@ -24,10 +25,6 @@ use Rattle.report_beside.specs.Whole.{Tally}
 -- a piece that begins at this byte of a capture or behind it is not heard: its places could not be counted
 abbrev pub last : ℕ
 last = 2 ^ 63
-
--- a text at the start of a run, and behind it what stood there
-unfoldable pub over : List ℕ → List ℕ → List ℕ
-over t old = t ++ drop (length t) old
 
 -- ---- Beginning with a sheet
 

@@ -18,7 +18,8 @@ ghost use Rattle.capture_tally.specs.Pieces.{answerTo};
 ghost use Rattle.report_phrases.specs.Phrases.{refusalText};
 ghost use Rattle.report_capture.specs.Shown.{captureRefusal};
 ghost use Rattle.report_beside.specs.Whole.{tally, none, seenAfter, waiting, after, laid, limitOf, textOf, cleanOf};
-ghost use Rattle.report_beside.specs.Steps.{last, over, begunAs, begunText, heardAs, heardText, heardTally, reportedAs};
+ghost use Rattle.text.specs.Text.{over};
+ghost use Rattle.report_beside.specs.Steps.{last, begunAs, begunText, heardAs, heardText, heardTally, reportedAs};
 ghost use Rattle.report_beside.specs.Kept.{Kept, Begins, Hears, Reports};
 
 // A piece that begins at this byte of a capture or behind it is not heard, 2^63: its places could not be counted.

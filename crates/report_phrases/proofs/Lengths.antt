@@ -57,7 +57,7 @@ whose-most number master few =
 
 place-most : (n p : ℕ) → length (placeText n p) ≤ 34
 unfolding placeText
-place-most n p = split (leb n 7) (leb n 9 || eqb n 21) (eqb n 12) (eqb n 23)
+place-most n p = split (leb n 7 || eqb n 20) (leb n 9 || eqb n 21) (eqb n 12) (eqb n 23)
   where
     split : (a b c d : Bool)
         → length

@@ -1,4 +1,4 @@
--- Page 01, 'Sheets worked by hand', with page 02, 'Ask 5', 'Ask 11' and 'Ask 14': what every report says in the same words, a count with its unit, a master's
+-- Page 01, 'Sheets worked by hand', with page 02, 'Ask 5', 'Ask 8', 'Ask 11' and 'Ask 14': what every report says in the same words, a count with its unit, a master's
 -- name, a refusal. Assumes nothing.
 use Prim.Native.Nat.{ℕ}
 use mathlib.Core.List.{List, []}
@@ -44,7 +44,7 @@ whoseText number master = word "stream " · decimal number · word " " · nameOf
 -- what a refusal's place is: nothing is said of that of 10 and 11
 unfoldable pub placeText : ℕ → ℕ → List ℕ
 placeText n p =
-    cond (leb n 7) (word " at byte " · decimal p)
+    cond (leb n 7 || eqb n 20) (word " at byte " · decimal p)
     (cond (leb n 9 || eqb n 21) (word " at stream " · decimal p)
     (cond (eqb n 12) (word " at variable " · decimal p) (cond (eqb n 23) (word " at line " · decimal p) [])))
 

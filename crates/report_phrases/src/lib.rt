@@ -70,7 +70,7 @@ pub fn put_whose(out: &mut [u8], at: usize, number: u64, master: u8) -> usize
 fn put_place(out: &mut [u8], at: usize, number: u8, place: u64, after: &[u8]) -> usize
     ensures { λ r. ⌜ Wrote (now (out .entry)) at (placeText number place ++ now (after .entry)) (now (out .exit)) r ⌝ }
 {
-    if number <= 7 {
+    if (number <= 7) | (number == 20) {
         return put_counted(out, at, b" at byte ", place, after);
     }
     if (number <= 9) | (number == 21) {

@@ -22,7 +22,7 @@ use Rattle.sheet_read.proofs.Known.{reading-whole, reading-read}
 use Rattle.sheet_read.proofs.Walk.{head-at}
 use Rattle.sheet_record.specs.declared.Record.{Record}
 use Rattle.sheet_record.specs.Kinds.{busOf, sizeOf, decode}
-use Rattle.sheet_record.proofs.Parts.{first-bus}
+use Rattle.sheet_record.proofs.Parts.{pnet-first}
 use Rattle.sheet_ranges.proofs.Ranges.{segment-ranges}
 use Rattle.pnet_rules.specs.Segment.{segmentOf}
 use Rattle.pnet_plan.specs.Planned.{firstLate, planChecks, plannedBy, planned, planOf as segmentPlan}
@@ -144,7 +144,7 @@ no-13-segment s p e = by (reading s) refl e
         checks (not (eqb (busIn H) 1)) (ltb 32 N || (ltb 32 N || ltb 32 N)) (leb (firstLate (segmentOf H)) (length (H .streams))) N (firstLate (segmentOf H))
         (λ q.
         let h = reading-read s H r in
-        let k : H .head .kind ≡ 1 = sym (first-bus (H .head .kind) (h .head-first)) ∙ eqb-true (busIn H) 1 (not-false (eqb (busIn H) 1) q) in
+        let k : H .head .kind ≡ 1 = pnet-first (H .head .kind) (h .head-first) (eqb-true (busIn H) 1 (not-false (eqb (busIn H) 1) q)) in
         let few : N ≤ 32 = segment-ranges _ (H .head) (h .head-ranged) k .masters .most in
         simp (le-ltb 32 N few))
         (refused H (verdict (planChecks H 32 32 32)) f)

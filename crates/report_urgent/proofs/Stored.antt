@@ -6,7 +6,7 @@ use mathlib.Core.Bool.{Bool, true, false}
 use native.Mathlib.Omega.{arith}
 use lib.ListN.{length, take, drop, length-append}
 use lib.Seq.{take-append-seam}
-use Rattle.text.specs.Text.{word, Wrote}
+use Rattle.text.specs.Text.{word, Wrote, over}
 use Rattle.text.proofs.Writing.{wrote-front}
 use Rattle.report_phrases.specs.Phrases.{refusedText, refusalText}
 use Rattle.report_phrases.proofs.Lengths.{refused-most}
@@ -14,10 +14,9 @@ use Rattle.report_urgent_lines.specs.Lines.{mostUrgent}
 use Rattle.report_urgent.specs.declared.Reported.{Reported}
 use Rattle.report_urgent.specs.declared.Reported.the-variants as reported
 use Rattle.report_urgent.specs.Whole.{urgentReport, urgentAccepts}
-use Rattle.report_urgent.specs.Stored.{over, told, Tells}
+use Rattle.report_urgent.specs.Stored.{told, Tells}
 
 pub stored : {t old new : List ℕ} {n : ℕ} → Wrote old 0 t new n → length t ≤ mostUrgent → length old ≡ mostUrgent → (n ≡ length t) × (new ≡ over t old)
-unfolding over
 stored w few long = wrote-front w (omega (arith, few, long))
 
 -- a refusal has room
@@ -38,7 +37,6 @@ refused-stored s old e w = rw (e .1, e .0) (ap reported.Refused (w .0), w .1)
 -- ---- What a program may write
 
 front : (t old : List ℕ) {new : List ℕ} {n : ℕ} → n ≡ length t → new ≡ over t old → take n new ≡ t
-unfolding over
 front t old l w = rw (l, w) (take-append-seam t (drop (length t) old))
 
 module _ (s old new : List ℕ) (r : Reported) (says : (r ≡ told (urgentAccepts s) (length (urgentReport s))) × (new ≡ over (urgentReport s) old)) (n : ℕ) where

@@ -1,16 +1,12 @@
 -- Page 02, 'Ask 11': what the lent run holds behind a report, and the answer; and what a program may write of it. Assumes nothing.
 use Prim.Native.Nat.{ℕ}
 use mathlib.Core.Path.{_≡_}
-use mathlib.Core.List.{List, _++_}
+use mathlib.Core.List.{List}
 use mathlib.Core.Bool.{Bool, cond}
-use lib.ListN.{length, take, drop}
+use lib.ListN.{take}
 use Rattle.report_urgent.specs.declared.Reported.{Reported}
 use Rattle.report_urgent.specs.declared.Reported.the-variants as reported
 use Rattle.report_urgent.specs.Whole.{urgentReport, urgentAccepts}
-
--- a text at the start of a run, and behind it what stood there
-unfoldable pub over : List ℕ → List ℕ → List ℕ
-over t old = t ++ drop (length t) old
 
 -- a report of n bytes, of a sheet that is accepted or refused
 abbrev pub told : Bool → ℕ → Reported

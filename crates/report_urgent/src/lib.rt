@@ -5,7 +5,8 @@ use sheet_read::MOST;
 ghost use mathlib.Core.Path.{_≡_};
 ghost use lib.ListN.{length};
 ghost use Rattle.report_phrases.specs.Phrases.{refusalText};
-ghost use Rattle.report_urgent.specs.Stored.{over, told};
+ghost use Rattle.text.specs.Text.{over};
+ghost use Rattle.report_urgent.specs.Stored.{told};
 ghost use Rattle.report_urgent.specs.Whole.{urgentReport, urgentAccepts};
 
 // How many bytes a report has, of a sheet that is accepted and of one that is refused.

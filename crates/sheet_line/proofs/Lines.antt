@@ -31,14 +31,16 @@ known-but-3 (suc (suc (suc (suc (suc zero))))) = refl
 known-but-3 (suc (suc (suc (suc (suc (suc zero)))))) = refl
 known-but-3 (suc (suc (suc (suc (suc (suc (suc zero))))))) = refl
 known-but-3 (suc (suc (suc (suc (suc (suc (suc (suc zero)))))))) = refl
-known-but-3 (suc (suc (suc (suc (suc (suc (suc (suc (suc n))))))))) = beyond (not (eqb (suc (suc (suc (suc (suc (suc (suc (suc (suc n))))))))) 3))
+known-but-3 (suc (suc (suc (suc (suc (suc (suc (suc (suc zero))))))))) = refl
+known-but-3 (suc (suc (suc (suc (suc (suc (suc (suc (suc (suc zero)))))))))) = refl
+known-but-3 (suc (suc (suc (suc (suc (suc (suc (suc (suc (suc (suc n))))))))))) = beyond (not (eqb (suc (suc (suc (suc (suc (suc (suc (suc (suc (suc (suc n))))))))))) 3))
   where
     beyond : (t : Bool) → (t && false) ≡ false
     beyond true = refl
     beyond false = refl
 
--- so 3 has none, and what is not one of 1 to 8
-pub no-word : (k : ℕ) → (1 ≤ k → k ≤ 8 → k ≡ 3) → hasWord k ≡ false
+-- so 3 has none, and what is not one of 1 to 10
+pub no-word : (k : ℕ) → (1 ≤ k → k ≤ 10 → k ≡ 3) → hasWord k ≡ false
 no-word k other = sym (known-but-3 k) ∙ split (ℕ-discrete k 3)
   where
     split : Dec (k ≡ 3) → (not (eqb k 3) && known k) ≡ false
@@ -47,7 +49,7 @@ no-word k other = sym (known-but-3 k) ∙ split (ℕ-discrete k 3)
 
 -- k is none of the others, in the form in which the last arm of a `match` over them knows it
 abbrev Rest : ℕ → Type 0
-Rest k = ((((((Unit {0} × (k ≡ 1 → ⊥)) × (k ≡ 2 → ⊥)) × (k ≡ 4 → ⊥)) × (k ≡ 5 → ⊥)) × (k ≡ 6 → ⊥)) × (k ≡ 7 → ⊥)) × (k ≡ 8 → ⊥)
+Rest k = ((((((((Unit {0} × (k ≡ 1 → ⊥)) × (k ≡ 2 → ⊥)) × (k ≡ 4 → ⊥)) × (k ≡ 5 → ⊥)) × (k ≡ 6 → ⊥)) × (k ≡ 7 → ⊥)) × (k ≡ 8 → ⊥)) × (k ≡ 9 → ⊥)) × (k ≡ 10 → ⊥)
 
 -- one that is above n and is not the next is above that too
 above-next : {k n : ℕ} → n < k → (k ≡ suc n → ⊥) → suc n < k
@@ -59,13 +61,14 @@ left-out k rest = no-word k (λ lo hi. by (leb k 3) refl lo hi)
     low : 2 < k → leb k 3 ≡ true → k ≡ 3
     low l e = omega (arith, leb-true k 3 e)
 
-    past : 8 < k → k ≤ 8 → ⊥
+    past : 10 < k → k ≤ 10 → ⊥
     past l hi = omega arith
 
-    by : (b : Bool) → leb k 3 ≡ b → 1 ≤ k → k ≤ 8 → k ≡ 3
-    by true e lo hi = low (above-next (above-next lo (rest .0 .0 .0 .0 .0 .0 .1)) (rest .0 .0 .0 .0 .0 .1)) e
+    by : (b : Bool) → leb k 3 ≡ b → 1 ≤ k → k ≤ 10 → k ≡ 3
+    by true e lo hi = low (above-next (above-next lo (rest .0 .0 .0 .0 .0 .0 .0 .0 .1)) (rest .0 .0 .0 .0 .0 .0 .0 .1)) e
     by false e lo hi =
-        absurd (past (above-next (above-next (above-next (above-next (above-next (leb-false k 3 e) (rest .0 .0 .0 .0 .1)) (rest .0 .0 .0 .1)) (rest .0 .0 .1)) (rest .0 .1)) (rest .1)) hi)
+        let six = above-next (above-next (above-next (leb-false k 3 e) (rest .0 .0 .0 .0 .0 .0 .1)) (rest .0 .0 .0 .0 .0 .1)) (rest .0 .0 .0 .0 .1) in
+        absurd (past (above-next (above-next (above-next (above-next six (rest .0 .0 .0 .1)) (rest .0 .0 .1)) (rest .0 .1)) (rest .1)) hi)
 
 -- ---- What a line can say
 
@@ -125,6 +128,14 @@ module _ (r : Record) where
   pub edition-pieces : r .kind ≡ 8 → lineText r ≡ lineBy (word "pnet-edition,") r 0 []
   unfolding lineBy counted texts hasWord wordOf cells fieldsOf lineOf kinds
   edition-pieces e = line-of-kind 8 r e ∙ simp append-assoc
+
+  pub ring-pieces : r .kind ≡ 9 → lineText r ≡ lineBy (word "profibus-ring,") r 1 (word " bp")
+  unfolding lineBy counted texts hasWord wordOf cells fieldsOf lineOf kinds
+  ring-pieces e = line-of-kind 9 r e ∙ simp append-assoc
+
+  pub message-pieces : r .kind ≡ 10 → lineText r ≡ lineBy (word "profibus-message,") r 1 (word " bp")
+  unfolding lineBy counted texts hasWord wordOf cells fieldsOf lineOf kinds
+  message-pieces e = line-of-kind 10 r e ∙ simp append-assoc
 
   pub no-line : hasWord (r .kind) ≡ false → lineText r ≡ []
   unfolding lineText

@@ -8,7 +8,7 @@ ghost use Rattle.sheet_line.specs.Lines.{hasWord, lineText, others, line
 // No record's line is as long.
 pub const LINE: usize = 96;
 
-// The kind has a word: all that are known but 3.
+// The kind has a word: all that are known but 3, which is no longer written.
 pub fn has_word(kind: u8) -> bool
     ensures { λ r. ⌜ r ≡ hasWord kind ⌝ }
 {
@@ -54,6 +54,8 @@ pub fn put_line(out: &mut [u8], at: usize, r: Record) -> usize
         6 => put_cells(out, at, b"worldfip-variable,", r, 1, b" us"),
         7 => put_cells(out, at, b"pnet-jitter-stream,", r, 4, b" bp"),
         8 => put_cells(out, at, b"pnet-edition,", r, 0, b""),
+        9 => put_cells(out, at, b"profibus-ring,", r, 1, b" bp"),
+        10 => put_cells(out, at, b"profibus-message,", r, 1, b" bp"),
         _ => text::put_word(out, at, b""),
     }
 }

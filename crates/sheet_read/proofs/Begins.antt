@@ -26,14 +26,14 @@ use Rattle.sheet_read.specs.Sheets.{Sheet, sheetOf, headOf, given, messa
 use Rattle.sheet_read.specs.Whole.{placeOf, recordsOf, before, judge, reading, told}
 use Rattle.sheet_read.specs.Steps.{Begun, Opened, Settles}
 use Rattle.sheet_read.specs.declared.Reading.the-variants as answer
-use Rattle.sheet_read.specs.declared.Settling.{Settling}
+use Rattle.sheet_read.specs.declared.Settings.{Settings}
 use Rattle.sheet_read.proofs.Walk.{head-at, place-next}
 use Rattle.sheet_read.proofs.Cases.{PassesAt, Upto, passes-then, passes-if, upto-none, upto-more, stops-once, ended-empty}
 use Rattle.sheet_read.proofs.Cases.Stops.{by-record, at-end}
 use Rattle.sheet_read.proofs.Judged.{numbered, lateChecks, ownAt, wrongAt, judge-own}
 use Rattle.sheet_read.proofs.Order.{no-limits, given-none, nth, fits-first, edition-fits, message-fits, setting-only, message-of-ring, head-some, empty-list, how-many, behind-first, adds-setting}
-use Rattle.sheet_read.proofs.Settings.{counted, edition-first}
-use Rattle.sheet_read.proofs.Messages.{of-every, same-for-all, same-past, lacks-nothing, Gives, gives-none, place-again, place-new, places-long, gives-more, lacks-told, counts-each, counts-past}
+use Rattle.sheet_read.proofs.Openings.{counted, edition-first}
+use Rattle.sheet_read.proofs.Gathered.{of-every, same-for-all, same-past, lacks-nothing, Gives, gives-none, place-again, place-new, places-long, gives-more, lacks-told, counts-each, counts-past}
 
 -- ---- A record by itself
 
@@ -265,10 +265,10 @@ module _ {s : List ℕ} {head : Record} {first : ℕ} (b : Begun s head first) (
       }
 
 -- the answer of a function that passes settings
-pub settles-refused : {s : List ℕ} {head : Record} {messages : List ℕ} (r : Settling) → (r .no ≡ 0 → ⊥) → answer.Refused (r .no) (r .at) ≡ told s (reading s) → Settles s head messages r
+pub settles-refused : {s : List ℕ} {head : Record} {messages : List ℕ} (r : Settings) → (r .no ≡ 0 → ⊥) → answer.Refused (r .no) (r .at) ≡ told s (reading s) → Settles s head messages r
 settles-refused r h e = record { refused = λ n. e; opened = λ z. absurd (h z) }
 
-pub settles-opened : {s : List ℕ} {head : Record} {messages : List ℕ} (r : Settling) → r .no ≡ 0 → Opened s head (r .at) messages (r .lacks) → Settles s head messages r
+pub settles-opened : {s : List ℕ} {head : Record} {messages : List ℕ} (r : Settings) → r .no ≡ 0 → Opened s head (r .at) messages (r .lacks) → Settles s head messages r
 settles-opened r z o = record { refused = λ n. absurd (n z); opened = λ e. o }
 
 -- a setting that may stand behind a first record of another kind than 1 and 9 is none

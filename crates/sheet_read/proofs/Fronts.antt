@@ -41,8 +41,9 @@ module _ (s t : List ℕ) (S : Sheet) (at : ℕ) (r q : Record) (k : q .kind ≡
   kind-applies lo hi (later e₂ (here e₃)) = later (ap (λ (x : ℕ). not (known x)) k ∙ e₂) (here (ap (λ (x : ℕ). not (fits S x)) k ∙ e₃))
   kind-applies lo hi (later e₂ (later e₃ (here e₁))) = absurd (omega arith)
   kind-applies lo hi (later e₂ (later e₃ (later e₁ (here e₄)))) = absurd (omega arith)
-  kind-applies lo hi (later e₂ (later e₃ (later e₁ (later e₄ (here e₅))))) = absurd (omega arith)
-  kind-applies lo hi (later e₂ (later e₃ (later e₁ (later e₄ (later e₅ (here e₇)))))) = absurd (omega arith)
+  kind-applies lo hi (later e₂ (later e₃ (later e₁ (later e₄ (here e₂₀))))) = absurd (omega arith)
+  kind-applies lo hi (later e₂ (later e₃ (later e₁ (later e₄ (later e₂₀ (here e₅)))))) = absurd (omega arith)
+  kind-applies lo hi (later e₂ (later e₃ (later e₁ (later e₄ (later e₂₀ (later e₅ (here e₇))))))) = absurd (omega arith)
 
 -- ---- Two sheets
 

@@ -1,39 +1,39 @@
 -- What is known of a sheet that reads without refusal: all that a planner goes by, with nothing about bytes. Assumes nothing.
 use mathlib.Core.Path.{_≡_, refl, sym, ap, _∙_, subst}
-use mathlib.Core.Bool.{Bool, true, false, cond, not, _&&_, _||_}
+use mathlib.Core.Bool.{Bool, true, false, cond, _&&_, _||_}
 use mathlib.Core.List.{List, [], _∷_, _++_}
 use mathlib.Core.Logic.{_⊎_, inl, inr}
 use Prim.Native.Nat.{ℕ, zero, suc, _+_, _*_, _≤_, _<_}
 use native.Mathlib.Nat.{not-suc-le-zero, zero-mul, suc-mul}
 use native.Mathlib.Omega.{arith}
 use native.Mathlib.Decide.{ℕ-discrete}
-use borrow.Author.Tests.{ltb-false, leb-false, le-leb, eqb-true, eqb-false, eq-eqb, ne-eqb}
+use borrow.Author.Tests.{ltb-false, leb-false, le-leb, eqb-true, eqb-false, ne-eqb}
 use lib.ListN.{length, getD, length-append, List·getD-append}
 use lib.Seq.{getD-at}
 use lib.Dec.{ltb, leb, eqb}
-use Rattle.common.specs.Sums.{when}
 use Rattle.common.specs.Checks.{verdict, Verdict}
 use Rattle.common.specs.Checks.Verdict.{Passed, Refused}
 use Rattle.common.proofs.Checks.{Clear, passed-then}
 use Rattle.common.proofs.Checks.Clear.{none, and}
+use Rattle.sheet_record.specs.declared.Given.{Given}
 use Rattle.sheet_record.specs.declared.Met.{Met}
 use Rattle.sheet_record.specs.declared.Record.{Record}
 use Rattle.sheet_record.specs.Kinds.{known, sizeOf, decode, inRange, whole, metAt, metOf, nothing, widths, fieldsOf, lineOf, kinds, busOf, isFirst, isSetting, isStream, isStreamOf}
-use Rattle.sheet_record.proofs.Parts.{setting-is, first-bus}
-use Rattle.sheet_read.specs.Sheets.{Sheet, sheetOf, having, busIn, given, editionOf, countOf, mostInAll, hasMasters, overLimit, metBefore}
+use Rattle.sheet_record.proofs.Parts.{setting-is, first-kinds, pnet-first, setting-kinds}
+use Rattle.sheet_read.specs.Sheets.{Sheet, sheetOf, busIn, given, messageOf, editionOf, countOf, longestOf, mostInAll, hasMasters, lacksOf, lacking, overLimit, metBefore}
 use Rattle.sheet_read.specs.Steps.{editionMet, editionAt}
-use Rattle.sheet_read.specs.Records.{recordsIn}
 use Rattle.sheet_read.specs.Whole.{placeOf, recordsOf, before, firstStream, endChecks, ended, reading}
 use Rattle.sheet_read.specs.Whole.Outcome.{Read, Not}
-use Rattle.sheet_read.proofs.Walk.{before-none, head-at, place-next}
+use Rattle.sheet_read.proofs.Walk.{head-at, place-next}
 use Rattle.sheet_read.proofs.Cases.{PassesAt, Upto, Stops, upto-front, reading-stops}
 use Rattle.sheet_read.proofs.Cases.Stops.{by-record, at-end}
 use Rattle.sheet_read.proofs.Counts.{count-more, count-none}
-use Rattle.sheet_ranges.proofs.Ranges.{edition-ranges}
+use Rattle.sheet_ranges.proofs.Ranges.{segment-ranges, ring-ranges, exchange-ranges, edition-ranges}
 use Rattle.sheet_record.proofs.Records.{met-same, met-other}
-use Rattle.sheet_read.proofs.Settings.{Settled, settled, one-setting}
-use Rattle.sheet_read.proofs.Settings.Settled.{unset, set}
-use Rattle.sheet_read.proofs.Order.{limits-of, stream-only, Placed, fits-then, stream-of, nth, first-passes, head-some, adds-stream, adds-setting, behind-first, how-many, stream-at}
+use Rattle.sheet_read.proofs.Messages.{lacks-none, longest-short, message-in-range}
+use Rattle.sheet_read.proofs.Openings.{Settled, settled, setting-at, setting-there, its-length, one-message, few-settings, none-lacking}
+use Rattle.sheet_read.proofs.Openings.Settled.{unset, set, own}
+use Rattle.sheet_read.proofs.Order.{given-same, message-of-ring, message-of-master, stream-only, empty-list, Placed, fits-then, stream-of, nth, first-passes, head-some, adds-stream, adds-setting, behind-first, how-many, stream-at}
 use Rattle.sheet_read.proofs.Order.Placed.{as-first, as-setting, as-stream}
 
 pub record Known (s : List ℕ) (S : Sheet) : Type 0 where
@@ -74,22 +74,34 @@ pub both-fail : (a b : Bool) → (a || b) ≡ false → (a ≡ false) × (b ≡ 
 both-fail true b e = let z : _≡_ {A = ℕ} 0 1 = cc in absurd (omega arith)
 both-fail false b e = (refl, e)
 
-record Sound (h : Record) (rs : List Record) : Type 0 where
+-- behind the first record h, where a record of master y is given g y
+record Sound (h : Record) (g : ℕ → Given) (rs : List Record) : Type 0 where
   few : length rs ≤ mostInAll (busOf (h .kind))
   kinds : (i : ℕ) → i < length rs → isStreamOf (busOf (h .kind)) (getD rs i nothing .kind) ≡ true
-  ranged : (i : ℕ) → i < length rs → inRange (limits-of h) (getD rs i nothing) ≡ true
+  ranged : (i : ℕ) → i < length rs → inRange (g (getD rs i nothing .a)) (getD rs i nothing) ≡ true
   per-master : (k : ℕ) → (busOf (h .kind) ≡ 5 → ⊥) → countOf k rs ≤ 80
   distinct : busOf (h .kind) ≡ 5 → (i j : ℕ) → i < j → j < length rs → getD rs i nothing .a ≡ getD rs j nothing .a → ⊥
 
-sound-none : (h : Record) → Sound h []
+sound-none : (h : Record) (g : ℕ → Given) → Sound h g []
 unfolding countOf
-sound-none h =
+sound-none h g =
     record {
       few = omega arith;
       kinds = λ i l. absurd (not-suc-le-zero l);
       ranged = λ i l. absurd (not-suc-le-zero l);
       per-master = λ k e. omega arith;
       distinct = λ e i j l k. absurd (not-suc-le-zero k);
+    }
+
+-- what is given may be said in another way
+sound-same : (h : Record) (g g' : ℕ → Given) (rs : List Record) → ((y : ℕ) → g y ≡ g' y) → Sound h g rs → Sound h g' rs
+sound-same h g g' rs same d =
+    record {
+      few = d .few;
+      kinds = d .kinds;
+      ranged = λ i l. rw (← same (getD rs i nothing .a)) (d .ranged i l);
+      per-master = d .per-master;
+      distinct = d .distinct;
     }
 
 -- what holds of some records and of one more
@@ -104,7 +116,7 @@ each-more P rs r all one i l = split (ℕ-discrete i (length rs))
         subst P (sym (List·getD-append rs (r ∷ []) nothing i k)) (all i k)
 
 -- one more stream that passes
-module _ (h : Record) (rs : List Record) (sound : Sound h rs) (r : Record) (its : isStreamOf (busOf (h .kind)) (r .kind) ≡ true)
+module _ (h : Record) (g : ℕ → Given) (rs : List Record) (sound : Sound h g rs) (r : Record) (its : isStreamOf (busOf (h .kind)) (r .kind) ≡ true)
     (in-limits : overLimit rs r ≡ false) (is-new : metBefore rs r ≡ false) where
   of-bus : busOf (r .kind) ≡ busOf (h .kind)
   of-bus = stream-of (busOf (h .kind)) (r .kind) its .1
@@ -154,12 +166,12 @@ module _ (h : Record) (rs : List Record) (sound : Sound h rs) (r : Record) (its 
           let a : getD rs i nothing .a ≡ getD rs j nothing .a = rw (old i (omega arith), old j m) at q in
           sound .distinct e i j l m a
 
-  sound-more : inRange (limits-of h) r ≡ true → Sound h (rs ++ (r ∷ []))
+  sound-more : inRange (g (r .a)) r ≡ true → Sound h g (rs ++ (r ∷ []))
   sound-more is-ranged =
       record {
         few = more-few;
         kinds = each-more (λ x. isStreamOf (busOf (h .kind)) (x .kind) ≡ true) rs r (sound .kinds) its;
-        ranged = each-more (λ x. inRange (limits-of h) x ≡ true) rs r (sound .ranged) is-ranged;
+        ranged = each-more (λ x. inRange (g (x .a)) x ≡ true) rs r (sound .ranged) is-ranged;
         per-master = more-counted;
         distinct = more-distinct;
       }
@@ -167,8 +179,8 @@ module _ (h : Record) (rs : List Record) (sound : Sound h rs) (r : Record) (its 
 -- ---- The streams of a sheet
 
 module _ (s : List ℕ) where
-  sound-upto : (n : ℕ) → Upto s (suc n) → Sound (decode s 0) (before s (suc n) .streams)
-  sound-upto zero u = rw (behind-first s (u .passed 0 (omega arith)) .1) (sound-none (decode s 0))
+  sound-upto : (n : ℕ) → Upto s (suc n) → Sound (decode s 0) (given (before s (suc n))) (before s (suc n) .streams)
+  sound-upto zero u = subst (Sound (decode s 0) (given (before s 1))) (sym (behind-first s (u .passed 0 (omega arith)) .1)) (sound-none (decode s 0) (given (before s 1)))
   sound-upto (suc n) u =
       step (sound-upto n (upto-front s (suc (suc n)) (suc n) (omega arith) u)) (fits-then (before s (suc n)) (nth s (suc n) .kind) (p .is-right))
     where
@@ -178,14 +190,23 @@ module _ (s : List ℕ) where
       earlier : Upto s (suc n)
       earlier = upto-front s (suc (suc n)) (suc n) (omega arith) u
 
-      step : Sound (decode s 0) (before s (suc n) .streams) → Placed (before s (suc n)) (nth s (suc n) .kind) → Sound (decode s 0) (before s (suc (suc n)) .streams)
+      S : Sheet
+      S = before s (suc n)
+
+      S' : Sheet
+      S' = before s (suc (suc n))
+
+      step : Sound (decode s 0) (given S) (S .streams) → Placed S (nth s (suc n) .kind) → Sound (decode s 0) (given S') (S' .streams)
       step ih (as-first e z) = absurd (head-some s n earlier z)
-      step ih (as-setting e z) = rw (adds-setting s (suc n) e .1) ih
+      step ih (as-setting e z) =
+          let none : S' .streams ≡ [] = adds-setting s (suc n) e .1 ∙ empty-list s (S .streams) z in
+          subst (Sound (decode s 0) (given S')) (sym none) (sound-none (decode s 0) (given S'))
       step ih (as-stream e) =
           let its : isStreamOf (busOf (decode s 0 .kind)) (nth s (suc n) .kind) ≡ true = rw (head-at s n) at e in
-          let ranged : inRange (limits-of (decode s 0)) (nth s (suc n)) ≡ true = rw (head-at s n) at (p .is-ranged) in
-          rw (adds-stream s (suc n) (stream-of (busIn (before s (suc n))) (nth s (suc n) .kind) e .0) .1)
-          (sound-more (decode s 0) (before s (suc n) .streams) ih (nth s (suc n)) its (p .in-limits) (p .is-new) ranged)
+          let a = adds-stream s (suc n) (stream-of (busIn S) (nth s (suc n) .kind) e .0) in
+          let more = sound-more (decode s 0) (given S) (S .streams) ih (nth s (suc n)) its (p .in-limits) (p .is-new) (p .is-ranged) in
+          let same : (y : ℕ) → given S y ≡ given S' y = λ y. given-same S S' y (head-at s n ∙ sym (head-at s (suc n))) (sym (a .0)) in
+          subst (Sound (decode s 0) (given S')) (sym (a .1)) (sound-same (decode s 0) (given S) (given S') (S .streams ++ (nth s (suc n) ∷ [])) same more)
 
 -- a whole record of a known kind is met
 pub met-whole : (s : List ℕ) (at : ℕ) → known (getD s at 0) ≡ true → at + sizeOf (getD s at 0) ≤ length s
@@ -222,6 +243,7 @@ module _ (s : List ℕ) (m : ℕ) (u : Upto s (suc m)) where
       where
         split : Settled s m → (1 ≤ editionOf (before s (suc m))) × (editionOf (before s (suc m)) ≤ 2)
         split (unset e first) = rw e (omega arith, omega arith)
+        split (own f) = absurd (omega arith)
         split (set l f k one) =
             let w = edition-ranges _ (nth s 1) (u .passed 1 (omega arith) .is-ranged) k .edition in
             rw one (w .least, w .most)
@@ -242,14 +264,58 @@ module _ (s : List ℕ) (m : ℕ) (u : Upto s (suc m)) where
       where
         split : Settled s m → editionMet (metOf s 2 8) ≡ editionOf (before s (suc m))
         split (unset e first) = rw (e, ← met-other s 2 8 (not-edition (first some))) refl
+        split (own f) = absurd (omega arith)
         split (set l f k one) =
             let e : getD s 2 0 ≡ 8 = sym (ap (λ (x : ℕ). getD s x 0) place-one) ∙ k in
             let q : metOf s 2 8 ≡ record { found = nth s 1; next = placeOf s 2 } = met-same s 2 8 e ∙ (ap (metAt s) (sym place-one) ∙ met-at 1 some) in
             rw (one, q, ne-eqb (placeOf s 2) 2 (λ z. omega (arith, place-next s 1, place-one))) refl
 
-  setting-is-8 : (i : ℕ) → i < length (before s (suc m) .settings) → Settled s m → getD (before s (suc m) .settings) i nothing .kind ≡ 8
-  setting-is-8 i l (unset e first) = absurd (omega (arith, ap length e))
-  setting-is-8 i l (set some f k one) = let z : i ≡ 0 = omega (arith, ap length one) in rw (z, one) k
+  setting-kind-at : (i : ℕ) → i < length (before s (suc m) .settings)
+      → getD (before s (suc m) .settings) i nothing .kind ≡ 8 ⊎ getD (before s (suc m) .settings) i nothing .kind ≡ 10
+  setting-kind-at i l =
+      subst (λ (r : Record). r .kind ≡ 8 ⊎ r .kind ≡ 10) (sym (setting-at s m u i l)) (setting-kinds (nth s (suc i) .kind) (setting-there s m u i l))
+
+  -- behind a stream, each master of a ring of kind 9 has its longest message, once
+  messages-there : 1 ≤ length (before s (suc m) .streams) → decode s 0 .kind ≡ 9 → (y : ℕ) → 1 ≤ y → y ≤ decode s 0 .a → countOf y (before s (suc m) .settings) ≡ 1
+  unfolding lacking
+  messages-there h ring y lo hi =
+      let S = before s (suc m) in
+      let e : lacksOf (decode s 0 .a) (S .settings) ≡ false = rw (head-at s m, ring) at (none-lacking s m u h) in
+      omega (arith, lacks-none (decode s 0 .a) (S .settings) e y lo hi, one-message s ring m u y)
+
+  -- a longest message is 100,000 at most, and on PROFIBUS 1 at least
+  message-there : (y : ℕ) → (messageOf (before s (suc m)) y ≤ 100000) × (busOf (decode s 0 .kind) ≡ 3 → 1 ≤ messageOf (before s (suc m)) y)
+  unfolding placeOf busOf lineOf kinds
+  message-there y = by (first-kinds (decode s 0 .kind) (first-passes s p))
+    where
+      p : PassesAt s 0
+      p = u .passed 0 (omega arith)
+
+      S : Sheet
+      S = before s (suc m)
+
+      first-kind : S .head .kind ≡ decode s 0 .kind
+      first-kind = ap (λ (r : Record). r .kind) (head-at s m)
+
+      -- that of the first record
+      of-first : (decode s 0 .kind ≡ 9 → ⊥) → messageOf S y ≡ decode s 0 .c
+      of-first n = message-of-ring S y (λ e. n (sym first-kind ∙ e)) ∙ ap (λ (r : Record). r .c) (head-at s m)
+
+      by : decode s 0 .kind ≡ 1 ⊎ decode s 0 .kind ≡ 3 ⊎ decode s 0 .kind ≡ 5 ⊎ decode s 0 .kind ≡ 9
+          → (messageOf S y ≤ 100000) × (busOf (decode s 0 .kind) ≡ 3 → 1 ≤ messageOf S y)
+      by (inl e) =
+          let w = segment-ranges _ (decode s 0) (p .is-ranged) e in
+          (omega (arith, of-first (λ q. omega arith), w .one-field .no-c), λ b. absurd (omega (arith, ap busOf e)))
+      by (inr (inl e)) =
+          let w = ring-ranges _ (decode s 0) (p .is-ranged) e .message in
+          (omega (arith, of-first (λ q. omega arith), w .most), λ b. omega (arith, of-first (λ q. omega arith), w .least))
+      by (inr (inr (inl e))) =
+          let w = exchange-ranges _ (decode s 0) (p .is-ranged) e in
+          (omega (arith, of-first (λ q. omega arith), w .one-field .no-c), λ b. absurd (omega (arith, ap busOf e)))
+      by (inr (inr (inr e))) =
+          let w = message-in-range (longestOf y (S .settings)) (longest-short y (S .settings) (its-length s e m u)) in
+          let q = message-of-master S y (first-kind ∙ e) in
+          (omega (arith, q, w .1), λ b. omega (arith, q, w .0))
 
   known-there : 1 ≤ length (before s (suc m) .streams) → Known s (before s (suc m))
   unfolding before recordsOf placeOf decode
@@ -258,7 +324,7 @@ module _ (s : List ℕ) (m : ℕ) (u : Upto s (suc m)) where
       let q = head-at s m in
       let d = sound-upto s m u in
       let p = u .passed 0 (omega arith) in
-      let on-pnet : busIn S ≡ 1 → decode s 0 .kind ≡ 1 = λ e. sym (first-bus (decode s 0 .kind) (first-passes s p)) ∙ (rw q at e) in
+      let on-pnet : busIn S ≡ 1 → decode s 0 .kind ≡ 1 = λ e. pnet-first (decode s 0 .kind) (first-passes s p) (rw q at e) in
       let inside : (i : ℕ) → i < length (S .streams) → firstStream S + i ≤ m = λ i l. omega (arith, how-many s m u) in
       record {
         some = h;
@@ -270,9 +336,12 @@ module _ (s : List ℕ) (m : ℕ) (u : Upto s (suc m)) where
         head-first = rw q (first-passes s p);
         head-ranged = rw q (p .is-ranged);
         kinds = λ i l. rw q (d .kinds i l);
-        ranged = λ i l. rw q (d .ranged i l);
-        few-settings = one-setting s m u;
-        setting-kinds = λ i l. setting-is-8 i l (settled s m u);
+        ranged = d .ranged;
+        few-settings = few-settings s m u;
+        setting-kinds = setting-kind-at;
+        each-message = λ e y lo hi. messages-there h (rw q at e) y lo (rw q at hi);
+        messages = λ e y lo hi. (message-there y .1 (rw q at e), message-there y .0);
+        messages-short = λ y. message-there y .0;
         edition = λ e. edition-there (omega (arith, how-many s m u)) (on-pnet e);
         editions = λ e. edition-ranged (omega (arith, how-many s m u)) (on-pnet e);
         per-master = λ k e. d .per-master k (rw q at e);
@@ -284,8 +353,8 @@ module _ (s : List ℕ) (m : ℕ) (u : Upto s (suc m)) where
   pub streams-few : length (before s (suc m) .streams) ≤ mostInAll (busOf (decode s 0 .kind))
   streams-few = sound-upto s m u .few
 
-  -- where no setting is longer than v, and no stream longer than w, the places are no higher
-  pub place-bound : (v w : ℕ) → ((k : ℕ) → isSetting k ≡ true → sizeOf k ≤ v) → ((k : ℕ) → isStreamOf (busOf (decode s 0 .kind)) k ≡ true → sizeOf k ≤ w)
+  -- where no setting of the sheet is longer than v, and no stream of its bus longer than w, the places are no higher
+  pub place-bound : (v w : ℕ) → ((j : ℕ) → j < m → isSetting (nth s (suc j) .kind) ≡ true → sizeOf (nth s (suc j) .kind) ≤ v) → ((k : ℕ) → isStreamOf (busOf (decode s 0 .kind)) k ≡ true → sizeOf k ≤ w)
       → (j : ℕ) → j ≤ m → placeOf s (suc j) ≤ sizeOf (decode s 0 .kind) + length (before s (suc j) .settings) * v + length (before s (suc j) .streams) * w
   unfolding placeOf decode
   place-bound v w settings short zero l =
@@ -302,7 +371,7 @@ module _ (s : List ℕ) (m : ℕ) (u : Upto s (suc m)) where
       step ih (as-first e z) = absurd (head-some s j (upto-front s (suc m) (suc j) (omega arith) u) z)
       step ih (as-setting e z) =
           let a = adds-setting s (suc j) e in
-          rw (a .0, a .1, length-append (S .settings) (nth s (suc j) ∷ [])) (omega (arith, ih, settings (nth s (suc j) .kind) e, suc-mul (length (S .settings)) v))
+          rw (a .0, a .1, length-append (S .settings) (nth s (suc j) ∷ [])) (omega (arith, ih, settings j (omega arith) e, suc-mul (length (S .settings)) v))
       step ih (as-stream e) =
           let a = adds-stream s (suc j) (stream-of (busIn S) (nth s (suc j) .kind) e .0) in
           let its : isStreamOf (busOf (decode s 0 .kind)) (nth s (suc j) .kind) ≡ true = rw (head-at s j) at e in
@@ -327,7 +396,7 @@ ended-read s i S e = split (verdict (endChecks (length s) (before s i))) refl
     behind (suc m) f = (m, refl)
 
     clear : Clear (endChecks (length s) (before s i)) → (m : ℕ) × (i ≡ suc m) × (1 ≤ length (before s i .streams))
-    clear (and f (and g none)) = let b = behind i f in (b .0, b .1, some (length (before s i .streams)) g)
+    clear (and f (and l (and g none))) = let b = behind i f in (b .0, b .1, some (length (before s i .streams)) g)
 
     split : (v : Verdict) → verdict (endChecks (length s) (before s i)) ≡ v → (m : ℕ) × (i ≡ suc m) × (1 ≤ length (before s i .streams)) × (S ≡ before s i)
     split Passed q =

@@ -3,7 +3,7 @@ use mathlib.Core.Path.{_≡_, refl, sym, ap, _∙_}
 use mathlib.Core.Bool.{Bool, true, false, cond}
 use mathlib.Core.List.{List}
 use mathlib.Core.Logic.{_⊎_, inl, inr}
-use Prim.Native.Nat.{ℕ, zero, suc, _+_, _*_, _≤_, _<_, zero-le}
+use Prim.Native.Nat.{ℕ, zero, suc, _+_, _*_, _≤_, zero-le}
 use native.Mathlib.Omega.{arith}
 use borrow.Author.Tests.{leb-true, leb-false, eqb-true}
 use lib.ListN.{length, getD, take}
@@ -12,15 +12,16 @@ use lib.Seq.{take-all, length-take-le, getD-take}
 use Rattle.common.specs.Sums.{greatest}
 use Rattle.sheet_record.specs.Kinds.{kinds, lineOf, fieldsOf, widths, sizeOf, busOf, isFirst, isSetting, isStreamOf, decode}
 use Rattle.sheet_record.proofs.Tables.{size-at-most}
-use Rattle.sheet_record.proofs.Parts.{first-kinds, first-bus, setting-kind, ring-streams, variables}
+use Rattle.sheet_record.proofs.Parts.{first-kinds, first-bus, setting-kinds, ring-streams, variables}
 use Rattle.sheet_read.specs.Sheets.{Sheet, mostInAll}
 use Rattle.sheet_read.specs.Whole.{placeOf, before, reading, told, Outcome}
 use Rattle.sheet_read.specs.Whole.Outcome.{Read, Not}
 use Rattle.sheet_read.specs.Lengths.{longest-record, longest-sheet, enough}
 use Rattle.sheet_read.proofs.Cases.{Upto, Stops, reading-stops}
 use Rattle.sheet_read.proofs.Cases.Stops.{by-record, at-end}
+use Rattle.sheet_read.proofs.Order.{nth}
 use Rattle.sheet_read.proofs.Fronts.{SameFront, refused-by-record}
-use Rattle.sheet_read.proofs.Settings.{one-setting}
+use Rattle.sheet_read.proofs.Openings.{edition-here, one-setting, few-settings}
 use Rattle.sheet_read.proofs.Known.{place-bound, first-record, streams-few}
 
 -- ---- The constants
@@ -43,32 +44,41 @@ enough-is = refl
 unfoldable longest-of : ℕ → ℕ
 longest-of bus = cond (eqb bus 1) 16 (cond (eqb bus 3) 10 7)
 
-stream-size : (h k : ℕ) → isFirst h ≡ true → isStreamOf (busOf h) k ≡ true → sizeOf k ≤ longest-of h
-unfolding longest-of sizeOf widths fieldsOf lineOf kinds
-stream-size h k f its = split (first-kinds h f)
+stream-size : (h k : ℕ) → isFirst h ≡ true → isStreamOf (busOf h) k ≡ true → sizeOf k ≤ longest-of (busOf h)
+unfolding longest-of busOf sizeOf widths fieldsOf lineOf kinds
+stream-size h k f its = split (first-bus h f)
   where
-    of : (b : ℕ) → h ≡ b → isStreamOf b k ≡ true
-    of b e = rw (first-bus h f, e) at its
+    of : (b : ℕ) → busOf h ≡ b → isStreamOf b k ≡ true
+    of b e = rw e at its
 
-    split : h ≡ 1 ⊎ h ≡ 3 ⊎ h ≡ 5 → sizeOf k ≤ longest-of h
+    split : busOf h ≡ 1 ⊎ busOf h ≡ 3 ⊎ busOf h ≡ 5 → sizeOf k ≤ longest-of (busOf h)
     split (inl e) = rw e (omega (arith, size-at-most k))
     split (inr (inl e)) = rw (e, eqb-true k 4 (sym (ring-streams k) ∙ of 3 e)) (omega arith)
     split (inr (inr e)) = rw (e, eqb-true k 6 (sym (variables k) ∙ of 5 e)) (omega arith)
 
--- a setting has 2 bytes
-setting-size : (k : ℕ) → isSetting k ≡ true → sizeOf k ≤ 2
-unfolding sizeOf widths fieldsOf lineOf kinds
-setting-size k e = rw (setting-kind k e) (omega arith)
+-- and its settings, by the kind of the first record
+unfoldable longest-setting : ℕ → ℕ
+longest-setting h = cond (eqb h 1) 2 6
+
+setting-size : (h k : ℕ) → (h ≡ 1 → k ≡ 8) → isSetting k ≡ true → sizeOf k ≤ longest-setting h
+unfolding longest-setting sizeOf widths fieldsOf lineOf kinds
+setting-size h k edition e = split (eqb h 1) refl (setting-kinds k e)
+  where
+    split : (b : Bool) → eqb h 1 ≡ b → k ≡ 8 ⊎ k ≡ 10 → sizeOf k ≤ cond b 2 6
+    split true q o = rw (edition (eqb-true h 1 q)) (omega arith)
+    split false q (inl o) = rw o (omega arith)
+    split false q (inr o) = rw o (omega arith)
 
 -- behind records that pass, the next one stands within the longest sheet
-bound : (h c m : ℕ) → isFirst h ≡ true → c ≤ 1 → m ≤ mostInAll (busOf h) → sizeOf h + c * 2 + m * longest-of h ≤ longest-sheet
-unfolding longest-of longest-sheet longest-record greatest kinds lineOf sizeOf widths fieldsOf mostInAll
-bound h c m f one l = split (first-kinds h f) (rw (first-bus h f) at l)
+bound : (h c m : ℕ) → isFirst h ≡ true → c ≤ 32 → (h ≡ 1 → c ≤ 1) → m ≤ mostInAll (busOf h) → sizeOf h + c * longest-setting h + m * longest-of (busOf h) ≤ longest-sheet
+unfolding longest-of longest-setting longest-sheet longest-record greatest kinds lineOf busOf sizeOf widths fieldsOf mostInAll
+bound h c m f few one l = split (first-kinds h f)
   where
-    split : h ≡ 1 ⊎ h ≡ 3 ⊎ h ≡ 5 → m ≤ mostInAll h → sizeOf h + c * 2 + m * longest-of h ≤ longest-sheet
-    split (inl e) l' = rw e (let k : m ≤ 800 = rw e at l' in omega arith)
-    split (inr (inl e)) l' = rw e (let k : m ≤ 800 = rw e at l' in omega arith)
-    split (inr (inr e)) l' = rw e (let k : m ≤ 64 = rw e at l' in omega arith)
+    split : h ≡ 1 ⊎ h ≡ 3 ⊎ h ≡ 5 ⊎ h ≡ 9 → sizeOf h + c * longest-setting h + m * longest-of (busOf h) ≤ longest-sheet
+    split (inl e) = let k : m ≤ 800 = rw e at l in rw e (omega (arith, one e))
+    split (inr (inl e)) = let k : m ≤ 800 = rw e at l in rw e (omega arith)
+    split (inr (inr (inl e))) = let k : m ≤ 64 = rw e at l in rw e (omega arith)
+    split (inr (inr (inr e))) = let k : m ≤ 800 = rw e at l in rw e (omega arith)
 
 pub place-at-most : (s : List ℕ) (i : ℕ) → Upto s i → placeOf s i ≤ longest-sheet
 unfolding placeOf
@@ -79,8 +89,10 @@ place-at-most s (suc m) u =
     let S = before s (suc m) in
     omega (
       arith,
-      place-bound s m u 2 (longest-of h) setting-size (λ k e. stream-size h k f e) m (omega arith),
-      bound h (length (S .settings)) (length (S .streams)) f (one-setting s m u) (streams-few s m u),
+      place-bound s m u (longest-setting h) (longest-of (busOf h))
+          (λ j l e. setting-size h (nth s (suc j) .kind) (λ q. edition-here s j (u .passed (suc j) (omega arith) .is-right) q e) e)
+          (λ k e. stream-size h k f e) m (omega arith),
+      bound h (length (S .settings)) (length (S .streams)) f (few-settings s m u) (one-setting s m u) (streams-few s m u),
     )
 
 -- no accepted sheet is longer

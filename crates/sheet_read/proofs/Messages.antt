@@ -1,156 +1,100 @@
--- Page 02, Ask 8: the longest messages that the reader keeps tell the same as the settings that it passed. Assumes nothing.
+-- Page 02, Ask 8: the longest messages of a ring's masters, as a list of records. Assumes nothing.
 use mathlib.Core.Path.{_≡_, refl, sym, ap, _∙_}
-use mathlib.Core.Bool.{Bool, true, false, _&&_, _||_, and-false}
-use mathlib.Core.List.{List, [], _∷_, _++_}
+use mathlib.Core.Bool.{Bool, true, false, _||_}
+use mathlib.Core.List.{List, [], _∷_}
 use Prim.Native.Nat.{ℕ, zero, suc, _+_, _≤_, _<_, max}
 use native.Mathlib.Omega.{arith}
 use native.Mathlib.Decide.{ℕ-discrete}
-use borrow.Author.Tests.{eqb-true, eqb-false, eq-eqb, ne-eqb, ltb-true, ltb-false, lt-ltb, le-ltb}
-use lib.Dec.{eqb, ltb}
-use lib.ListN.{length, getD, set, length-set, replicate, length-replicate, getD-replicate}
-use lib.Seq.{getD-set-same, getD-set-other}
-use Rattle.common.specs.Runs.{tab}
-use Rattle.common.proofs.Runs.{length-tab, getD-tab, tab-same, tab-places, zero-at}
+use borrow.Author.Tests.{eqb-true, eqb-false, eq-eqb, ne-eqb}
+use lib.ListN.{length, getD}
+use lib.Dec.{eqb}
+use Rattle.common.specs.Sums.{when, upto}
+use Rattle.common.proofs.Sums.{upto-same, upto-add, upto-even, upto-most, upto-only}
 use Rattle.sheet_record.specs.declared.Record.{Record}
-use Rattle.sheet_messages.specs.Messages.{messageBy, messageAt, lacksIn}
-use Rattle.sheet_read.specs.Sheets.{Sheet, messageOf, countOf, longestOf, lacksOf, lacking, repeated}
-use Rattle.sheet_read.proofs.Counts.{count-more, longest-more}
-use Rattle.sheet_read.proofs.Order.{message-of-ring, message-of-master}
+use Rattle.sheet_record.specs.Kinds.{nothing}
+use Rattle.sheet_messages.specs.Messages.{messageBy}
+use Rattle.sheet_read.specs.Sheets.{countOf, longestOf, lacksOf}
 
--- ---- What counts for any number
+-- ---- One is missing, or none
 
--- 33 places that tell the longest message of each master tell that of every number, where all numbers past 32 have one
-pub of-every : (f : ℕ → ℕ) (messages : List ℕ) → messages ≡ tab f 33 → ((y : ℕ) → 32 < y → f y ≡ f 0) → (y : ℕ) → messageAt messages y ≡ f y
-unfolding messageAt
-of-every f messages e past y = split (ltb 32 y) refl
+-- none is: each of masters 1..n has one
+pub lacks-none : (n : ℕ) (rs : List Record) → lacksOf n rs ≡ false → (y : ℕ) → 1 ≤ y → y ≤ n → 1 ≤ countOf y rs
+unfolding lacksOf
+lacks-none zero rs e y lo hi = absurd (omega arith)
+lacks-none (suc n) rs e y lo hi = split (lacksOf n rs) refl e (λ q. lacks-none n rs q y lo)
   where
-    at : (k : ℕ) → k ≤ 32 → getD messages k 0 ≡ f k
-    at k l = ap (λ (xs : List ℕ). getD xs k 0) e ∙ getD-tab f 33 k (omega arith)
+    last : eqb (countOf (suc n) rs) 0 ≡ false → (y ≤ n → 1 ≤ countOf y rs) → Dec (y ≡ suc n) → 1 ≤ countOf y rs
+    last f ih (yes z) = let c : countOf y rs ≡ countOf (suc n) rs = ap (λ (x : ℕ). countOf x rs) z in omega (arith, eqb-false (countOf (suc n) rs) 0 f)
+    last f ih (no z) = ih (omega (arith, z))
 
-    split : (b : Bool) → ltb 32 y ≡ b → messageAt messages y ≡ f y
-    split true q = rw q (at 0 (omega arith) ∙ sym (past y (ltb-true 32 y q)))
-    split false q = rw q (at y (ltb-false 32 y q))
+    split : (b : Bool) → lacksOf n rs ≡ b → (b || eqb (countOf (suc n) rs) 0) ≡ false → (lacksOf n rs ≡ false → y ≤ n → 1 ≤ countOf y rs) → 1 ≤ countOf y rs
+    split true q f ih = let z : _≡_ {A = ℕ} 0 1 = cc in absurd (omega arith)
+    split false q f ih = last f (ih q) (ℕ-discrete y (suc n))
 
--- ---- A sheet of another kind than 9
+-- one is: a master of 1..n that has none
+pub lacks-some : (n : ℕ) (rs : List Record) → lacksOf n rs ≡ true → (y : ℕ) × (1 ≤ y) × (y ≤ n) × (countOf y rs ≡ 0)
+unfolding lacksOf
+lacks-some zero rs e = let z : _≡_ {A = ℕ} 0 1 = cc in absurd (omega arith)
+lacks-some (suc n) rs e = split (lacksOf n rs) refl e (lacks-some n rs)
+  where
+    split : (b : Bool) → lacksOf n rs ≡ b → (b || eqb (countOf (suc n) rs) 0) ≡ true → (lacksOf n rs ≡ true → (y : ℕ) × (1 ≤ y) × (y ≤ n) × (countOf y rs ≡ 0))
+        → (y : ℕ) × (1 ≤ y) × (y ≤ suc n) × (countOf y rs ≡ 0)
+    split true q f ih = let w = ih q in (w .0, w .1, omega (arith, w .2), w .3)
+    split false q f ih = (suc n, omega arith, omega arith, eqb-true (countOf (suc n) rs) 0 f)
 
-module _ (S : Sheet) (other : S .head .kind ≡ 9 → ⊥) where
-  pub same-for-all : replicate 33 (S .head .c) ≡ tab (messageOf S) 33
-  same-for-all =
-      tab-places (messageOf S) (replicate 33 (S .head .c)) 33 (length-replicate 33 (S .head .c)) (λ k l. getD-replicate 33 k (S .head .c) 0 l ∙ sym (message-of-ring S k other))
+-- ---- How many there are
 
-  pub same-past : (y : ℕ) → 32 < y → messageOf S y ≡ messageOf S 0
-  same-past y l = message-of-ring S y other ∙ sym (message-of-ring S 0 other)
-
-  pub lacks-nothing : false ≡ lacking S
-  unfolding lacking
-  lacks-nothing = rw (ne-eqb (S .head .kind) 9 other)
-
--- ---- Behind kind 9
-
--- the longest messages among these settings, at place y that of master y and 0 where it has none; one of 0 is none
-pub record Gives (settings : List Record) (messages : List ℕ) : Type 0 where
-  pub places : messages ≡ tab (λ y. longestOf y settings) 33
-  pub some : (y : ℕ) → eqb (longestOf y settings) 0 ≡ eqb (countOf y settings) 0
-  pub outside : (y : ℕ) → (1 ≤ y → y ≤ 32 → ⊥) → longestOf y settings ≡ 0
-
-pub gives-none : Gives [] (replicate 33 0)
-unfolding longestOf countOf
-gives-none =
-    record {
-      places = tab-places (λ y. 0) (replicate 33 0) 33 refl (λ k l. zero-at 33 k);
-      some = λ y. refl;
-      outside = λ y h. refl;
-    }
-
-module _ {settings : List Record} {messages : List ℕ} (g : Gives settings messages) where
-  pub place-of : (y : ℕ) → y ≤ 32 → getD messages y 0 ≡ longestOf y settings
-  place-of y l = ap (λ (xs : List ℕ). getD xs y 0) (g .places) ∙ getD-tab (λ k. longestOf k settings) 33 y (omega arith)
-
-  pub places-long : length messages ≡ 33
-  places-long = ap length (g .places) ∙ length-tab (λ y. longestOf y settings) 33
-
-  -- a place that is not 0 is that of a master which has one
-  pub place-again : (S : Sheet) (r : Record) → S .settings ≡ settings → r .kind ≡ 10 → r .a ≤ 32 → (getD messages (r .a) 0 ≡ 0 → ⊥) → repeated S r ≡ true
-  unfolding repeated
-  place-again S r e k l h =
-      let q : eqb (countOf (r .a) settings) 0 ≡ false = sym (g .some (r .a)) ∙ ne-eqb (longestOf (r .a) settings) 0 (λ z. h (place-of (r .a) l ∙ z)) in
-      let c : 0 < countOf (r .a) settings = positive (countOf (r .a) settings) (eqb-false (countOf (r .a) settings) 0 q) in
-      rw (eq-eqb (r .kind) 10 k, e) (lt-ltb 0 (countOf (r .a) settings) c)
-    where
-      positive : (n : ℕ) → (n ≡ 0 → ⊥) → 0 < n
-      positive zero n = absurd (n refl)
-      positive (suc m) n = omega arith
-
-  pub place-new : (S : Sheet) (r : Record) → S .settings ≡ settings → r .a ≤ 32 → getD messages (r .a) 0 ≡ 0 → repeated S r ≡ false
-  unfolding repeated
-  place-new S r e l z =
-      let q : eqb (countOf (r .a) settings) 0 ≡ true = sym (g .some (r .a)) ∙ eq-eqb (longestOf (r .a) settings) 0 (sym (place-of (r .a) l) ∙ z) in
-      let c : countOf (r .a) settings ≡ 0 = eqb-true (countOf (r .a) settings) 0 q in
-      rw e (rw (le-ltb 0 (countOf (r .a) settings) (omega arith)) (and-false (eqb (r .kind) 10)))
-
-  -- one more, of a master that had none
-  module _ (r : Record) (least : 1 ≤ r .a) (most : r .a ≤ 32) (positive : 1 ≤ r .b) (new : getD messages (r .a) 0 ≡ 0) where
-    own-longest : longestOf (r .a) (settings ++ (r ∷ [])) ≡ r .b
-    own-longest =
-        let w : longestOf (r .a) (settings ++ (r ∷ [])) ≡ max (longestOf (r .a) settings) (r .b) = rw (eq-eqb (r .a) (r .a) refl) at (longest-more (r .a) settings r) in
-        omega (arith, place-of (r .a) most)
-
-    own-count : countOf (r .a) (settings ++ (r ∷ [])) ≡ countOf (r .a) settings + 1
-    own-count = rw (eq-eqb (r .a) (r .a) refl) at (count-more (r .a) settings r)
-
-    other-longest : (y : ℕ) → (r .a ≡ y → ⊥) → longestOf y (settings ++ (r ∷ [])) ≡ longestOf y settings
-    other-longest y n =
-        let w : longestOf y (settings ++ (r ∷ [])) ≡ max (longestOf y settings) 0 = rw (ne-eqb (r .a) y n) at (longest-more y settings r) in
-        omega arith
-
-    other-count : (y : ℕ) → (r .a ≡ y → ⊥) → countOf y (settings ++ (r ∷ [])) ≡ countOf y settings
-    other-count y n =
-        let w : countOf y (settings ++ (r ∷ [])) ≡ countOf y settings + 0 = rw (ne-eqb (r .a) y n) at (count-more y settings r) in
-        omega arith
-
-    pub gives-more : Gives (settings ++ (r ∷ [])) (set messages (r .a) (r .b))
-    gives-more =
-        record {
-          places =
-              tab-places (λ y. longestOf y (settings ++ (r ∷ []))) (set messages (r .a) (r .b)) 33 (length-set messages (r .a) (r .b) ∙ places-long)
-              (λ k l. place k (omega arith) (ℕ-discrete (r .a) k));
-          some = λ y. had y (ℕ-discrete (r .a) y);
-          outside = λ y h. other-longest y (λ e. h (omega arith) (omega arith)) ∙ g .outside y h;
-        }
+-- those of masters 1..n, counted master by master, are all
+count-all : (n : ℕ) (rs : List Record) → ((i : ℕ) → i < length rs → (1 ≤ getD rs i nothing .a) × (getD rs i nothing .a ≤ n)) → upto (λ y. countOf y rs) n ≡ length rs
+unfolding countOf
+count-all n [] h = upto-even 0 n ∙ omega arith
+count-all n (r ∷ rs) h =
+    let a = h 0 (omega arith) in
+    let own : upto (λ y. when (eqb (r .a) y) 1) n ≡ 1 = upto-same (λ y. when (eqb (r .a) y) 1) (λ y. when (eqb y (r .a)) 1) n (λ y lo hi. turned y) ∙ upto-only 1 (r .a) n (a .0) (a .1) in
+    let sum = upto-add (λ y. when (eqb (r .a) y) 1) (λ y. countOf y rs) n in
+    omega (arith, sum, own, count-all n rs (λ i l. h (suc i) (omega arith)))
+  where
+    turned : (y : ℕ) → when (eqb (r .a) y) 1 ≡ when (eqb y (r .a)) 1
+    turned y = split (ℕ-discrete (r .a) y)
       where
-        place : (k : ℕ) → k ≤ 32 → Dec (r .a ≡ k) → getD (set messages (r .a) (r .b)) k 0 ≡ longestOf k (settings ++ (r ∷ []))
-        place k l (yes q) =
-            let b : r .a < length messages = omega (arith, places-long) in
-            ap (λ (y : ℕ). getD (set messages (r .a) (r .b)) y 0) (sym q)
-            ∙ (getD-set-same messages (r .a) (r .b) 0 b ∙ (sym own-longest ∙ ap (λ (y : ℕ). longestOf y (settings ++ (r ∷ []))) q))
-        place k l (no q) = getD-set-other messages (r .a) k (r .b) 0 (λ z. q (sym z)) ∙ (place-of k l ∙ sym (other-longest k q))
+        split : Dec (r .a ≡ y) → when (eqb (r .a) y) 1 ≡ when (eqb y (r .a)) 1
+        split (yes e) = rw (eq-eqb (r .a) y e, eq-eqb y (r .a) (sym e))
+        split (no e) = rw (ne-eqb (r .a) y e, ne-eqb y (r .a) (λ q. e (sym q)))
 
-        had : (y : ℕ) → Dec (r .a ≡ y) → eqb (longestOf y (settings ++ (r ∷ []))) 0 ≡ eqb (countOf y (settings ++ (r ∷ []))) 0
-        had y (yes q) =
-            ap (λ (k : ℕ). eqb (longestOf k (settings ++ (r ∷ []))) 0) (sym q)
-            ∙ (ne-eqb (longestOf (r .a) (settings ++ (r ∷ []))) 0 (λ z. omega (arith, own-longest))
-            ∙ (sym (ne-eqb (countOf (r .a) (settings ++ (r ∷ []))) 0 (λ z. omega (arith, own-count))) ∙ ap (λ (k : ℕ). eqb (countOf k (settings ++ (r ∷ []))) 0) q))
-        had y (no q) = ap (λ (n : ℕ). eqb n 0) (other-longest y q) ∙ (g .some y ∙ ap (λ (n : ℕ). eqb n 0) (sym (other-count y q)))
+-- so there are n at most, where no master has two
+pub few-once : (n : ℕ) (rs : List Record) → ((i : ℕ) → i < length rs → (1 ≤ getD rs i nothing .a) × (getD rs i nothing .a ≤ n)) → ((y : ℕ) → countOf y rs ≤ 1)
+    → length rs ≤ n
+few-once n rs h once = omega (arith, count-all n rs h, upto-most (λ y. countOf y rs) 1 n (λ y lo hi. once y))
 
-  -- ---- At the end of the settings
+-- ---- How long they are
 
-  lacks-same : (n : ℕ) → n ≤ 32 → lacksIn n messages ≡ lacksOf n settings
-  unfolding lacksIn lacksOf
-  lacks-same zero l = refl
-  lacks-same (suc n) l = rw (lacks-same n (omega arith), place-of (suc n) l, g .some (suc n))
+-- each is in its range
+abbrev pub Short : List Record → Type 0
+Short rs = (i : ℕ) → i < length rs → (1 ≤ getD rs i nothing .b) × (getD rs i nothing .b ≤ 100000)
 
-  module _ (S : Sheet) (is : S .settings ≡ settings) (ring : S .head .kind ≡ 9) where
-    pub lacks-told : S .head .a ≤ 32 → lacksIn (S .head .a) messages ≡ lacking S
-    unfolding lacking
-    lacks-told l = lacks-same (S .head .a) l ∙ (rw (eq-eqb (S .head .kind) 9 ring, is) refl)
+pub longest-short : (y : ℕ) (rs : List Record) → Short rs → longestOf y rs ≤ 100000
+unfolding longestOf
+longest-short y [] h = omega arith
+longest-short y (r ∷ rs) h = omega (arith, own (eqb (r .a) y), longest-short y rs (λ i l. h (suc i) (omega arith)))
+  where
+    own : (b : Bool) → when b (r .b) ≤ 100000
+    own true = h 0 (omega arith) .1
+    own false = omega arith
 
-    own-message : (y : ℕ) → messageBy (longestOf y settings) ≡ messageOf S y
-    own-message y = rw (← is) (sym (message-of-master S y ring))
+-- a master that has one
+pub longest-some : (y : ℕ) (rs : List Record) → Short rs → 1 ≤ countOf y rs → 1 ≤ longestOf y rs
+unfolding longestOf countOf
+longest-some y [] h l = absurd (omega arith)
+longest-some y (r ∷ rs) h l = own (eqb (r .a) y) refl (longest-some y rs (λ i m. h (suc i) (omega arith)))
+  where
+    own : (b : Bool) → eqb (r .a) y ≡ b → (1 ≤ countOf y rs → 1 ≤ longestOf y rs) → 1 ≤ max (when b (r .b)) (longestOf y rs)
+    own true e ih = omega (arith, h 0 (omega arith) .0)
+    own false e ih =
+        let k : 1 ≤ 0 + countOf y rs = rw e at l in
+        omega (arith, ih (omega arith))
 
-    pub counts-each : tab (λ y. messageBy (getD messages y 0)) 33 ≡ tab (messageOf S) 33
-    counts-each =
-        tab-same (λ y. messageBy (getD messages y 0)) (messageOf S) 33 (λ y l. ap messageBy (place-of y (omega arith)) ∙ own-message y)
-
-    pub counts-past : (y : ℕ) → 32 < y → messageOf S y ≡ messageOf S 0
-    counts-past y l =
-        sym (own-message y) ∙ (ap messageBy (g .outside y (λ a b. omega arith) ∙ sym (g .outside 0 (λ a b. omega arith))) ∙ own-message 0)
+-- what counts for a master is 1..100,000
+pub message-in-range : (m : ℕ) → m ≤ 100000 → (1 ≤ messageBy m) × (messageBy m ≤ 100000)
+unfolding messageBy
+message-in-range zero l = (omega arith, omega arith)
+message-in-range (suc m) l = (omega arith, l)

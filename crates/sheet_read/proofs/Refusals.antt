@@ -1,39 +1,43 @@
--- Page 01, 'Numbered refusals' 1..7: reading gives a number with a place exactly if the page's table gives it, and accepts a sheet
--- exactly if the table gives none. Assumes nothing.
+-- Page 01, 'Numbered refusals' 1..7, and page 02, Ask 8: reading gives a number with a place exactly if the page's table gives it, and accepts a sheet
+-- exactly if the table gives none; what counts as a master's longest message, and when one is missing. Assumes nothing.
 use mathlib.Core.Path.{_≡_, refl, sym, ap, _∙_}
-use mathlib.Core.Bool.{Bool, true, false, not, _&&_, _||_, or-false}
+use mathlib.Core.Bool.{Bool, true, false, not, _&&_, _||_}
 use mathlib.Core.List.{List}
 use mathlib.Core.Logic.{_⊎_, inl, inr, ⊎-elim, _↔_}
 use Prim.Native.Nat.{ℕ, zero, suc, _+_, _≤_, _<_}
 use native.Mathlib.Omega.{arith}
 use native.Mathlib.Decide.{ℕ-discrete}
-use borrow.Author.Tests.{ltb-true, ltb-false, leb-false, lt-leb, le-leb, le-ltb, eqb-true, eq-eqb, not-true, not-false}
+use borrow.Author.Tests.{ltb-true, ltb-false, leb-false, lt-leb, le-leb, lt-ltb, le-ltb, eqb-true, eq-eqb, not-true, not-false}
 use lib.ListN.{length, getD}
 use lib.Dec.{ltb, leb, eqb}
 use Rattle.common.specs.Checks.Verdict.{Refused}
 use Rattle.common.proofs.Checks.{Applies, refused-if, refused-then}
 use Rattle.common.proofs.Checks.Applies.{here, later}
 use Rattle.sheet_record.specs.declared.Record.{Record}
-use Rattle.sheet_record.specs.Kinds.{kinds, lineOf, busOf, isFirst, isSetting, isStreamOf, nothing, known, sizeOf, decode, inRange}
+use Rattle.sheet_record.specs.Kinds.{kinds, lineOf, busOf, partOf, isFirst, isStream, isStreamOf, nothing, known, sizeOf, decode, inRange}
 use Rattle.sheet_record.proofs.Tables.{both-true, known-within, known-bounds}
 use Rattle.sheet_ranges.proofs.InPage.{in-page-in-range, in-range-exactly}
-use Rattle.sheet_record.proofs.Parts.{first-is, first-kinds, first-bus, pnet-streams, ring-streams, variables}
-use Rattle.sheet_read.specs.Sheets.{Sheet, sheetOf, busIn, given, ofKind, fits, countOf, mostInAll, hasMasters, overLimit, metBefore}
+use Rattle.sheet_record.proofs.Parts.{first-kinds, setting-kinds, pnet-stream-kinds, ring-streams, variables}
+use Rattle.sheet_read.specs.Sheets.{Sheet, sheetOf, given, messageOf, ofKind, fits, countOf, mostInAll, hasMasters, lacking, repeated, overLimit, metBefore}
 use Rattle.sheet_read.specs.Whole.{placeOf, recordsOf, before, firstStream, recordChecks, judge, ended, reading, Outcome}
 use Rattle.sheet_read.specs.Whole.Outcome.{Read, Not}
-use Rattle.sheet_read.specs.Refusals.{recordAt, streamsBefore, KnownKind, RightKind, Complete, Ranged, InLimits, MetBefore, RefusedWith, Taken, Reached, NoStream, Given}
-use Rattle.sheet_read.specs.Refusals.RightKind.{at-first, edition, behind, jittered}
-use Rattle.sheet_read.specs.Refusals.RefusedWith.{unknown, misplaced, cut, out-of-range, one-too-many, met-before}
-use Rattle.sheet_read.specs.Refusals.Given.{empty, at-record, no-stream}
+use Rattle.sheet_read.specs.Refusals.{recordAt, streamsBefore, KnownKind, Begins, Matches, RightKind, Complete, Ranged, HasMessage, Missing, WrongMessages, InLimits, MetBefore, RefusedWith, Taken, Reached, NoStream, Given}
+use Rattle.sheet_read.specs.Refusals.Begins.{pnet-segment, ring, exchange, open-ring}
+use Rattle.sheet_read.specs.Refusals.Matches.{pnet-stream, pnet-jitter-stream, ring-stream, open-ring-stream, variable}
+use Rattle.sheet_read.specs.Refusals.RightKind.{at-first, edition, message, behind}
+use Rattle.sheet_read.specs.Refusals.WrongMessages.{again, missing}
+use Rattle.sheet_read.specs.Refusals.RefusedWith.{unknown, misplaced, cut, out-of-range, wrong-messages, one-too-many, met-before}
+use Rattle.sheet_read.specs.Refusals.Given.{empty, at-record, no-message, no-stream}
 use Rattle.sheet_read.proofs.Walk.{head-at}
-use Rattle.sheet_read.proofs.Cases.{PassesAt, Upto, Stops, upto-none, upto-more, upto-front, reading-stops, stops-once, ended-empty, ended-no-stream, ended-sheet}
+use Rattle.sheet_read.proofs.Cases.{PassesAt, Upto, Stops, neither, none-of-both, upto-none, upto-more, upto-front, reading-stops, stops-once, ended-empty, ended-no-message, ended-no-stream, ended-sheet}
 use Rattle.sheet_read.proofs.Cases.Stops.{by-record, at-end}
 use Rattle.sheet_read.proofs.Counts.{count-none, count-some}
-use Rattle.sheet_read.proofs.Order.{nth, Placed, fits-then, fits-first, stream-fits, first-passes, head-some, how-many, stream-at}
+use Rattle.sheet_read.proofs.Order.{nth, Placed, fits-then, fits-first, stream-fits, first-only, first-passes, head-some, how-many, stream-at}
 use Rattle.sheet_read.proofs.Order.Placed.{as-first, as-setting, as-stream}
-use Rattle.sheet_read.proofs.Settings.{counted, Settled, settled, edition-here, edition-right, edition-first, settings-none, all-streams}
-use Rattle.sheet_read.proofs.Settings.Settled.{unset, set}
+use Rattle.sheet_read.proofs.Openings.{counted, Settled, settled, edition-right, message-right, edition-first, message-first, settings-none, all-streams, all-messages, none-lacking}
+use Rattle.sheet_read.proofs.Openings.Settled.{unset, set, own}
 use Rattle.sheet_read.proofs.Known.{both-fail}
+use Rattle.sheet_read.proofs.Missing.{head-kind, messages-no-stream, has-if, has-then, lacking-then, lacking-if, counts-own, counts-missing}
 
 -- ---- The lines, one by one, as tests
 
@@ -51,25 +55,102 @@ holds : {b : Bool} {P : Type 0} → (b ≡ false → P) → (P → ⊥) → b �
 holds {b = true} h n = refl
 holds {b = false} h n = absurd (n (h refl))
 
--- a kind matches a first one: 2, 4 and 6 behind 1, 3 and 5, and 7 behind 1
-abbrev matches : ℕ → ℕ → Bool
-matches h k = eqb k (h + 1) || (eqb h 1 && eqb k 7)
+-- a sheet begins with a first kind of the table
+begins-then : (k : ℕ) → isFirst k ≡ true → Begins k
+begins-then k e = by (first-kinds k e)
+  where
+    by : k ≡ 1 ⊎ k ≡ 3 ⊎ k ≡ 5 ⊎ k ≡ 9 → Begins k
+    by (inl q) = rw q pnet-segment
+    by (inr (inl q)) = rw q ring
+    by (inr (inr (inl q))) = rw q exchange
+    by (inr (inr (inr q))) = rw q open-ring
+
+begins-if : {k : ℕ} → Begins k → isFirst k ≡ true
+unfolding isFirst partOf lineOf kinds
+begins-if pnet-segment = refl
+begins-if ring = refl
+begins-if exchange = refl
+begins-if open-ring = refl
 
 -- the streams of a bus match its first record
-to-match : (h k : ℕ) → isFirst h ≡ true → isStreamOf (busOf h) k ≡ matches h k
-to-match h k f = ap (λ (b : ℕ). isStreamOf b k) (first-bus h f) ∙ split (first-kinds h f)
+to-match : (h k : ℕ) → isFirst h ≡ true → isStreamOf (busOf h) k ≡ true → Matches h k
+unfolding busOf lineOf kinds
+to-match h k f e = by (first-kinds h f)
   where
-    split : h ≡ 1 ⊎ h ≡ 3 ⊎ h ≡ 5 → isStreamOf h k ≡ matches h k
-    split (inl e) = rw e (pnet-streams k)
-    split (inr (inl e)) = rw e (ring-streams k ∙ sym (or-false (eqb k 4)))
-    split (inr (inr e)) = rw e (variables k ∙ sym (or-false (eqb k 6)))
+    -- of the bus of this first kind
+    on : {b : ℕ} → h ≡ b → isStreamOf (busOf b) k ≡ true
+    on q = rw q at e
+
+    of-pnet : k ≡ 2 ⊎ k ≡ 7 → Matches 1 k
+    of-pnet (inl q) = rw q pnet-stream
+    of-pnet (inr q) = rw q pnet-jitter-stream
+
+    four : isStreamOf 3 k ≡ true → k ≡ 4
+    four q = eqb-true k 4 (sym (ring-streams k) ∙ q)
+
+    six : isStreamOf 5 k ≡ true → k ≡ 6
+    six q = eqb-true k 6 (sym (variables k) ∙ q)
+
+    by : h ≡ 1 ⊎ h ≡ 3 ⊎ h ≡ 5 ⊎ h ≡ 9 → Matches h k
+    by (inl q) = rw q (of-pnet (pnet-stream-kinds k (on q)))
+    by (inr (inl q)) = rw (q, four (on q)) ring-stream
+    by (inr (inr (inl q))) = rw (q, six (on q)) variable
+    by (inr (inr (inr q))) = rw (q, four (on q)) open-ring-stream
+
+matched : {h k : ℕ} → Matches h k → isStreamOf (busOf h) k ≡ true
+unfolding isStreamOf isStream busOf partOf lineOf kinds
+matched pnet-stream = refl
+matched pnet-jitter-stream = refl
+matched ring-stream = refl
+matched open-ring-stream = refl
+matched variable = refl
+
+-- only 6, behind 5, is of WorldFIP
+matched-variable : {h k : ℕ} → Matches h k → busOf k ≡ 5 → (h ≡ 5) × (k ≡ 6)
+unfolding busOf lineOf kinds
+matched-variable pnet-stream b = absurd (omega (arith, b))
+matched-variable pnet-jitter-stream b = absurd (omega (arith, b))
+matched-variable ring-stream b = absurd (omega (arith, b))
+matched-variable open-ring-stream b = absurd (omega (arith, b))
+matched-variable variable b = (refl, refl)
+
+-- 10 is neither a first record nor a stream
+begins-not-10 : {k : ℕ} → Begins k → k ≡ 10 → ⊥
+begins-not-10 pnet-segment e = omega arith
+begins-not-10 ring e = omega arith
+begins-not-10 exchange e = omega arith
+begins-not-10 open-ring e = omega arith
+
+matched-not-10 : {h k : ℕ} → Matches h k → k ≡ 10 → ⊥
+matched-not-10 pnet-stream e = omega arith
+matched-not-10 pnet-jitter-stream e = omega arith
+matched-not-10 ring-stream e = omega arith
+matched-not-10 open-ring-stream e = omega arith
+matched-not-10 variable e = omega arith
+
+-- of streams, only 4 stands behind kind 9
+matched-ring : {h k : ℕ} → Matches h k → h ≡ 9 → k ≡ 4
+matched-ring pnet-stream e = absurd (omega arith)
+matched-ring pnet-jitter-stream e = absurd (omega arith)
+matched-ring ring-stream e = absurd (omega arith)
+matched-ring open-ring-stream e = refl
+matched-ring variable e = absurd (omega arith)
+
+-- the second of two tests holds
+second : (a : Bool) {b : Bool} → b ≡ true → (a || b) ≡ true
+second true e = refl
+second false e = e
+
+-- the test of 20
+abbrev wrongly : List ℕ → ℕ → Bool
+wrongly s i = repeated (before s i) (recordAt s i) || (isStream (recordAt s i .kind) && lacking (before s i))
 
 module _ (s : List ℕ) (i : ℕ) where
   known-then : known (recordAt s i .kind) ≡ true → KnownKind s i
   known-then e = let b = known-bounds (recordAt s i .kind) e in record { least = b .0; most = b .1 }
 
   known-if : KnownKind s i → known (recordAt s i .kind) ≡ true
-  known-if k = sym (known-within (recordAt s i .kind)) ∙ rw (le-leb 1 (recordAt s i .kind) (k .least), le-leb (recordAt s i .kind) 8 (k .most))
+  known-if k = sym (known-within (recordAt s i .kind)) ∙ rw (le-leb 1 (recordAt s i .kind) (k .least), le-leb (recordAt s i .kind) 10 (k .most))
 
   ranged-then : known (recordAt s i .kind) ≡ true → inRange (given (before s i) (recordAt s i .a)) (recordAt s i) ≡ true → Ranged s i
   ranged-then k e = record { fields = in-range-exactly (given (before s i) (recordAt s i .a)) (recordAt s i) k .0 e }
@@ -95,87 +176,79 @@ module _ (s : List ℕ) (i : ℕ) where
       split true h = lt-leb 80 (countOf (recordAt s i .a) (streamsBefore s i)) (l .of-master h)
       split false h = refl
 
--- the buses of five kinds
+-- the buses of three kinds, and that a longest message is no stream and a stream of a ring is one
 six-bus : busOf 6 ≡ 5
 unfolding busOf lineOf kinds
 six-bus = refl
-
-four-bus : busOf 4 ≡ 3
-unfolding busOf lineOf kinds
-four-bus = refl
-
-two-bus : busOf 2 ≡ 1
-unfolding busOf lineOf kinds
-two-bus = refl
-
-seven-bus : busOf 7 ≡ 1
-unfolding busOf lineOf kinds
-seven-bus = refl
 
 eight-bus : busOf 8 ≡ 1
 unfolding busOf lineOf kinds
 eight-bus = refl
 
+ten-bus : busOf 10 ≡ 3
+unfolding busOf lineOf kinds
+ten-bus = refl
+
+ten-stream : isStream 10 ≡ false
+unfolding isStream partOf lineOf kinds
+ten-stream = refl
+
+four-stream : isStream 4 ≡ true
+unfolding isStream partOf lineOf kinds
+four-stream = refl
+
 module _ (s : List ℕ) where
   right-then : (i : ℕ) → Upto s i → fits (before s i) (recordAt s i .kind) ≡ true → RightKind s i
   unfolding before recordsOf
-  right-then zero u e = at-first (first-kinds (recordAt s 0 .kind) (sym (fits-first (recordAt s 0 .kind)) ∙ e))
-  right-then (suc i) u e = by (fits-then (before s (suc i)) k e)
+  right-then zero u e = at-first (begins-then (recordAt s 0 .kind) (sym (fits-first (recordAt s 0 .kind)) ∙ e))
+  right-then (suc i) u e = by (fits-then (before s (suc i)) (recordAt s (suc i) .kind) e)
     where
-      h : ℕ
-      h = recordAt s 0 .kind
-
-      k : ℕ
-      k = recordAt s (suc i) .kind
-
       -- the edition is record 1
-      by-edition : isSetting k ≡ true → Settled s i → RightKind s (suc i)
-      by-edition its (unset none first) =
-          let r = edition-right s i e its in
-          let z : i ≡ 0 = omega (arith, how-many s i u, r .1, ap length none) in
-          let w : RightKind s 1 = edition (ap (λ (x : Record). x .kind) (sym (head-at s i)) ∙ r .0) (rw z at (edition-here s i e its)) in
-          rw z w
-      by-edition its (set l f q one) = absurd (omega (arith, ap (ofKind 8) one, edition-right s i e its .2, counted (nth s 1) q))
+      by-edition : recordAt s (suc i) .kind ≡ 8 → RightKind s (suc i)
+      by-edition q = place (settled s i u)
+        where
+          r : (before s (suc i) .head .kind ≡ 1) × (length (before s (suc i) .streams) ≡ 0) × (ofKind 8 (before s (suc i) .settings) ≡ 0)
+          r = edition-right s i e q
 
-      matched : (b : Bool) → eqb k (h + 1) ≡ b → b || (eqb h 1 && eqb k 7) ≡ true → RightKind s (suc i)
-      matched true q t = behind (eqb-true k (h + 1) q)
-      matched false q t = let w = both-true (eqb h 1) (eqb k 7) t in jittered (eqb-true h 1 (w .0)) (eqb-true k 7 (w .1))
+          place : Settled s i → RightKind s (suc i)
+          place (unset none first) =
+              let z : i ≡ 0 = omega (arith, how-many s i u, r .1, ap length none) in
+              let w : RightKind s 1 = edition (sym (head-kind s i) ∙ r .0) (rw z at q) in
+              rw z w
+          place (set l f k one) = absurd (omega (arith, ap (ofKind 8) one, r .2, counted (nth s 1) k))
+          place (own f) = absurd (omega (arith, r .0, ap (λ (x : Record). x .kind) (head-at s i)))
 
-      by : Placed (before s (suc i)) k → RightKind s (suc i)
+      there : ((j : ℕ) → j < i → recordAt s (suc j) .kind ≡ 10) → recordAt s (suc i) .kind ≡ 10 → (j : ℕ) → j ≤ i → Dec (j ≡ i) → recordAt s (suc j) .kind ≡ 10
+      there h q j l (yes z) = rw z q
+      there h q j l (no z) = h j (omega (arith, z))
+
+      by-setting : recordAt s (suc i) .kind ≡ 8 ⊎ recordAt s (suc i) .kind ≡ 10 → RightKind s (suc i)
+      by-setting (inl q) = by-edition q
+      by-setting (inr q) =
+          let r = message-right s i e q in
+          message (sym (head-kind s i) ∙ r .0) (λ j l. there (all-messages s (sym (ap (λ (x : Record). x .kind) (head-at s i)) ∙ r .0) i u (r .1)) q j l (ℕ-discrete j i))
+
+      by : Placed (before s (suc i)) (recordAt s (suc i) .kind) → RightKind s (suc i)
       by (as-first f z) = absurd (head-some s i u z)
-      by (as-setting its z) = by-edition its (settled s i u)
-      by (as-stream its) = matched (eqb k (h + 1)) refl (sym (to-match h k (first-passes s (u .passed 0 (omega arith)))) ∙ (rw (head-at s i) at its))
-
-  -- a later record that matches the first is a stream of its bus
-  matching : (i : ℕ) → Upto s (suc i) → matches (recordAt s 0 .kind) (recordAt s (suc i) .kind) ≡ true → isStreamOf (busIn (before s (suc i))) (recordAt s (suc i) .kind) ≡ true
-  unfolding placeOf
-  matching i u e =
-      ap (λ (r : Record). isStreamOf (busOf (r .kind)) (recordAt s (suc i) .kind)) (head-at s i)
-      ∙ (to-match (recordAt s 0 .kind) (recordAt s (suc i) .kind) (first-passes s (u .passed 0 (omega arith))) ∙ e)
+      by (as-setting its z) = by-setting (setting-kinds (recordAt s (suc i) .kind) its)
+      by (as-stream its) = behind (to-match (recordAt s 0 .kind) (recordAt s (suc i) .kind) (first-passes s (u .passed 0 (omega arith))) (rw (head-at s i) at its))
 
   right-if : (i : ℕ) → Upto s i → RightKind s i → fits (before s i) (recordAt s i .kind) ≡ true
-  unfolding before recordsOf
-  right-if zero u (at-first e) = fits-first (recordAt s 0 .kind) ∙ (first-is (recordAt s 0 .kind) ∙ one e)
-    where
-      one : recordAt s 0 .kind ≡ 1 ⊎ (recordAt s 0 .kind ≡ 3 ⊎ recordAt s 0 .kind ≡ 5) → (eqb (recordAt s 0 .kind) 1 || (eqb (recordAt s 0 .kind) 3 || eqb (recordAt s 0 .kind) 5)) ≡ true
-      one (inl q) = rw q
-      one (inr (inl q)) = rw q
-      one (inr (inr q)) = rw q
+  unfolding before recordsOf placeOf
+  right-if zero u (at-first e) = fits-first (recordAt s 0 .kind) ∙ begins-if e
   right-if (suc zero) u (edition f e) = ap (fits (before s 1)) e ∙ edition-first s (u .passed 0 (omega arith)) f
-  right-if (suc i) u (behind e) = stream-fits (before s (suc i)) (recordAt s (suc i) .kind) (matching i u (rw (eq-eqb (recordAt s (suc i) .kind) (recordAt s 0 .kind + 1) e)))
-  right-if (suc i) u (jittered f e) = stream-fits (before s (suc i)) (recordAt s (suc i) .kind) (matching i u (rw (f, e)))
+  right-if (suc i) u (message f e) =
+      ap (fits (before s (suc i))) (e i (omega arith)) ∙ message-first s i f (messages-no-stream s i (u .passed 0 (omega arith)) (λ j l. e j (omega arith)))
+  right-if (suc i) u (behind e) =
+      stream-fits (before s (suc i)) (recordAt s (suc i) .kind)
+      (ap (λ (r : Record). isStreamOf (busOf (r .kind)) (recordAt s (suc i) .kind)) (head-at s i) ∙ matched e)
 
   -- on WorldFIP a record that is right for its position is a variable behind a first record of kind 5
   variable-there : (n : ℕ) → Upto s (suc n) → RightKind s (suc n) → busOf (recordAt s (suc n) .kind) ≡ 5 → (recordAt s 0 .kind ≡ 5) × (recordAt s (suc n) .kind ≡ 6)
   unfolding placeOf
   variable-there n u (edition f e) b = absurd (omega (arith, ap busOf e, eight-bus))
-  variable-there n u (behind e) b = split (first-kinds (recordAt s 0 .kind) (first-passes s (u .passed 0 (omega arith))))
-    where
-      split : recordAt s 0 .kind ≡ 1 ⊎ recordAt s 0 .kind ≡ 3 ⊎ recordAt s 0 .kind ≡ 5 → (recordAt s 0 .kind ≡ 5) × (recordAt s (suc n) .kind ≡ 6)
-      split (inl q) = let k : recordAt s (suc n) .kind ≡ 2 = rw q at e in absurd (omega (arith, ap busOf k, two-bus))
-      split (inr (inl q)) = let k : recordAt s (suc n) .kind ≡ 4 = rw q at e in absurd (omega (arith, ap busOf k, four-bus))
-      split (inr (inr q)) = (q, rw q at e)
-  variable-there n u (jittered f e) b = absurd (omega (arith, ap busOf e, seven-bus))
+  variable-there n u (message f e) b = absurd (omega (arith, ap busOf (e n (omega arith)), ten-bus))
+  variable-there n u (behind e) b = matched-variable e b
 
   -- there, stream j of the streams before record n + 1 is record j + 1
   module _ (n : ℕ) (u : Upto s (suc n)) (five : recordAt s 0 .kind ≡ 5) where
@@ -183,12 +256,16 @@ module _ (s : List ℕ) where
     unfolding placeOf
     no-segment e = omega (arith, five)
 
+    no-ring : decode s 0 .kind ≡ 9 → ⊥
+    unfolding placeOf
+    no-ring e = omega (arith, five)
+
     how-many-variables : length (streamsBefore s (suc n)) ≡ n
-    how-many-variables = all-streams s n u no-segment
+    how-many-variables = all-streams s n u no-segment no-ring
 
     earlier-stream : (j : ℕ) → j < n → getD (streamsBefore s (suc n)) j nothing ≡ recordAt s (suc j)
     earlier-stream j l =
-        let z : firstStream (before s (suc n)) + j ≡ suc j = omega (arith, ap length (settings-none s n u no-segment)) in
+        let z : firstStream (before s (suc n)) + j ≡ suc j = omega (arith, ap length (settings-none s n u no-segment no-ring)) in
         stream-at s n u j (rw how-many-variables l) ∙ ap (nth s) z
 
     stands-not : (x : ℕ) → countOf x (streamsBefore s (suc n)) ≡ 0 → (j : ℕ) → 1 ≤ j → j < suc n → recordAt s j .a ≡ x → ⊥
@@ -228,6 +305,48 @@ module _ (s : List ℕ) where
           absurd (stands-not n u (variable-there n u r on-bus .0) (recordAt s (suc n) .a)
           (omega (arith, ltb-false 0 (countOf (recordAt s (suc n) .a) (streamsBefore s (suc n))) q)) (m .j) (m .stream) (m .earlier) (m .same))
 
+  -- ---- 20
+
+  -- a longest message stands behind kind 9, and so does a stream before which one can be missing
+  ring-there : {i : ℕ} → RightKind s i → recordAt s i .kind ≡ 10 → recordAt s 0 .kind ≡ 9
+  ring-there (at-first b) k = absurd (begins-not-10 b k)
+  ring-there (edition f e) k = absurd (omega arith)
+  ring-there (message f e) k = f
+  ring-there (behind m) k = absurd (matched-not-10 m k)
+
+  stream-there : {i : ℕ} → RightKind s i → recordAt s 0 .kind ≡ 9 → isStream (recordAt s i .kind) ≡ true → recordAt s i .kind ≡ 4
+  stream-there (at-first b) nine e = absurd (differ e (first-only (recordAt s 0 .kind) (begins-if b) .1))
+  stream-there (edition f k) nine e = absurd (omega arith)
+  stream-there (message {i} f k) nine e = absurd (differ e (ap isStream (k i (omega arith)) ∙ ten-stream))
+  stream-there (behind m) nine e = matched-ring m nine
+
+  repeated-then : (i : ℕ) → Upto s i → RightKind s i → repeated (before s i) (recordAt s i) ≡ true → (recordAt s i .kind ≡ 10) × HasMessage s i (recordAt s i .a)
+  unfolding repeated
+  repeated-then i u r e =
+      let b = both-true (eqb (recordAt s i .kind) 10) (ltb 0 (countOf (recordAt s i .a) (before s i .settings))) e in
+      let k = eqb-true (recordAt s i .kind) 10 (b .0) in
+      (k, has-then s i (recordAt s i .a) u (ring-there r k) (ltb-true 0 (countOf (recordAt s i .a) (before s i .settings)) (b .1)))
+
+  repeated-if : (i : ℕ) → recordAt s i .kind ≡ 10 → HasMessage s i (recordAt s i .a) → repeated (before s i) (recordAt s i) ≡ true
+  unfolding repeated
+  repeated-if i k h =
+      rw (eq-eqb (recordAt s i .kind) 10 k, lt-ltb 0 (countOf (recordAt s i .a) (before s i .settings)) (has-if s i (recordAt s i .a) h))
+
+  wrong-then : (i : ℕ) → Upto s i → RightKind s i → wrongly s i ≡ true → WrongMessages s i
+  wrong-then i u r e = split (repeated (before s i) (recordAt s i)) refl e
+    where
+      split : (b : Bool) → repeated (before s i) (recordAt s i) ≡ b → b || (isStream (recordAt s i .kind) && lacking (before s i)) ≡ true → WrongMessages s i
+      split true q f = let w = repeated-then i u r q in again (w .0) (w .1)
+      split false q f =
+          let b = both-true (isStream (recordAt s i .kind)) (lacking (before s i)) f in
+          let m = lacking-then s i u (b .1) in
+          missing (stream-there r (m .ring) (b .0)) m
+
+  wrong-if : (i : ℕ) → Upto s i → WrongMessages s i → wrongly s i ≡ true
+  wrong-if i u (again k h) = rw (repeated-if i k h)
+  wrong-if zero u (missing k m) = absurd (omega (arith, m .ring))
+  wrong-if (suc i) u (missing k m) = second (repeated (before s (suc i)) (recordAt s (suc i))) (rw (ap isStream k ∙ four-stream, lacking-if s i u m))
+
   -- ---- A record
 
   complete-inside : (i : ℕ) → Complete s i → placeOf s i < length s
@@ -242,17 +361,21 @@ module _ (s : List ℕ) where
         is-right = right-then i u (p .is-right);
         is-complete = record { ends = p .is-whole };
         is-ranged = ranged-then s i (p .is-known) (p .is-ranged);
+        right-messages = λ w. differ (wrong-if i u w) (none-of-both (repeated (before s i) (recordAt s i)) (isStream (recordAt s i .kind)) (lacking (before s i)) (p .first-of-master) (p .none-missing));
         in-limits = limits-then s i (p .in-limits);
         is-new = λ m. differ (met-if i u (right-then i u (p .is-right)) m) (p .is-new);
       }
 
   taken-if : (i : ℕ) → Upto s i → Taken s i → PassesAt s i
   taken-if i u a =
+      let e = neither (repeated (before s i) (recordAt s i)) (isStream (recordAt s i .kind)) (lacking (before s i)) (fails (wrong-then i u (a .is-right)) (a .right-messages)) in
       record {
         is-known = known-if s i (a .is-known);
         is-right = right-if i u (a .is-right);
         is-whole = a .is-complete .ends;
         is-ranged = ranged-if s i (a .is-ranged);
+        first-of-master = e .0;
+        none-missing = e .1;
         in-limits = limits-if s i (a .in-limits);
         is-new = fails (met-then i u (a .is-right)) (a .is-new);
       }
@@ -272,16 +395,21 @@ module _ (s : List ℕ) where
         out-of-range (known-then s i (not-false _ e₂)) (right-then i u (not-false _ e₃)) (record { ends = ltb-false _ _ e₁ })
             (λ r. differ (ranged-if s i r) (not-true _ e₄)),
       )
-      line (later e₂ (later e₃ (later e₁ (later e₄ (here e₅))))) = (
+      line (later e₂ (later e₃ (later e₁ (later e₄ (here e₂₀))))) =
+          let r = right-then i u (not-false _ e₃) in (
+            refl,
+            wrong-messages (known-then s i (not-false _ e₂)) r (record { ends = ltb-false _ _ e₁ }) (ranged-then s i (not-false _ e₂) (not-false _ e₄)) (wrong-then i u r e₂₀),
+          )
+      line (later e₂ (later e₃ (later e₁ (later e₄ (later e₂₀ (here e₅)))))) = (
         refl,
         one-too-many (known-then s i (not-false _ e₂)) (right-then i u (not-false _ e₃)) (record { ends = ltb-false _ _ e₁ })
-            (ranged-then s i (not-false _ e₂) (not-false _ e₄)) (λ l. differ e₅ (limits-if s i l)),
+            (ranged-then s i (not-false _ e₂) (not-false _ e₄)) (λ w. differ (wrong-if i u w) e₂₀) (λ l. differ e₅ (limits-if s i l)),
       )
-      line (later e₂ (later e₃ (later e₁ (later e₄ (later e₅ (here e₇)))))) =
+      line (later e₂ (later e₃ (later e₁ (later e₄ (later e₂₀ (later e₅ (here e₇))))))) =
           let r = right-then i u (not-false _ e₃) in (
             refl,
             met-before (known-then s i (not-false _ e₂)) r (record { ends = ltb-false _ _ e₁ })
-                (ranged-then s i (not-false _ e₂) (not-false _ e₄)) (limits-then s i e₅) (met-then i u r e₇),
+                (ranged-then s i (not-false _ e₂) (not-false _ e₄)) (λ w. differ (wrong-if i u w) e₂₀) (limits-then s i e₅) (met-then i u r e₇),
           )
 
   applies-for : {i n : ℕ} → Upto s i → RefusedWith s i n → Applies (recordChecks s (before s i) (placeOf s i) (recordAt s i)) n (placeOf s i)
@@ -291,10 +419,14 @@ module _ (s : List ℕ) where
   applies-for {i} u (cut k r c) = later (ap not (known-if s i k)) (later (ap not (right-if i u r)) (here (holds (λ e. record { ends = ltb-false _ _ e }) c)))
   applies-for {i} u (out-of-range k r c f) =
       later (ap not (known-if s i k)) (later (ap not (right-if i u r)) (later (le-ltb _ _ (c .ends)) (here (ap not (fails (ranged-then s i (known-if s i k)) f)))))
-  applies-for {i} u (one-too-many k r c f l) =
-      later (ap not (known-if s i k)) (later (ap not (right-if i u r)) (later (le-ltb _ _ (c .ends)) (later (ap not (ranged-if s i f)) (here (holds (limits-then s i) l)))))
-  applies-for {i} u (met-before k r c f l m) =
-      later (ap not (known-if s i k)) (later (ap not (right-if i u r)) (later (le-ltb _ _ (c .ends)) (later (ap not (ranged-if s i f)) (later (limits-if s i l) (here (met-if i u r m))))))
+  applies-for {i} u (wrong-messages k r c f w) =
+      later (ap not (known-if s i k)) (later (ap not (right-if i u r)) (later (le-ltb _ _ (c .ends)) (later (ap not (ranged-if s i f)) (here (wrong-if i u w)))))
+  applies-for {i} u (one-too-many k r c f w l) =
+      later (ap not (known-if s i k)) (later (ap not (right-if i u r)) (later (le-ltb _ _ (c .ends)) (later (ap not (ranged-if s i f)) (later (fails (wrong-then i u r) w)
+      (here (holds (limits-then s i) l))))))
+  applies-for {i} u (met-before k r c f w l m) =
+      later (ap not (known-if s i k)) (later (ap not (right-if i u r)) (later (le-ltb _ _ (c .ends)) (later (ap not (ranged-if s i f)) (later (fails (wrong-then i u r) w)
+      (later (limits-if s i l) (here (met-if i u r m)))))))
 
   refused-for : {i n : ℕ} → Upto s i → RefusedWith s i n → judge s i ≡ Refused n (placeOf s i)
   unfolding judge
@@ -313,6 +445,36 @@ module _ (s : List ℕ) where
       let t = a i (omega arith) in
       upto-more s i u (complete-inside i (t .is-complete)) (taken-if i u t)
 
+  -- ---- Longest messages
+
+  -- behind records that are taken
+  module _ (i : ℕ) (all : (j : ℕ) → j < i → Taken s j) where
+    -- one that was given, by record j, is what counts for its master
+    pub given-counts : {y : ℕ} (h : HasMessage s i y) → messageOf (before s i) y ≡ recordAt s (h .j) .b
+    given-counts {y} h = counts-own s i y (upto-if i all) (ring-there (all (h .j) (h .earlier) .is-right) (h .message)) h
+
+    -- record i gives one again exactly if the reader finds it so
+    pub again-exactly : RightKind s i → (repeated (before s i) (recordAt s i) ≡ true) ↔ ((recordAt s i .kind ≡ 10) × HasMessage s i (recordAt s i .a))
+    again-exactly r = (repeated-then i (upto-if i all) r, λ w. repeated-if i (w .0) (w .1))
+
+  -- the first record among them
+  module _ (i : ℕ) (all : (j : ℕ) → j < suc i → Taken s j) where
+    -- one that is missing counts as 100,000
+    pub missing-counts : {y : ℕ} → recordAt s 0 .kind ≡ 9 → (HasMessage s (suc i) y → ⊥) → messageOf (before s (suc i)) y ≡ 100000
+    missing-counts {y} nine n = counts-missing s i y (upto-if (suc i) all) nine n
+
+    -- one is missing exactly if the reader finds it so
+    pub missing-exactly : (lacking (before s (suc i)) ≡ true) ↔ Missing s (suc i)
+    missing-exactly = (lacking-then s (suc i) (upto-if (suc i) all), lacking-if s i (upto-if (suc i) all))
+
+    -- and then no stream came yet: 20 for a missing one stands at the first stream, or at the end
+    pub missing-before-streams : Missing s (suc i) → length (streamsBefore s (suc i)) ≡ 0
+    missing-before-streams m = split (ℕ-discrete (length (streamsBefore s (suc i))) 0)
+      where
+        split : Dec (length (streamsBefore s (suc i)) ≡ 0) → length (streamsBefore s (suc i)) ≡ 0
+        split (yes z) = z
+        split (no some) = absurd (differ (missing-exactly .1 m) (none-lacking s i (upto-if (suc i) all) (omega (arith, some))))
+
   -- a record that the table refuses is one that reading comes to, and refuses so
   pub refused-at : {i n p : ℕ} → Reached s i p → RefusedWith s i n → Upto s i × (judge s i ≡ Refused n p)
   refused-at {i} h r = let u = upto-if i (h .before) in (u, rw (h .starts) (refused-for u r))
@@ -324,16 +486,25 @@ module _ (s : List ℕ) where
       let en : 1 ≡ n = cc in
       let ep : 0 ≡ p = cc in
       rw (← en, ← ep) (empty (sym l))
-  at-its-end (suc i) n p u l e = split (ℕ-discrete (length (streamsBefore s (suc i))) 0)
+  at-its-end (suc i) n p u l e = by (lacking (before s (suc i))) refl (ℕ-discrete (length (streamsBefore s (suc i))) 0)
     where
-      split : Dec (length (streamsBefore s (suc i)) ≡ 0) → Given s n p
-      split (yes z) =
-          let f : Not 6 (length s) ≡ Not n p = sym (ended-no-stream s (suc i) (head-some s i u) z) ∙ e in
+      end : length (streamsBefore s (suc i)) ≡ 0 → NoStream s (suc i)
+      end z = record { first = omega arith; taken = upto-then (suc i) u; ends = l; none = z }
+
+      by : (b : Bool) → lacking (before s (suc i)) ≡ b → Dec (length (streamsBefore s (suc i)) ≡ 0) → Given s n p
+      by true q d =
+          let f : Not 20 (length s) ≡ Not n p = sym (ended-no-message s (suc i) (head-some s i u) q) ∙ e in
+          let en : 20 ≡ n = cc in
+          let ep : length s ≡ p = cc in
+          let m = lacking-then s (suc i) u q in
+          rw (← en, ← ep) (no-message (end (missing-before-streams i (upto-then (suc i) u) m)) m)
+      by false q (yes z) =
+          let f : Not 6 (length s) ≡ Not n p = sym (ended-no-stream s (suc i) (head-some s i u) q z) ∙ e in
           let en : 6 ≡ n = cc in
           let ep : length s ≡ p = cc in
-          rw (← en, ← ep) (no-stream (record { i = suc i; first = omega arith; taken = upto-then (suc i) u; ends = l; none = z }))
-      split (no some) =
-          let f : Read (before s (suc i)) ≡ Not n p = sym (ended-sheet s (suc i) (head-some s i u) some) ∙ e in
+          rw (← en, ← ep) (no-stream (end z) (λ m. differ (lacking-if s i u m) q))
+      by false q (no some) =
+          let f : Read (before s (suc i)) ≡ Not n p = sym (ended-sheet s (suc i) (head-some s i u) q some) ∙ e in
           let z : _≡_ {A = ℕ} 0 1 = cc in
           absurd (omega arith)
 
@@ -358,11 +529,20 @@ module _ (s : List ℕ) where
   given-if (at-record {i} {n} {p} h r) =
       let a = refused-at h r in
       stops-once s (by-record i n p (a .0) (rw (← h .starts) (h .inside)) (a .1) refl)
-  given-if (no-stream o) = last (o .i) (o .first) (upto-if (o .i) (o .taken)) (o .ends) (o .none)
+  given-if (no-message {i} o m) = last i o m
     where
-      last : (i : ℕ) → 1 ≤ i → Upto s i → placeOf s i ≡ length s → length (streamsBefore s i) ≡ 0 → reading s ≡ Not 6 (length s)
-      last zero lo u l z = absurd (omega arith)
-      last (suc i) lo u l z = stops-once s (at-end (suc i) u l refl) ∙ ended-no-stream s (suc i) (head-some s i u) z
+      last : (i : ℕ) → NoStream s i → Missing s i → reading s ≡ Not 20 (length s)
+      last zero o m = absurd (omega (arith, o .first))
+      last (suc i) o m =
+          let u = upto-if (suc i) (o .taken) in
+          stops-once s (at-end (suc i) u (o .ends) refl) ∙ ended-no-message s (suc i) (head-some s i u) (lacking-if s i u m)
+  given-if (no-stream {i} o m) = last i o m
+    where
+      last : (i : ℕ) → NoStream s i → (Missing s i → ⊥) → reading s ≡ Not 6 (length s)
+      last zero o m = absurd (omega (arith, o .first))
+      last (suc i) o m =
+          let u = upto-if (suc i) (o .taken) in
+          stops-once s (at-end (suc i) u (o .ends) refl) ∙ ended-no-stream s (suc i) (head-some s i u) (fails (lacking-then s (suc i) u) m) (o .none)
 
   -- ---- Both ways
 
@@ -393,7 +573,7 @@ module _ (s : List ℕ) where
       line (empty e) = inl (e, refl)
       line (at-record {i} h (cut k r c)) = inr (i, h, k, r, c)
 
-  -- 2: a record that reading comes to is of no kind 1..8
+  -- 2: a record that reading comes to is of no kind 1..10
   pub refused-2 : (p : ℕ) → (reading s ≡ Not 2 p) ↔ ((i : ℕ) × Reached s i p × (KnownKind s i → ⊥))
   refused-2 p = (λ e. line (given-then 2 p e), λ w. given-if (at-record (w .1) (unknown (w .2))))
     where
@@ -414,38 +594,58 @@ module _ (s : List ℕ) where
       line : {q : ℕ} → Given s 4 q → (i : ℕ) × Reached s i q × KnownKind s i × RightKind s i × Complete s i × (Ranged s i → ⊥)
       line (at-record {i} h (out-of-range k r c f)) = (i, h, k, r, c, f)
 
-  -- 5: a record that reading comes to has nothing wrong by itself, and is one stream more than a limit allows
-  pub refused-5 : (p : ℕ) → (reading s ≡ Not 5 p) ↔ ((i : ℕ) × Reached s i p × KnownKind s i × RightKind s i × Complete s i × Ranged s i × (InLimits s i → ⊥))
-  refused-5 p = (λ e. line (given-then 5 p e), λ w. given-if (at-record (w .1) (one-too-many (w .2) (w .3) (w .4) (w .5) (w .6))))
+  -- 20: a record that reading comes to has nothing wrong by itself, and gives a longest message again, or is a stream and one is missing; or one is missing at
+  -- the end of a sheet without streams
+  pub refused-20 : (p : ℕ)
+      → (reading s ≡ Not 20 p)
+      ↔ (((i : ℕ) × Reached s i p × KnownKind s i × RightKind s i × Complete s i × Ranged s i × WrongMessages s i) ⊎ ((i : ℕ) × NoStream s i × Missing s i × (p ≡ length s)))
+  refused-20 p = (
+    λ e. line (given-then 20 p e),
+    ⊎-elim (λ w. given-if (at-record (w .1) (wrong-messages (w .2) (w .3) (w .4) (w .5) (w .6)))) (λ w. given-if (rw (w .3) (no-message (w .1) (w .2)))),
+  )
     where
-      line : {q : ℕ} → Given s 5 q → (i : ℕ) × Reached s i q × KnownKind s i × RightKind s i × Complete s i × Ranged s i × (InLimits s i → ⊥)
-      line (at-record {i} h (one-too-many k r c f l)) = (i, h, k, r, c, f, l)
+      line : {q : ℕ} → Given s 20 q
+          → ((i : ℕ) × Reached s i q × KnownKind s i × RightKind s i × Complete s i × Ranged s i × WrongMessages s i) ⊎ ((i : ℕ) × NoStream s i × Missing s i × (q ≡ length s))
+      line (at-record {i} h (wrong-messages k r c f w)) = inl (i, h, k, r, c, f, w)
+      line (no-message {i} o m) = inr (i, o, m, refl)
 
-  -- 6: all records are taken, the first among them, none of them is a stream, and the sheet ends behind them
-  pub refused-6 : (p : ℕ) → (reading s ≡ Not 6 p) ↔ (NoStream s × (p ≡ length s))
-  refused-6 p = (λ e. line (given-then 6 p e), λ w. given-if (rw (w .1) (no-stream (w .0))))
+  -- 5: a record that reading comes to has nothing wrong by itself, no longest message is wrong there, and it is one stream more than a limit allows
+  pub refused-5 : (p : ℕ)
+      → (reading s ≡ Not 5 p) ↔ ((i : ℕ) × Reached s i p × KnownKind s i × RightKind s i × Complete s i × Ranged s i × (WrongMessages s i → ⊥) × (InLimits s i → ⊥))
+  refused-5 p = (λ e. line (given-then 5 p e), λ w. given-if (at-record (w .1) (one-too-many (w .2) (w .3) (w .4) (w .5) (w .6) (w .7))))
     where
-      line : {q : ℕ} → Given s 6 q → NoStream s × (q ≡ length s)
-      line (no-stream o) = (o, refl)
+      line : {q : ℕ} → Given s 5 q → (i : ℕ) × Reached s i q × KnownKind s i × RightKind s i × Complete s i × Ranged s i × (WrongMessages s i → ⊥) × (InLimits s i → ⊥)
+      line (at-record {i} h (one-too-many k r c f m l)) = (i, h, k, r, c, f, m, l)
 
-  -- 7: a variable that reading comes to has nothing wrong by itself, is within the limits, and an earlier one has its identifier
+  -- 6: all records are taken, the first among them, none of them is a stream, the sheet ends behind them, and no longest message is missing
+  pub refused-6 : (p : ℕ) → (reading s ≡ Not 6 p) ↔ ((i : ℕ) × NoStream s i × (Missing s i → ⊥) × (p ≡ length s))
+  refused-6 p = (λ e. line (given-then 6 p e), λ w. given-if (rw (w .3) (no-stream (w .1) (w .2))))
+    where
+      line : {q : ℕ} → Given s 6 q → (i : ℕ) × NoStream s i × (Missing s i → ⊥) × (q ≡ length s)
+      line (no-stream {i} o m) = (i, o, m, refl)
+
+  -- 7: a variable that reading comes to has nothing wrong by itself, is within the limits, and an earlier one has its identifier; it is no longest message
   pub refused-7 : (p : ℕ)
-      → (reading s ≡ Not 7 p) ↔ ((i : ℕ) × Reached s i p × KnownKind s i × RightKind s i × Complete s i × Ranged s i × InLimits s i × MetBefore s i)
-  refused-7 p = (λ e. line (given-then 7 p e), λ w. given-if (at-record (w .1) (met-before (w .2) (w .3) (w .4) (w .5) (w .6) (w .7))))
+      → (reading s ≡ Not 7 p)
+      ↔ ((i : ℕ) × Reached s i p × KnownKind s i × RightKind s i × Complete s i × Ranged s i × (WrongMessages s i → ⊥) × InLimits s i × MetBefore s i)
+  refused-7 p = (λ e. line (given-then 7 p e), λ w. given-if (at-record (w .1) (met-before (w .2) (w .3) (w .4) (w .5) (w .6) (w .7) (w .8))))
     where
-      line : {q : ℕ} → Given s 7 q → (i : ℕ) × Reached s i q × KnownKind s i × RightKind s i × Complete s i × Ranged s i × InLimits s i × MetBefore s i
-      line (at-record {i} h (met-before k r c f l m)) = (i, h, k, r, c, f, l, m)
+      line : {q : ℕ} → Given s 7 q
+          → (i : ℕ) × Reached s i q × KnownKind s i × RightKind s i × Complete s i × Ranged s i × (WrongMessages s i → ⊥) × InLimits s i × MetBefore s i
+      line (at-record {i} h (met-before k r c f w l m)) = (i, h, k, r, c, f, w, l, m)
 
   -- reading gives no other number, and no place past the end
-  pub numbers-given : {n p : ℕ} → Given s n p → (1 ≤ n) × (n ≤ 7) × (p ≤ length s)
-  numbers-given (empty e) = (omega arith, omega arith, omega arith)
-  numbers-given (no-stream o) = (omega arith, omega arith, omega arith)
-  numbers-given (at-record h (unknown k)) = (omega arith, omega arith, omega (arith, h .inside))
-  numbers-given (at-record h (misplaced k r)) = (omega arith, omega arith, omega (arith, h .inside))
-  numbers-given (at-record h (cut k r c)) = (omega arith, omega arith, omega (arith, h .inside))
-  numbers-given (at-record h (out-of-range k r c f)) = (omega arith, omega arith, omega (arith, h .inside))
-  numbers-given (at-record h (one-too-many k r c f l)) = (omega arith, omega arith, omega (arith, h .inside))
-  numbers-given (at-record h (met-before k r c f l m)) = (omega arith, omega arith, omega (arith, h .inside))
+  pub numbers-given : {n p : ℕ} → Given s n p → (1 ≤ n) × (n ≤ 7 ⊎ n ≡ 20) × (p ≤ length s)
+  numbers-given (empty e) = (omega arith, inl (omega arith), omega arith)
+  numbers-given (no-message o m) = (omega arith, inr refl, omega arith)
+  numbers-given (no-stream o m) = (omega arith, inl (omega arith), omega arith)
+  numbers-given (at-record h (unknown k)) = (omega arith, inl (omega arith), omega (arith, h .inside))
+  numbers-given (at-record h (misplaced k r)) = (omega arith, inl (omega arith), omega (arith, h .inside))
+  numbers-given (at-record h (cut k r c)) = (omega arith, inl (omega arith), omega (arith, h .inside))
+  numbers-given (at-record h (out-of-range k r c f)) = (omega arith, inl (omega arith), omega (arith, h .inside))
+  numbers-given (at-record h (wrong-messages k r c f w)) = (omega arith, inr refl, omega (arith, h .inside))
+  numbers-given (at-record h (one-too-many k r c f w l)) = (omega arith, inl (omega arith), omega (arith, h .inside))
+  numbers-given (at-record h (met-before k r c f w l m)) = (omega arith, inl (omega arith), omega (arith, h .inside))
 
   -- the table leaves no choice: two numbers that it gives are one, at one place
   pub given-once : {n p m q : ℕ} → Given s n p → Given s m q → (n ≡ m) × (p ≡ q)

@@ -13,7 +13,7 @@ use Rattle.common.specs.Checks.Verdict.{Passed, Refused}
 use Rattle.sheet_record.specs.declared.Record.{Record}
 use Rattle.sheet_write.specs.declared.Put.the-variants as put
 use Rattle.sheet_record.specs.Numbers.{pasted}
-use Rattle.sheet_record.specs.Kinds.{written, sizeOf, encode, inRange, nothing}
+use Rattle.sheet_record.specs.Kinds.{kinds, lineOf, written, sizeOf, encode, inRange, nothing}
 use Rattle.sheet_write.specs.Writing.{greatest, writeChecks, putBy, pastedBy, putAnswer, putBytes}
 use Rattle.sheet_record.proofs.Numbers.{paste-next}
 use Rattle.sheet_write.proofs.Trips.{length-encode}
@@ -71,9 +71,20 @@ write-all (r ∷ rs) ok b at room =
 
 -- ---- The round trips
 
--- a right sheet is written without a refusal from any place of any buffer that has room for it from there
-pub right-writes : (rs : List Record) → Right rs → (b : List ℕ) (at : ℕ) → at + length (bytesOf rs) ≤ length b → (b' : List ℕ) × (end : ℕ) × Writes b at rs b' end
-right-writes rs right b at room = write-all rs (writable rs right) b at (omega arith)
+-- a right sheet that does not begin with a ring of kind 3 is written without a refusal from any place of any buffer that has room for it from there
+pub right-writes : (rs : List Record) → Right rs → (getD rs 0 nothing .kind ≡ 3 → ⊥) → (b : List ℕ) (at : ℕ) → at + length (bytesOf rs) ≤ length b → (b' : List ℕ) × (end : ℕ) × Writes b at rs b' end
+right-writes rs right n b at room = write-all rs (writable rs right n) b at (omega arith)
+
+-- a sheet that does is not: the ring is refused with 2, at whatever place
+pub old-ring-refused : (n at : ℕ) (r : Record) → r .kind ≡ 3 → putAnswer n at r ≡ put.Refused 2 at
+unfolding putAnswer writeChecks verdict written lineOf kinds
+old-ring-refused n at r e = rw e
+
+pub old-ring-unwritten : {b b' : List ℕ} {at end : ℕ} {r : Record} {rs : List Record} → r .kind ≡ 3 → Writes b at (r ∷ rs) b' end → ⊥
+old-ring-unwritten {b} {at = at} {r = r} k (next {e = e} q w) =
+    let f : put.Refused 2 at ≡ put.Next e = sym (old-ring-refused (length b) at r k) ∙ q in
+    let z : _≡_ {A = ℕ} 0 1 = cc in
+    omega arith
 
 -- records that are written begin within the buffer
 begins-within : {b b' : List ℕ} {at end : ℕ} {rs : List Record} → Writes b at rs b' end → 1 ≤ length rs → at ≤ length b
@@ -95,22 +106,23 @@ part-bytes {b} {b'} {at} {end} {rs} within w =
 pub writes-read : {b b' : List ℕ} {at end : ℕ} {rs : List Record} → Right rs → Writes b at rs b' end → reading (slice at end b') ≡ Read (sheetOf rs)
 writes-read {rs = rs} right w = ap reading (part-bytes (begins-within w (right-some rs right)) w) ∙ written-reads rs right
 
--- and the records of an accepted sheet, written from any place of any buffer that has room for it from there, give its bytes again, and no other byte
+-- and the records of an accepted sheet, where it does not begin with a ring of kind 3, written from any place of any buffer that has room for it from there, give its bytes again, and no other byte
 -- of the buffer changes
-pub read-writes : (s : List ℕ) (S : Sheet) → ((i : ℕ) → getD s i 0 < 256) → reading s ≡ Read S → (b : List ℕ) (at : ℕ) → at + length s ≤ length b
+pub read-writes : (s : List ℕ) (S : Sheet) → ((i : ℕ) → getD s i 0 < 256) → reading s ≡ Read S → (S .head .kind ≡ 3 → ⊥) → (b : List ℕ) (at : ℕ) → at + length s ≤ length b
     → Writes b at (recordsIn S) (pasted b at s) (at + length s)
-read-writes s S bytes e b at room =
+unfolding recordsIn
+read-writes s S bytes e no-old b at room =
     let q = read-written s S bytes e in
-    let t = right-writes (recordsIn S) (read-right s S e) b at (rw q room) in
+    let t = right-writes (recordsIn S) (read-right s S e) no-old b at (rw q room) in
     let h = writes-leave (t .2) in
     let n : t .1 ≡ at + length s = h .ends ∙ ap (λ (x : List ℕ). at + length x) q in
     let w : t .0 ≡ pasted b at s = h .holds ∙ ap (pasted b at) q in
     subst (λ (x : List ℕ). Writes b at (recordsIn S) x (at + length s)) w (subst (Writes b at (recordsIn S) (t .0)) n (t .2))
 
 -- a buffer of its length then holds those bytes alone
-pub read-writes-alone : (s : List ℕ) (S : Sheet) → ((i : ℕ) → getD s i 0 < 256) → reading s ≡ Read S → (b : List ℕ) → length b ≡ length s → Writes b 0 (recordsIn S) s (length s)
-read-writes-alone s S bytes e b l =
+pub read-writes-alone : (s : List ℕ) (S : Sheet) → ((i : ℕ) → getD s i 0 < 256) → reading s ≡ Read S → (S .head .kind ≡ 3 → ⊥) → (b : List ℕ) → length b ≡ length s → Writes b 0 (recordsIn S) s (length s)
+read-writes-alone s S bytes e no-old b l =
     let z : drop (0 + length s) b ≡ [] = drop-of-length-le b {i = 0 + length s} (omega arith) in
     let w : pasted b 0 s ≡ s = rw z (append-nil s) in
     subst (λ (x : List ℕ). Writes b 0 (recordsIn S) x (length s)) w
-    (subst (Writes b 0 (recordsIn S) (pasted b 0 s)) (zero-add (length s)) (read-writes s S bytes e b 0 (omega arith)))
+    (subst (Writes b 0 (recordsIn S) (pasted b 0 s)) (zero-add (length s)) (read-writes s S bytes e no-old b 0 (omega arith)))

@@ -16,7 +16,7 @@ use Rattle.sheet_read.specs.Sheets.{Sheet, busIn, messageOf, lacking, sh
 use Rattle.sheet_read.specs.Whole.{Outcome, placeOf, before, firstStream, judge, reading, told}
 use Rattle.sheet_read.specs.Whole.Outcome.{Read, Not}
 use Rattle.sheet_read.specs.declared.Reading.the-variants as answer
-use Rattle.sheet_read.specs.declared.Settling.{Settling}
+use Rattle.sheet_read.specs.declared.Settings.{Settings}
 
 -- the first record of the sheet passed: it is `head`, and the place behind it is `first`
 pub record Begun (s : List ℕ) (head : Record) (first : ℕ) : Type 0 where
@@ -40,7 +40,7 @@ pub record Opened (s : List ℕ) (head : Record) (first : ℕ) (messages : List 
   pub is-lacking : lacks ≡ lacking (before s (suc c))
 
 -- what the settings come to: one of them is refused, as reading refuses the sheet, or all passed
-pub record Settles (s : List ℕ) (head : Record) (messages : List ℕ) (r : Settling) : Type 0 where
+pub record Settles (s : List ℕ) (head : Record) (messages : List ℕ) (r : Settings) : Type 0 where
   pub refused : (r .no ≡ 0 → ⊥) → answer.Refused (r .no) (r .at) ≡ told s (reading s)
   pub opened : r .no ≡ 0 → Opened s head (r .at) messages (r .lacks)
 

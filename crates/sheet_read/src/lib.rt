@@ -24,7 +24,7 @@ pub enum Reading {
 
 // What the settings of a sheet come to, which stand between its first record and its streams: the number of a refusal and its place; or 0, the place
 // just after them, and whether a master's longest message is missing.
-pub struct Settling {
+pub struct Settings {
     pub no: u8,
     pub at: usize,
     pub lacks: bool,
@@ -104,7 +104,7 @@ fn read_streams(
 }
 
 // Passes the edition, which stands behind a P-NET segment.
-fn pass_edition(s: &[u8], head: Record, first: usize) -> Settling
+fn pass_edition(s: &[u8], head: Record, first: usize) -> Settings
     requires { ⌜ Begun (now s) head first ⌝ }
     requires { ⌜ (head .kind ≡ 1) × (getD (now s) first 0 ≡ 8) ⌝ }
     ensures { λ r. ⌜ Settles (now (s .entry)) head (replicate 33 (head .c)) r ⌝ }
@@ -117,13 +117,13 @@ fn pass_edition(s: &[u8], head: Record, first: usize) -> Settling
     let ranged = sheet_ranges::in_range_of(8, given, met.found);
     let own = sheet_judge::own_no(8, true, met.next != first, ranged);
     if own != 0 {
-        return Settling {
+        return Settings {
             no: own,
             at: first,
             lacks: false,
         };
     }
-    Settling {
+    Settings {
         no: 0,
         at: met.next,
         lacks: false,
@@ -132,7 +132,7 @@ fn pass_edition(s: &[u8], head: Record, first: usize) -> Settling
 
 // Passes the longest messages, which stand behind a ring that has none itself: each master's once. Those that are given are kept, at place y that of
 // master y.
-fn pass_messages(s: &[u8], head: Record, first: usize, messages: &mut [u32; 33]) -> Settling
+fn pass_messages(s: &[u8], head: Record, first: usize, messages: &mut [u32; 33]) -> Settings
     requires { ⌜ Begun (now s) head first ⌝ }
     requires { ⌜ head .kind ≡ 9 ⌝ }
     requires { ⌜ now messages ≡ replicate 33 0 ⌝ }
@@ -149,7 +149,7 @@ fn pass_messages(s: &[u8], head: Record, first: usize, messages: &mut [u32; 33])
         let ranged = sheet_ranges::in_range_of(10, given, message);
         let own = sheet_judge::own_no(10, true, met.next != at, ranged);
         if own != 0 {
-            return Settling {
+            return Settings {
                 no: own,
                 at,
                 lacks: false,
@@ -157,7 +157,7 @@ fn pass_messages(s: &[u8], head: Record, first: usize, messages: &mut [u32; 33])
         }
         let master = message.a as usize;
         if messages[master] != 0 {
-            return Settling {
+            return Settings {
                 no: 20,
                 at,
                 lacks: false,
@@ -168,11 +168,11 @@ fn pass_messages(s: &[u8], head: Record, first: usize, messages: &mut [u32; 33])
     }
     let lacks = sheet_messages::lacks(messages, head.a);
     sheet_messages::count_missing(messages);
-    Settling { no: 0, at, lacks }
+    Settings { no: 0, at, lacks }
 }
 
 // Passes the settings of a sheet, and tells the longest message that counts for each master.
-fn pass_settings(s: &[u8], head: Record, first: usize, messages: &mut [u32; 33]) -> Settling
+fn pass_settings(s: &[u8], head: Record, first: usize, messages: &mut [u32; 33]) -> Settings
     requires { ⌜ Begun (now s) head first ⌝ }
     ensures { λ r. ⌜ Settles (now (s .entry)) head (now (messages .exit)) r ⌝ }
 {
@@ -187,7 +187,7 @@ fn pass_settings(s: &[u8], head: Record, first: usize, messages: &mut [u32; 33])
             return pass_edition(s, head, first);
         }
     }
-    Settling {
+    Settings {
         no: 0,
         at: first,
         lacks: false,

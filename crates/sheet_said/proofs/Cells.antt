@@ -51,7 +51,11 @@ begins-whole p l i e = rw (left-none p i e) refl
 pub kind-tests : (l : List ℕ) → kindIn l
     ≡ cond (begins (word "pnet-segment,") l) 1
     (cond (begins (word "pnet-stream,") l) 2
-    (cond (begins (word "profibus-stream,") l) 4 (cond (begins (word "worldfip-exchange,") l) 5 (cond (begins (word "worldfip-variable,") l) 6 (cond (begins (word "pnet-jitter-stream,") l) 7 (cond (begins (word "pnet-edition,") l) 8 0))))))
+    (cond (begins (word "profibus-stream,") l) 4
+    (cond (begins (word "worldfip-exchange,") l) 5
+    (cond (begins (word "worldfip-variable,") l) 6
+    (cond (begins (word "pnet-jitter-stream,") l) 7
+    (cond (begins (word "pnet-edition,") l) 8 (cond (begins (word "profibus-ring,") l) 9 (cond (begins (word "profibus-message,") l) 10 0))))))))
 unfolding kindIn kindAmong kinds
 kind-tests l = refl
 

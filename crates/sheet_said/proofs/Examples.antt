@@ -31,6 +31,11 @@ by-edition : Line "pnet-edition,2\n" (of 8 2 0 0 0)
 unfolding recordIn decimal widthOf holds firstOf places
 by-edition = (refl, refl)
 
+-- a ring, and the longest message of one of its masters
+by-message : Line "profibus-ring,2,100 bp\n" (of 9 2 100 0 0) × Line "profibus-message,1,500 bp\n" (of 10 1 500 0 0)
+unfolding recordIn decimal widthOf holds firstOf places
+by-message = ((refl, refl), (refl, refl))
+
 -- the least number, and the greatest that the bytes of each field hold
 bounds : Line "pnet-segment,0\n" (of 1 0 0 0 0) × Line "pnet-stream,255,65535 bp,4294967295 bp,4294967295 bp\n" (of 2 255 65535 4294967295 4294967295)
 unfolding recordIn decimal widthOf holds firstOf places
@@ -67,8 +72,14 @@ cells : None "pnet-segment,4,\n" × None "pnet-stream,1,203 bp,1000 bp\n" × Non
 unfolding recordIn decimal widthOf holds firstOf places
 cells = (refl, refl, refl, refl, refl, refl, refl, refl, refl)
 
+-- a ring has no longest message of its own, and that of a master has a unit
+messages : None "profibus-ring,2,500 bp,300 bp\n" × None "profibus-ring,2\n" × None "profibus-ring,2,500\n" × None "profibus-message,1\n" × None "profibus-message,1,500\n"
+    × None "profibus-message,256,500 bp\n" × None "profibus-messages,1,500 bp\n"
+unfolding recordIn decimal widthOf holds firstOf places
+messages = (refl, refl, refl, refl, refl, refl, refl)
+
 -- words: of no kind, in capitals, cut, with something before or behind; and the bytes EF BB BF in front
-spelling : None "profibus-ring,2,500 bp,300 bp\n" × None "PNET-segment,4\n" × None "Pnet-segment,4\n" × None "pnet-segmen,4\n" × None "pnet-segments,4\n"
+spelling : None "profibus-rings,2,500 bp\n" × None "PNET-segment,4\n" × None "Pnet-segment,4\n" × None "pnet-segmen,4\n" × None "pnet-segments,4\n"
     × None " pnet-segment,4\n" × None "pnet-segment ,4\n" × None "pnet_segment,4\n" × (recordIn (239 ∷ 187 ∷ 191 ∷ word "pnet-segment,4\n") ≡ nothing)
 unfolding recordIn decimal widthOf holds firstOf places
 spelling = (refl, refl, refl, refl, refl, refl, refl, refl, refl)

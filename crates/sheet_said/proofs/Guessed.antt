@@ -42,7 +42,9 @@ kind-of-line (suc (suc (suc (suc (suc zero))))) x xs q e = refl
 kind-of-line (suc (suc (suc (suc (suc (suc zero)))))) x xs q e = refl
 kind-of-line (suc (suc (suc (suc (suc (suc (suc zero))))))) x xs q e = refl
 kind-of-line (suc (suc (suc (suc (suc (suc (suc (suc zero)))))))) x xs q e = refl
-kind-of-line (suc (suc (suc (suc (suc (suc (suc (suc (suc k))))))))) x xs q e = cc
+kind-of-line (suc (suc (suc (suc (suc (suc (suc (suc (suc zero))))))))) x xs q e = refl
+kind-of-line (suc (suc (suc (suc (suc (suc (suc (suc (suc (suc zero)))))))))) x xs q e = refl
+kind-of-line (suc (suc (suc (suc (suc (suc (suc (suc (suc (suc (suc k))))))))))) x xs q e = cc
 
 -- ---- What stands behind a comma
 

@@ -51,6 +51,12 @@ pub fn kind_in(line: &[u8]) -> u8
     if begins(line, b"pnet-edition,") {
         return 8;
     }
+    if begins(line, b"profibus-ring,") {
+        return 9;
+    }
+    if begins(line, b"profibus-message,") {
+        return 10;
+    }
     0
 }
 
@@ -121,6 +127,8 @@ fn sayable(r: Record) -> bool
         6 => (a <= 65535) & (c == 0) & (d == 0) & (e == 0),
         7 => (a <= 255) & (b <= 65535),
         8 => (a <= 255) & (b == 0) & (c == 0) & (d == 0) & (e == 0),
+        9 => (a <= 255) & (c == 0) & (d == 0) & (e == 0),
+        10 => (a <= 255) & (c == 0) & (d == 0) & (e == 0),
         _ => false,
     }
 }

@@ -48,7 +48,7 @@ too-big = (refl, refl, refl, refl)
 -- a leading zero, a unit that is missing, one of the wrong kind, the word of a kind that has not landed
 not-of-the-form : (importAnswer 99 (word "pnet-segment,00\n") ≡ put.Refused 23 1) × (importAnswer 99 (word "worldfip-exchange,184\n") ≡ put.Refused 23 1)
     × (importAnswer 99 (word "worldfip-exchange,184 bp\n") ≡ put.Refused 23 1)
-    × (importAnswer 99 (word "pnet-segment,2\nprofibus-ring,2,500 bp\n") ≡ put.Refused 23 2)
+    × (importAnswer 99 (word "pnet-segment,2\nprofibus-ring,2,500 bp,300 bp\n") ≡ put.Refused 23 2)
 unfolding exportAnswer exportBytes importAnswer importBytes sheetOf decimal widthOf holds firstOf places
 not-of-the-form = (refl, refl, refl, refl)
 

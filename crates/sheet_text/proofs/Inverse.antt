@@ -76,10 +76,14 @@ module _ (s : List ℕ) (S : Sheet) (e : reading s ≡ Read S) where
   unfolding hasWord wordOf kinds
   behind-word i l = split (ltb i (length (S .settings))) refl
     where
+      setting-word : {k : ℕ} → k ≡ 8 ⊎ k ≡ 10 → hasWord k ≡ true
+      setting-word (inl q) = rw q
+      setting-word (inr q) = rw q
+
       split : (b : Bool) → ltb i (length (S .settings)) ≡ b → hasWord (getD (S .settings ++ S .streams) i nothing .kind) ≡ true
       split true q =
           let k = ltb-true i (length (S .settings)) q in
-          rw (List·getD-append (S .settings) (S .streams) nothing i k, reading-read s S e .setting-kinds i k) refl
+          rw (List·getD-append (S .settings) (S .streams) nothing i k) (setting-word (reading-read s S e .setting-kinds i k))
       split false q =
           let k = ltb-false i (length (S .settings)) q in
           let j = i - length (S .settings) in
@@ -291,10 +295,11 @@ pub head-word : (k : ℕ) → isFirst k ≡ true → (k ≡ 3 → ⊥) → hasWo
 unfolding hasWord
 head-word k f other = by (first-kinds k f)
   where
-    by : k ≡ 1 ⊎ k ≡ 3 ⊎ k ≡ 5 → hasWord k ≡ true
+    by : k ≡ 1 ⊎ k ≡ 3 ⊎ k ≡ 5 ⊎ k ≡ 9 → hasWord k ≡ true
     by (inl e) = rw e
     by (inr (inl e)) = absurd (other e)
-    by (inr (inr e)) = rw e
+    by (inr (inr (inl e))) = rw e
+    by (inr (inr (inr e))) = rw e
 
 pub no-head-word : (k : ℕ) → hasWord k ≡ true → k ≡ 3 → ⊥
 unfolding hasWord

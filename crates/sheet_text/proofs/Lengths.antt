@@ -27,7 +27,7 @@ use Rattle.sheet_pieces.specs.Texts.{textOf}
 use Rattle.sheet_text.specs.Answers.{sheetText, most-text, exportAnswer, importAnswer}
 use Rattle.sheet_text.proofs.Inverse.{how-many-records, ranged-at, export-then, import-then}
 
-pub most-text-is : most-text ≡ 76992
+pub most-text-is : most-text ≡ 79968
 unfolding most-text mostInAll
 most-text-is = refl
 
@@ -68,7 +68,7 @@ text-at-most s S e =
     )
 
 -- the lengths that are answered: no one takes them for a refusal behind 2^32 (planner_exports)
-pub written-at-most : (room : ℕ) (s : List ℕ) (n : ℕ) → exportAnswer room s ≡ put.Next n → n ≤ 76992
+pub written-at-most : (room : ℕ) (s : List ℕ) (n : ℕ) → exportAnswer room s ≡ put.Next n → n ≤ 79968
 written-at-most room s n e =
     let x = export-then room s n e in
     omega (arith, x .is-length, text-at-most s (x .sheet) (x .reads), most-text-is)

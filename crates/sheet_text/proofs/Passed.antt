@@ -148,7 +148,7 @@ module _ {s : List ℕ} {at n : ℕ} (c : Counted s at n) (m : Met) (l : at < le
         is-number = omega (arith, c .is-number, line-long, length-append (c .text) (lineText (m .found)));
       }
 
-  pub counted-small : n + k ≤ 76992
+  pub counted-small : n + k ≤ 79968
   counted-small = omega (arith, counted-more .is-number, passed-most (counted-more .passed), most-text-is)
 
 pub counted-all : {s : List ℕ} {at n : ℕ} → Counted s at n → length s ≤ at → n ≡ length (sheetText (sheetIn s))

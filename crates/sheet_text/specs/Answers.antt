@@ -1,7 +1,7 @@
 -- Page 02, 'Ask 14': what export and import answer, and what the lent run then holds. The refusals in the page's order: export's are those of reading, 2 at 0
 -- for a sheet whose first record has no word, which is one of kind 3, and 13 with the text's length; import's are 23, those of reading, and 13
 -- with the sheet's length. Assumes nothing.
-use Prim.Native.Nat.{ℕ, suc, _*_}
+use Prim.Native.Nat.{ℕ, suc, _+_, _*_}
 use mathlib.Core.List.{List, [], _∷_, _++_}
 use mathlib.Core.Path.{_≡_}
 use mathlib.Core.Bool.{not}
@@ -29,10 +29,10 @@ unfoldable pub sheetText : Sheet → List ℕ
 unfolding textOf recordsIn
 sheetText S = textOf (recordsIn S)
 
--- none is longer: a first record, the edition and 800 streams, and no line has more than 96 bytes, 76,992 in all
+-- none is longer: a first record, 32 settings and 800 streams, and no line has more than 96 bytes, 79,968 in all
 unfoldable pub most-text : ℕ
 unfolding mostInAll
-most-text = suc (suc (mostInAll pnet)) * 96
+most-text = suc (32 + mostInAll pnet) * 96
 
 unfoldable pub exportChecks : ℕ → Sheet → List Check
 unfolding hasWord sheetText

@@ -1,5 +1,5 @@
 // The reader on the sheets of standard input, a line of hexadecimal digits each, and on sheets with as many streams as a limit allows
-// and one more: page 01, 'Sheet records' and 'Numbered refusals' 1..7. Each sheet is written again with the answer behind it.
+// and one more: page 01, 'Sheet records' and 'Numbered refusals' 1..7, and page 02, Ask 8. Each sheet is written again with the answer behind it.
 use libc::STDIN_FILENO;
 use libc::STDOUT_FILENO;
 use sheet_read::Reading;
@@ -155,14 +155,28 @@ fn pnet_limits() {
     try_crowd(short, each, 1, 32, 800);
 }
 
+// Puts the longest message of each of 32 masters behind their ring; the place behind the last.
+fn put_ring(buf: &mut [u8], ring: Record) -> usize {
+    let first = put_all(buf, 0, ring, ring.a, ring.a, 1);
+    put_all(buf, first, record_of(10, 1, 500, 0, 0), 1, 32, 32)
+}
+
+fn try_ring(each: Record, least: u32, most: u32, n: usize) {
+    let mut buf = io::large_buffer();
+    let ring = record_of(9, 32, 300, 0, 0);
+    say_crowd(ring, each, least, most, n);
+    let first = put_ring(&mut buf, ring);
+    let end = put_all(&mut buf, first, each, least, most, n);
+    say_front(&buf, end);
+}
+
 // The same behind a ring of 32 masters.
 fn profibus_limits() {
     let each = record_of(4, 1, 400, 8400, 0);
-    let head = record_of(3, 32, 300, 500, 0);
-    try_crowd(head, each, 1, 1, 80);
-    try_crowd(head, each, 1, 1, 81);
-    try_crowd(head, each, 1, 32, 800);
-    try_crowd(head, each, 1, 32, 801);
+    try_ring(each, 1, 1, 80);
+    try_ring(each, 1, 1, 81);
+    try_ring(each, 1, 32, 800);
+    try_ring(each, 1, 32, 801);
 }
 
 // At most 64 variables, each with an identifier of its own; the 65th is 5, also where its identifier was met before.

@@ -14,7 +14,7 @@ use Rattle.common.specs.Checks.{Check, Verdict, verdict}
 use Rattle.common.specs.Checks.Verdict.{Passed, Refused}
 use Rattle.sheet_record.specs.declared.Met.{Met}
 use Rattle.sheet_record.specs.Kinds.{nothing, worldfip, isStreamOf, streamMet}
-use Rattle.sheet_record.proofs.Parts.{first-bus, variables}
+use Rattle.sheet_record.proofs.Parts.{exchange-first, variables}
 use Rattle.sheet_ranges.specs.Ranges.{VariableRanges}
 use Rattle.sheet_ranges.proofs.Ranges.{exchange-ranges, variable-ranges}
 use Rattle.sheet_read.specs.Sheets.{Sheet, busIn, given, sheetOf}
@@ -42,7 +42,7 @@ module _ (s : List ℕ) (S : Sheet) (known : Known s S) (bus : busIn S ≡ world
   pub declared : Declared (trafficOf S)
   unfolding trafficOf variableAt
   declared =
-      let x = exchange-ranges (given (sheetOf []) (S .head .a)) (S .head) (known .head-ranged) (sym (first-bus (S .head .kind) (known .head-first)) ∙ bus) in
+      let x = exchange-ranges (given (sheetOf []) (S .head .a)) (S .head) (known .head-ranged) (exchange-first (S .head .kind) (known .head-first) bus) in
       record {
         exchange-in = (x .exchange .least, x .exchange .most);
         number-in = (known .some, known .few-variables bus);

@@ -2,9 +2,9 @@
 use mathlib.Core.Path.{_≡_}
 use mathlib.Core.List.{List, _++_}
 use mathlib.Core.Bool.{true, false, _||_}
-use Prim.Native.Nat.{ℕ, _≤_, _<_}
+use Prim.Native.Nat.{ℕ}
 use lib.Dec.{leb, eqb}
-use borrow.Author.Tests.{le-leb, lt-leb, eq-eqb, ne-eqb}
+use borrow.Author.Tests.{eq-eqb, ne-eqb}
 use borrow.Author.Needs.{needs}
 use Rattle.report_phrases.specs.Phrases.{placeText}
 use Rattle.text.specs.Text.{word, counted}
@@ -14,26 +14,26 @@ use Rattle.report_phrases.proofs.put_place.Tie as tie
 -- ---- What the place is, by the number
 
 module _ (n p : ℕ) (after : List ℕ) where
-  byte : n ≤ 7 → placeText n p ++ after ≡ counted (word " at byte ") p after
+  byte : (leb n 7 || eqb n 20) ≡ true → placeText n p ++ after ≡ counted (word " at byte ") p after
   unfolding placeText counted
-  byte a = simp (le-leb n 7 a)
+  byte a = simp a
 
-  stream : 7 < n → (leb n 9 || eqb n 21) ≡ true → placeText n p ++ after ≡ counted (word " at stream ") p after
+  stream : (leb n 7 || eqb n 20) ≡ false → (leb n 9 || eqb n 21) ≡ true → placeText n p ++ after ≡ counted (word " at stream ") p after
   unfolding placeText counted
-  stream a b = simp (lt-leb n 7 a, b)
+  stream a b = simp (a, b)
 
-  module _ (a : 7 < n) (b : (leb n 9 || eqb n 21) ≡ false) where
+  module _ (a : (leb n 7 || eqb n 20) ≡ false) (b : (leb n 9 || eqb n 21) ≡ false) where
     variable : n ≡ 12 → placeText n p ++ after ≡ counted (word " at variable ") p after
     unfolding placeText counted
-    variable e = simp (lt-leb n 7 a, b, eq-eqb n 12 e)
+    variable e = simp (a, b, eq-eqb n 12 e)
 
     line : (n ≡ 12 → ⊥) → n ≡ 23 → placeText n p ++ after ≡ counted (word " at line ") p after
     unfolding placeText counted
-    line d e = simp (lt-leb n 7 a, b, ne-eqb n 12 d, eq-eqb n 23 e)
+    line d e = simp (a, b, ne-eqb n 12 d, eq-eqb n 23 e)
 
     nothing : (n ≡ 12 → ⊥) → (n ≡ 23 → ⊥) → placeText n p ++ after ≡ after
     unfolding placeText
-    nothing d e = simp (lt-leb n 7 a, b, ne-eqb n 12 d, ne-eqb n 23 e)
+    nothing d e = simp (a, b, ne-eqb n 12 d, ne-eqb n 23 e)
 
 -- ---- The needs
 

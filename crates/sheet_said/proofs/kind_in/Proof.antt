@@ -36,6 +36,18 @@ not-6 : (c : tie.Else6)
     ≡ false
 not-6 c = sym (c .before .begins6 .ensures) ∙ c .if6 .left
 
+not-7 : (c : tie.Else7)
+    → begins (word "pnet-edition,")
+    (now (c .before .before .before .before .before .before .before .before .before .before .before .before .before .before .before .before .before .before .before .before .before .before .args .line))
+    ≡ false
+not-7 c = sym (c .before .begins7 .ensures) ∙ c .if7 .left
+
+not-8 : (c : tie.Else8)
+    → begins (word "profibus-ring,")
+    (now (c .before .before .before .before .before .before .before .before .before .before .before .before .before .before .before .before .before .before .before .before .before .before .before .before .before .args .line))
+    ≡ false
+not-8 c = sym (c .before .begins8 .ensures) ∙ c .if8 .left
+
 -- ---- The needs
 
 slice-aggregate-begins : tie.Need-slice-aggregate-begins
@@ -126,19 +138,57 @@ returns-7 c =
     let at-1 = at-2 .before .before .before in
     rw (kind-tests _, not-1 at-1, not-2 at-2, not-3 at-3, not-4 at-4, not-5 at-5, not-6 at-6, sym (c .before .begins7 .ensures) ∙ c .if7 .taken) refl
 
+slice-aggregate-begins-8 : tie.Need-slice-aggregate-begins-8
+slice-aggregate-begins-8 c = search needs
+
+begins-requires-8 : tie.Need-begins-requires-8
+begins-requires-8 c κs = search needs
+
 returns-8 : tie.Need-returns-8
 returns-8 c =
-    let at-6 = c .before .before .before in
+    let at-7 = c .before .before .before in
+    let at-6 = at-7 .before .before .before in
     let at-5 = at-6 .before .before .before in
     let at-4 = at-5 .before .before .before in
     let at-3 = at-4 .before .before .before in
     let at-2 = at-3 .before .before .before in
     let at-1 = at-2 .before .before .before in
-    rw (kind-tests _, not-1 at-1, not-2 at-2, not-3 at-3, not-4 at-4, not-5 at-5, not-6 at-6, sym (c .before .begins7 .ensures) ∙ c .if7 .left) refl
+    rw (kind-tests _, not-1 at-1, not-2 at-2, not-3 at-3, not-4 at-4, not-5 at-5, not-6 at-6, not-7 at-7, sym (c .before .begins8 .ensures) ∙ c .if8 .taken) refl
+
+slice-aggregate-begins-9 : tie.Need-slice-aggregate-begins-9
+slice-aggregate-begins-9 c = search needs
+
+begins-requires-9 : tie.Need-begins-requires-9
+begins-requires-9 c κs = search needs
+
+returns-9 : tie.Need-returns-9
+returns-9 c =
+    let at-8 = c .before .before .before in
+    let at-7 = at-8 .before .before .before in
+    let at-6 = at-7 .before .before .before in
+    let at-5 = at-6 .before .before .before in
+    let at-4 = at-5 .before .before .before in
+    let at-3 = at-4 .before .before .before in
+    let at-2 = at-3 .before .before .before in
+    let at-1 = at-2 .before .before .before in
+    rw (kind-tests _, not-1 at-1, not-2 at-2, not-3 at-3, not-4 at-4, not-5 at-5, not-6 at-6, not-7 at-7, not-8 at-8, sym (c .before .begins9 .ensures) ∙ c .if9 .taken) refl
+
+returns-10 : tie.Need-returns-10
+returns-10 c =
+    let at-8 = c .before .before .before in
+    let at-7 = at-8 .before .before .before in
+    let at-6 = at-7 .before .before .before in
+    let at-5 = at-6 .before .before .before in
+    let at-4 = at-5 .before .before .before in
+    let at-3 = at-4 .before .before .before in
+    let at-2 = at-3 .before .before .before in
+    let at-1 = at-2 .before .before .before in
+    rw (kind-tests _, not-1 at-1, not-2 at-2, not-3 at-3, not-4 at-4, not-5 at-5, not-6 at-6, not-7 at-7, not-8 at-8, sym (c .before .begins9 .ensures) ∙ c .if9 .left) refl
 
 pub kind-in-spec : {M : Type 1} → statement M
 kind-in-spec =
     tie.close
     (tie.spec slice-aggregate-begins begins-requires returns slice-aggregate-begins-2 begins-requires-2 returns-2 slice-aggregate-begins-3 begins-requires-3
     returns-3 slice-aggregate-begins-4 begins-requires-4 returns-4 slice-aggregate-begins-5 begins-requires-5 returns-5 slice-aggregate-begins-6 begins-requires-6
-    returns-6 slice-aggregate-begins-7 begins-requires-7 returns-7 returns-8)
+    returns-6 slice-aggregate-begins-7 begins-requires-7 returns-7 slice-aggregate-begins-8 begins-requires-8 returns-8 slice-aggregate-begins-9
+    begins-requires-9 returns-9 returns-10)

@@ -58,7 +58,21 @@ unfolding hasWord wordOf inBytes fieldsOf lineOf kinds
 returns-7 c = let r = c .before .args .r in rw (judged-by 8 r (c .match .keys7), below-next (r .a) 255) (simp (and-assoc, and-true))
 
 returns-8 : tie.Need-returns-8
-returns-8 c = sym (not-sayable (c .before .args .r) (left-out _ (c .match .rest)))
+unfolding hasWord wordOf inBytes fieldsOf lineOf kinds
+returns-8 c =
+    let r = c .before .args .r in
+    let x : ltb (r .b) 4294967296 ≡ true = lt-ltb (r .b) 4294967296 (omega arith) in
+    rw (judged-by 9 r (c .match .keys8), below-next (r .a) 255, x) (simp (and-assoc, and-true))
+
+returns-9 : tie.Need-returns-9
+unfolding hasWord wordOf inBytes fieldsOf lineOf kinds
+returns-9 c =
+    let r = c .before .args .r in
+    let x : ltb (r .b) 4294967296 ≡ true = lt-ltb (r .b) 4294967296 (omega arith) in
+    rw (judged-by 10 r (c .match .keys9), below-next (r .a) 255, x) (simp (and-assoc, and-true))
+
+returns-10 : tie.Need-returns-10
+returns-10 c = sym (not-sayable (c .before .args .r) (left-out _ (c .match .rest)))
 
 pub sayable-spec : {M : Type 1} → statement M
-sayable-spec = tie.close (tie.spec returns returns-2 returns-3 returns-4 returns-5 returns-6 returns-7 returns-8)
+sayable-spec = tie.close (tie.spec returns returns-2 returns-3 returns-4 returns-5 returns-6 returns-7 returns-8 returns-9 returns-10)

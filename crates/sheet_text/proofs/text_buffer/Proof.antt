@@ -5,7 +5,7 @@ use Rattle.sheet_text.proofs.text_buffer.Statement.{statement}
 use Rattle.sheet_text.proofs.text_buffer.Tie as tie
 
 returns : tie.Need-returns
-returns c = rw most-text-is (zeros 76992)
+returns c = rw most-text-is (zeros 79968)
 
 pub text-buffer-spec : {M : Type 1} → statement M
 text-buffer-spec = tie.close (tie.spec returns)

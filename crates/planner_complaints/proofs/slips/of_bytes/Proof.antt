@@ -6,11 +6,8 @@ use borrow.Author.Needs.{needs}
 use Rattle.planner_complaints.proofs.slips.of_bytes.Statement.{statement}
 use Rattle.planner_complaints.proofs.slips.of_bytes.Tie as tie
 
-byte-at-requires : tie.Need-byte-at-requires
-byte-at-requires c κs = search needs
-
-known-requires : tie.Need-known-requires
-known-requires c κs = search needs
+is-sheet-requires : tie.Need-is-sheet-requires
+is-sheet-requires c κs = search needs
 
 returns : tie.Need-returns
 returns c = search needs
@@ -40,8 +37,7 @@ pub of-bytes-spec : {M : Type 1} → statement M
 of-bytes-spec =
     tie.close
     (tie.spec
-    byte-at-requires
-    known-requires
+    is-sheet-requires
     returns
     find-requires
     one-more-requires
