@@ -218,7 +218,16 @@ fn read_behind(
         };
     }
     // One call, so that it is taken in here, where the first record's kind is known: each bus has its own loop then.
-    read_streams(s, head, settings.at, &messages, settings.lacks, counts, longests, handed)
+    read_streams(
+        s,
+        head,
+        settings.at,
+        &messages,
+        settings.lacks,
+        counts,
+        longests,
+        handed,
+    )
 }
 
 // What a whole sheet is: accepted, or refused with a number and a place. One pass reads it and gathers what the planners ask of a master: it
