@@ -22,6 +22,7 @@ use Rattle.sheet_write.proofs.Writing.{room-free}
 use Rattle.sheet_read.specs.Sheets.{messageOf}
 use Rattle.sheet_read.specs.Records.{bytesOf}
 use Rattle.sheet_read.proofs.Order.{message-of-ring}
+use Rattle.sheet_read.proofs.Trips.{bytes-more}
 use Rattle.sheet_rewrite.specs.Rewriting.{openRing, messageRecords, alone, frontBytes, fillAnswer, fillBytes}
 
 -- ---- One record
@@ -47,11 +48,6 @@ module _ (b : List ℕ) (at : ℕ) (r : Record) (k : written (r .kind) ≡ true)
       omega arith
 
 -- ---- The ring and its messages
-
-pub bytes-more : (rs : List Record) (r : Record) → bytesOf (rs ++ (r ∷ [])) ≡ bytesOf rs ++ encode r
-unfolding bytesOf
-bytes-more [] q = append-nil (encode q)
-bytes-more (r ∷ rs) q = rw (bytes-more rs q) (sym (append-assoc (encode r) (bytesOf rs) (encode q)))
 
 -- 9 and 10 are written, in 6 bytes each
 pub ring-written : written 9 ≡ true

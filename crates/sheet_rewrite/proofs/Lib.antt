@@ -1,4 +1,5 @@
 pub mod Answers
+pub mod Examples
 pub mod Filled
 pub mod Messages
 pub mod Refusals
