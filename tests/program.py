@@ -338,6 +338,8 @@ def exchange_troubles(program, folder, sheet, text):
         ("--import", b" " + slips.TEXT, name + "refused 23 at line 1\n"),
         ("--import", b" " + slips.TEXT, slips.AROUND),
         ("--import", GOOD_SHEET, slips.BYTES),
+        ("--import", NEW_RING_SHEET, slips.BYTES),
+        ("--import", RING_SHEET, slips.BYTES),
     ):
         yield from refused_troubles(program, [command], told, data)
 

@@ -35,6 +35,7 @@ ZERO = "a number has no zero in front"
 UNENDED = "the last line has no end"
 AROUND = "no blank stands before or behind a cell"
 SMALL = "words have small letters only"
+RING = "a ring has no longest message: each master has its own, on a line behind it"
 BYTES = "this begins as the bytes of a sheet do"
 DIGITS = "a number is decimal digits alone"
 WORDS = "; wanted there: a word of these, and a comma"
@@ -104,7 +105,8 @@ LINES = (
     (b"profibus-ring,3,300 us\n", ", column 21 has 'us'; wanted there: the unit bp", UNIT),
     (b"profibus-ring,3 bp,300 bp\n", ", column 16 has ' bp'; wanted there: a comma and the next cell", AROUND),
     (b"profibus-ring,3\n", ", column 16 is the end of the line; wanted there: a comma and the next cell", None),
-    (b"profibus-ring,3,300 bp,500 bp\n", ", column 23 has ',500 bp'; wanted there: the end of the line", None),
+    (b"profibus-ring,3,300 bp,500 bp\n", ", column 23 has ',500 bp'; wanted there: the end of the line", RING),
+    (b"profibus-ring,3,300 bp,,\n", ", column 23 has ','; wanted there: the end of the line", PADDED),
     (b"profibus-ring,256,300 bp\n", ", column 15 has '256'; " + BIG % "255", None),
     (b"profibus-ring,3,4294967296 bp\n", ", column 17 has '4294967296 bp'; " + BIG % "4294967295 bp", None),
     (b"profibus-message,1,500\n", ", column 23 is the end of the line; wanted there: a blank and the unit bp", UNIT),
@@ -130,6 +132,7 @@ STRANGE_LINES = (
     (b"pnet-stream;1;203 bp;1000 bp;1000 bp\n", ", column 1 has 'pnet-stream;1;203 bp;100..'" + WORDS, SEPARATORS),
     (b"pnet-stream\t1\n", ", column 1 has 'pnet-stream\\x091'" + WORDS, SEPARATORS),
     (b" " + STREAM, ", column 1 has ' pnet-stream'" + WORDS, AROUND),
+    (b"\t" + STREAM, ", column 1 has '\\x09pnet-stream'" + WORDS, AROUND),
     (b"PNET-STREAM,1\n", ", column 1 has 'PNET-STREAM'" + WORDS, SMALL),
     (b"profibus-rings,1,300 bp\n", ", column 1 has 'profibus-rings'" + WORDS, None),
     (b"profibus-message;1;500 bp\n", ", column 1 has 'profibus-message;1;500 b..'" + WORDS, SEPARATORS),
@@ -224,14 +227,15 @@ def line_troubles(program, folder):
 
 
 def first_line_troubles(program, folder):
-    """Behind no other line, what begins with no word is taken for bytes."""
+    """Behind no other line, what begins with no word is taken for bytes; a tab is the number of kind 9."""
     for line, place, advice in STRANGE_LINES:
         if line[:1] in (b"\n", b"\r", b"\xe9"):
             continue
         for name, done in both_ways(program, folder, line + TEXT):
             shown = place if line.endswith(b"\n") else place.replace("segmen", "segmenpnet-segment")
             parts = ["planner: %s: taken for bytes, as it does not begin with a word and a comma\n" % name, "planner: %s: line 1%s" % (name, shown)]
-            yield trouble(done, "refused 2 at byte 0\n", parts + ([advice] if advice else []))
+            report = "refused %d at byte 0\n" % (4 if line[:1] == b"\t" else 2)
+            yield trouble(done, report, parts + ([advice] if advice else []))
     for data in PLAIN:
         done = call(program, [], data)
         report = b"refused %d at byte 0\n" % (3 if data[0] == 10 else 2)

@@ -24,7 +24,10 @@ pub fn rewrite(s: &[u8], out: &mut [u8]) -> Put
             first,
         } => {
             // TODO
-            Put::Refused { no: 13, place: first }
+            Put::Refused {
+                no: 13,
+                place: first,
+            }
         }
     }
 }
