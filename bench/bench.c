@@ -27,9 +27,10 @@ uint64_t planner_worldfip(const uint8_t *s, size_t n, uint64_t *rows, size_t rn,
 uint64_t planner_capture(const uint8_t *s, size_t n, const uint8_t *c, size_t m, uint64_t *answers, size_t an,
                          uint32_t *largest, size_t ln, uint64_t *above, size_t bn, uint8_t *left, size_t on,
                          uint64_t *place);
-/* and sheets as text: the length of what was written, or a refusal as above */
+/* and sheets as text and rewritten: the length of what was written, or a refusal as above */
 uint64_t planner_text_of(const uint8_t *s, size_t n, uint8_t *text, size_t room, uint64_t *place);
 uint64_t planner_sheet_of(const uint8_t *text, size_t n, uint8_t *s, size_t room, uint64_t *place);
+uint64_t planner_rewritten(const uint8_t *s, size_t n, uint8_t *new, size_t room, uint64_t *place);
 
 static uint8_t sheet[16384];
 static size_t length;
@@ -363,6 +364,20 @@ static int their_sheet(void)
     return plain_sheet_of(text, written, they_put.bytes, sizeof they_put.bytes, &they_put.length, &their_place);
 }
 
+static int our_rewritten(void)
+{
+    uint64_t answer = planner_rewritten(sheet, length, we_put.bytes, sizeof we_put.bytes, &our_place);
+    if (answer >> 32 == 0)
+        we_put.length = (uint32_t)answer;
+    return number_of(answer);
+}
+
+static int their_rewritten(void)
+{
+    their_place = 0;
+    return plain_rewritten(sheet, length, they_put.bytes, sizeof they_put.bytes, &they_put.length, &their_place);
+}
+
 /* the text of the sheet at hand */
 static void text_of_sheet(void)
 {
@@ -612,6 +627,14 @@ int main(void)
     line("PROFIBUS kind 9, 800 streams, written", our_text, their_text);
     line("PROFIBUS kind 9, 800 streams, read", our_sheet, their_sheet);
 
+    printf("\n" NAME " %15s %15s %8s\n", "rewritten", "proved", "plain C", "ratio");
+    profibus_sheet(3, 3);
+    line("PROFIBUS, 3 masters, 3 streams", our_rewritten, their_rewritten);
+    profibus_sheet(32, 800);
+    line("PROFIBUS, 32 masters, 800 streams", our_rewritten, their_rewritten);
+    open_ring(32, 800);
+    line("PROFIBUS kind 9, 32 masters, 800 streams", our_rewritten, their_rewritten);
+
     printf("\n" NAME " %15s %15s %8s %21s\n", "capture", "proved", "plain C", "ratio", "ns a record");
     pnet_sheet(2, 3, 100000);
     capture_of(3, SHORT);
@@ -648,8 +671,10 @@ int main(void)
     spoiled("urgent first, 36 streams, 3 masters", sheet, &length, our_urgent, their_urgent);
     profibus_sheet(10, 100);
     spoiled("PROFIBUS, 10 masters, 100 streams", sheet, &length, our_profibus, their_profibus);
+    spoiled("a ring rewritten", sheet, &length, our_rewritten, their_rewritten);
     open_ring(10, 100);
     spoiled("PROFIBUS kind 9, 10 masters, 100 streams", sheet, &length, our_profibus, their_profibus);
+    spoiled("a ring of kind 9 rewritten", sheet, &length, our_rewritten, their_rewritten);
     spoiled("a ring of kind 9 written as text", sheet, &length, our_text, their_text);
     worldfip_sheet(16, 256, 8);
     spoiled("WorldFIP, 16 variables, 256 rows", sheet, &length, our_worldfip, their_worldfip);

@@ -4,9 +4,9 @@
 
 Each generated sheet goes to all three planners and to that of urgent requests
 first, and with some captures to the one for these, with lent runs that are long
-enough, just long enough and one place too short; and each is written as text,
-and each generated text read as a sheet, in the same way; and sheets that are made
-for urgent requests first go to their planner. A speed comparison with a planner that answers something else, or that
+enough, just long enough and one place too short; and each is written as text and
+rewritten, and each generated text read as a sheet, in the same way; and sheets that
+are made for urgent requests first go to their planner. A speed comparison with a planner that answers something else, or that
 spoils lent memory, would mean nothing.
 """
 
@@ -241,7 +241,12 @@ def exchange_lengths(exchange, data):
 
 def exchange_differences(library, data):
     """As the sheet that it may be, and as the text that it may be."""
-    for plain, exchange in ((library.plain_text_of, opinion.export_sheet), (library.plain_sheet_of, opinion.import_text)):
+    exchanges = (
+        (library.plain_text_of, opinion.export_sheet),
+        (library.plain_sheet_of, opinion.import_text),
+        (library.plain_rewritten, opinion.rewrite_sheet),
+    )
+    for plain, exchange in exchanges:
         for length in exchange_lengths(exchange, data):
             if ask_exchange(plain, data, length) != expected_exchange(exchange, data, length):
                 yield "%s, run of %d" % (exchange.__name__, length)

@@ -22,5 +22,7 @@ int plain_text_of(const uint8_t *s, size_t n, uint8_t *text, size_t room, uint32
                   uint64_t *place);
 int plain_sheet_of(const uint8_t *text, size_t n, uint8_t *s, size_t room, uint32_t *length,
                    uint64_t *place);
+int plain_rewritten(const uint8_t *s, size_t n, uint8_t *new, size_t room, uint32_t *length,
+                    uint64_t *place);
 
 #endif

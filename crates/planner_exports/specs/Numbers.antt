@@ -1,4 +1,4 @@
--- A planner's answer, and that of export and import, as two numbers: a figure where the sheet is accepted, else 2^32 and the refusal's number; and a place. Assumes nothing.
+-- A planner's answer, and that of export, import and rewriting, as two numbers: a figure where the sheet is accepted, else 2^32 and the refusal's number; and a place. Assumes nothing.
 use Prim.Native.Nat.{ℕ, _+_}
 use Rattle.pnet_plan.specs.declared.answer.Plan as pnet
 use Rattle.pnet_plan.specs.declared.answer.Plan.the-variants as pnetPlan

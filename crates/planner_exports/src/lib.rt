@@ -1,6 +1,6 @@
-// The planners, and sheets as text, under plain names, for programs in other languages to link. Each answers one number, a figure where
-// the sheet is accepted, else 2^32 and the refusal's number; and a place, in a cell that is lent for it and always set: the refusal's,
-// else 0, or the stream that limits a ring.
+// The planners, sheets as text and sheets rewritten, under plain names, for programs in other languages to link. Each answers one number,
+// a figure where the sheet is accepted, else 2^32 and the refusal's number; and a place, in a cell that is lent for it and always set: the
+// refusal's, else 0, or the stream that limits a ring.
 ghost use mathlib.Core.Path.{_≡_};
 ghost use Prim.Native.Nat.{min};
 ghost use lib.ListN.{length};
@@ -17,6 +17,7 @@ ghost use Rattle.pnet_bounds.specs.Bounded.{streamRun};
 ghost use Rattle.planner_exports.specs.Numbers.{pnetNumber, profibusNumber, worldfipNumber, streamsNumber};
 ghost use Rattle.planner_exports.specs.Numbers.{pnetPlace, profibusPlace, worldfipPlace};
 ghost use Rattle.sheet_text.specs.Answers.{exportAnswer, exportBytes, importAnswer, importBytes};
+ghost use Rattle.sheet_rewrite.specs.Rewriting.{rewriteAnswer, rewriteBytes};
 ghost use Rattle.planner_exports.specs.Numbers.{putNumber, putPlace};
 
 const REFUSED: u64 = 4294967296;
@@ -169,4 +170,14 @@ pub extern "C" fn planner_sheet_of(text: &[u8], s: &mut [u8], place: &mut u64) -
     ensures { λ _. ⌜ now (s .exit) ≡ importBytes (now (s .entry)) (now (text .entry)) ⌝ }
 {
     put_told(sheet_text::import(text, s), place)
+}
+
+// The length of a sheet rewritten, which goes to the run: a ring of kind 3 as one of kinds 9 and 10, any other sheet as it is.
+#[no_mangle]
+pub extern "C" fn planner_rewritten(s: &[u8], new: &mut [u8], place: &mut u64) -> u64
+    ensures { λ r. ⌜ r ≡ putNumber (rewriteAnswer (length (now (new .entry))) (now (s .entry))) ⌝ }
+    ensures { λ _. ⌜ now (place .exit) ≡ putPlace (rewriteAnswer (length (now (new .entry))) (now (s .entry))) ⌝ }
+    ensures { λ _. ⌜ now (new .exit) ≡ rewriteBytes (now (new .entry)) (now (s .entry)) ⌝ }
+{
+    put_told(sheet_rewrite::rewrite(s, new), place)
 }
