@@ -190,23 +190,23 @@ module _ (S : Sheet) (old : OldRing S) where
   unfolding known isStream fieldsOf partOf lineOf kinds busOf repeated overLimit mostInAll hasMasters countOf metBefore
   message-follows j l =
       follows-in (before-message j)
-        (record {
-          is-known = refl;
-          is-right = message-fits (record { head = openRing (S .head); settings = messageRecords S j; streams = [] });
-          is-ranged =
-              message-in-range _ (messageRecord S (suc j)) refl
-              (record {
-                master = record { least = omega arith; most = l };
-                message = record { least = omega (arith, its-M (suc j), old .ranges .message .least); most = omega (arith, its-M (suc j), old .ranges .message .most) };
-                no-c = refl;
-                no-d = refl;
-                no-e = refl;
-              });
-          first-of-master = rw (none-past S (suc j) j (omega arith)) refl;
-          none-missing = λ z. cc;
-          in-limits = refl;
-          is-new = refl;
-        })
+      (record {
+        is-known = refl;
+        is-right = message-fits (record { head = openRing (S .head); settings = messageRecords S j; streams = [] });
+        is-ranged =
+            message-in-range _ (messageRecord S (suc j)) refl
+            (record {
+              master = record { least = omega arith; most = l };
+              message = record { least = omega (arith, its-M (suc j), old .ranges .message .least); most = omega (arith, its-M (suc j), old .ranges .message .most) };
+              no-c = refl;
+              no-d = refl;
+              no-e = refl;
+            });
+        first-of-master = rw (none-past S (suc j) j (omega arith)) refl;
+        none-missing = λ z. cc;
+        in-limits = refl;
+        is-new = refl;
+      })
 
   -- a stream stands behind the same streams, and its master has the same M
   pub stream-follows : (k : ℕ) → k < length (S .streams) → Follows (openRing (S .head) ∷ (messageRecords S (mastersOf S) ++ take k (S .streams))) (getD (S .streams) k nothing)
@@ -262,14 +262,14 @@ module _ (S : Sheet) (old : OldRing S) where
   unfolding busOf lineOf kinds
   renewed-same =
       rw renewed-sheet (
-        record {
-          a-ring = ap busOf (old .is-old);
-          again = refl;
-          masters = refl;
-          latency = refl;
-          messages = same-message (S .streams);
-          streams = refl;
-        })
+      record {
+        a-ring = ap busOf (old .is-old);
+        again = refl;
+        masters = refl;
+        latency = refl;
+        messages = same-message (S .streams);
+        streams = refl;
+      })
 
   -- which is of kind 9
   pub renewed-first : sheetOf (renewed S) .head .kind ≡ 9
