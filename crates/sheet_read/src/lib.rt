@@ -147,10 +147,10 @@ fn pass_messages(s: &[u8], head: Record, first: usize, messages: &mut [u32; 33])
         let met = sheet_record::record_of(s, at, 10);
         let message = met.found;
         let ranged = sheet_ranges::in_range_of(10, given, message);
-        let own = sheet_judge::own_no(10, true, met.next != at, ranged);
-        if own != 0 {
+        let no = sheet_judge::own_no(10, true, met.next != at, ranged);
+        if no != 0 {
             return Settings {
-                no: own,
+                no,
                 at,
                 lacks: false,
             };

@@ -1,6 +1,6 @@
 -- `sheet_read::pass_messages` meets its contract. The loop's invariant is `GivesOn`: the longest messages so far passed, and are kept. The measure is
 -- what is left of the sheet. Assumes nothing.
-use mathlib.Core.Path.{_≡_, refl, sym, _∙_}
+use mathlib.Core.Path.{refl, sym, _∙_}
 use Prim.Native.Nat.{suc, _-_, _≤_}
 use native.Mathlib.Omega.{arith}
 use borrow.Author.Needs.{needs}
@@ -87,7 +87,7 @@ loop-again c =
     }
 
 lacks-requires : tie.Need-lacks-requires Inv-loop μ-loop
-lacks-requires c κs = ring-masters (c .before .before .before .loop .inv .giving)
+lacks-requires c κs = omega (arith, ring-masters (c .before .before .before .loop .inv .giving))
 
 count-missing-requires : tie.Need-count-missing-requires Inv-loop μ-loop
 count-missing-requires c κs = search needs
