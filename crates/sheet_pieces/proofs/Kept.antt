@@ -62,7 +62,7 @@ kept-none sheet l = record { roomy = l; inside = omega arith; within = omega ari
 
 -- a kind that has a word is one that the writer puts
 pub word-written : (k : ℕ) → hasWord k ≡ true → written k ≡ true
-word-written k e = written-is k ∙ both-true (not (eqb k 3)) (known k) (known-but-3 k ∙ e) .1
+word-written k e = let b = both-true (not (eqb k 3)) (known k) (known-but-3 k ∙ e) in written-is k ∙ rw (b .0, b .1)
 
 module _ {sheet : List ℕ} {k : ℕ} {s : List ℕ} (kept : KeptOf sheet k s) where
   -- a record more

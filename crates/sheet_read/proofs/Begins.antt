@@ -1,11 +1,11 @@
 -- The reader at the first record and at the settings behind it: what each makes of the sheet. Assumes nothing.
-use mathlib.Core.Path.{_≡_, refl, sym, ap, _∙_, subst}
+use mathlib.Core.Path.{_≡_, refl, sym, ap, _∙_}
 use mathlib.Core.Bool.{Bool, true, false, cond, not, _&&_, _||_, and-false, or-false}
 use mathlib.Core.List.{List, [], _∷_, _++_}
 use mathlib.Core.Logic.{_⊎_, inl, inr}
 use Prim.Native.Nat.{ℕ, zero, suc, _+_, _≤_, _<_}
 use native.Mathlib.Omega.{arith}
-use borrow.Author.Tests.{eqb-true, ne-eqb, eq-eqb, ltb-true, ltb-false}
+use borrow.Author.Tests.{ne-eqb, ltb-true, ltb-false}
 use lib.ListN.{length, getD, set, replicate, length-append, List·getD-eq-default}
 use lib.Dec.{eqb, leb, ltb}
 use Rattle.common.specs.Runs.{tab}
@@ -15,14 +15,13 @@ use Rattle.sheet_record.specs.declared.Given.{Given}
 use Rattle.sheet_record.specs.declared.Record.{Record}
 use Rattle.sheet_record.specs.declared.Met.{Met}
 use Rattle.sheet_record.specs.Kinds.{kinds, lineOf, fieldsOf, partOf, known, sizeOf, decode, limit, ranged, inRange, whole, metAt, metOf, isFirst, isSetting, isStream, numbers, busOf}
-use Rattle.sheet_record.proofs.Tables.{both-true}
 use Rattle.sheet_record.proofs.Records.{met-same}
 use Rattle.sheet_record.proofs.Parts.{setting-kinds}
 use Rattle.sheet_ranges.proofs.Ranges.{open-ring-ranges, message-ranges}
 use Rattle.sheet_judge.specs.Own.{ownNo}
 use Rattle.sheet_judge.proofs.Own.{met-some, own-met, own-met-kind}
-use Rattle.sheet_messages.specs.Messages.{messageBy, messageAt, lacksIn}
-use Rattle.sheet_read.specs.Sheets.{Sheet, sheetOf, headOf, given, messageOf, ofKind, fits, lacking, repeated, mostInAll, hasMasters, countOf, overLimit, metBefore}
+use Rattle.sheet_messages.specs.Messages.{messageBy, lacksIn}
+use Rattle.sheet_read.specs.Sheets.{Sheet, sheetOf, headOf, given, messageOf, fits, lacking, repeated, mostInAll, hasMasters, countOf, overLimit, metBefore}
 use Rattle.sheet_read.specs.Whole.{placeOf, recordsOf, before, judge, reading, told}
 use Rattle.sheet_read.specs.Steps.{Begun, Opened, Settles}
 use Rattle.sheet_read.specs.declared.Reading.the-variants as answer
@@ -31,9 +30,9 @@ use Rattle.sheet_read.proofs.Walk.{head-at, place-next}
 use Rattle.sheet_read.proofs.Cases.{PassesAt, Upto, passes-then, passes-if, upto-none, upto-more, stops-once, ended-empty}
 use Rattle.sheet_read.proofs.Cases.Stops.{by-record, at-end}
 use Rattle.sheet_read.proofs.Judged.{numbered, lateChecks, ownAt, wrongAt, judge-own}
-use Rattle.sheet_read.proofs.Order.{no-limits, given-none, nth, fits-first, edition-fits, message-fits, setting-only, message-of-ring, head-some, empty-list, how-many, behind-first, adds-setting}
+use Rattle.sheet_read.proofs.Order.{no-limits, given-none, nth, fits-first, edition-fits, message-fits, setting-only, empty-list, how-many, behind-first, adds-setting}
 use Rattle.sheet_read.proofs.Openings.{counted, edition-first}
-use Rattle.sheet_read.proofs.Gathered.{of-every, same-for-all, same-past, lacks-nothing, Gives, gives-none, place-again, place-new, places-long, gives-more, lacks-told, counts-each, counts-past}
+use Rattle.sheet_read.proofs.Gathered.{of-every, same-for-all, same-past, lacks-nothing, Gives, gives-none, place-again, place-new, gives-more, lacks-told, counts-each, counts-past}
 
 -- ---- A record by itself
 
@@ -390,9 +389,6 @@ module _ {s : List ℕ} {head : Record} {first : ℕ} {g : Given} {messages : Li
 
   no-streams : before s (suc i) .streams ≡ []
   no-streams = empty-list s (before s (suc i) .streams) (omega (arith, how-many s i (v .upto), v .many))
-
-  pub places-given : length messages ≡ 33
-  places-given = places-long (v .gives)
 
   pub meets-message : {met : Met} {ranged : Bool} {own : ℕ} → getD s at 0 ≡ 10 → met ≡ metOf s at 10 → ranged ≡ (eqb (met .found .kind) 10 && inRange g (met .found))
       → own ≡ ownNo (known 10) true (not (eqb (met .next) at)) ranged → MeetsSetting s (suc i) at 10 g met ranged own

@@ -1,9 +1,9 @@
 -- The reader's state behind n streams that passed, and what the next record makes of it. Assumes nothing.
 use mathlib.Core.Path.{_≡_, refl, sym, ap, _∙_}
-use mathlib.Core.Bool.{Bool, true, false, cond, not, _&&_, _||_}
+use mathlib.Core.Bool.{Bool, true, false, not, _&&_}
 use mathlib.Core.List.{List, [], _∷_}
 use mathlib.Core.Logic.{_⊎_, inl, inr}
-use Prim.Native.Nat.{ℕ, zero, suc, _+_, _≤_, _<_}
+use Prim.Native.Nat.{ℕ, suc, _+_, _≤_, _<_}
 use native.Mathlib.Omega.{arith}
 use native.Mathlib.Decide.{ℕ-discrete}
 use borrow.Author.Tests.{eqb-true, ne-eqb, eq-eqb}
@@ -11,12 +11,12 @@ use lib.ListN.{length, getD, replicate, length-append}
 use lib.Dec.{eqb, leb}
 use Rattle.common.specs.Runs.{tab}
 use Rattle.common.proofs.Runs.{tab-same, tab-places}
-use Rattle.common.specs.Checks.{check, Verdict, verdict}
+use Rattle.common.specs.Checks.{check, verdict}
 use Rattle.common.specs.Checks.Verdict.{Passed, Refused}
 use Rattle.sheet_record.specs.declared.Given.{Given}
 use Rattle.sheet_record.specs.declared.Record.{Record}
 use Rattle.sheet_record.specs.declared.Met.{Met}
-use Rattle.sheet_record.specs.Kinds.{kinds, lineOf, partOf, known, sizeOf, decode, inRange, whole, metAt, busOf, isFirst, isSetting, isStream, isStreamOf, streamMet}
+use Rattle.sheet_record.specs.Kinds.{kinds, lineOf, partOf, known, sizeOf, decode, inRange, whole, busOf, isFirst, isSetting, isStream, isStreamOf, streamMet}
 use Rattle.sheet_record.proofs.Records.{stream-same}
 use Rattle.sheet_record.proofs.Parts.{first-bus, pnet-first, ring-first, ring-streams}
 use Rattle.sheet_ranges.proofs.Ranges.{segment-ranges, pnet-ranges, ring-ranges, open-ring-ranges, ring-stream-ranges}
@@ -25,7 +25,7 @@ use Rattle.sheet_judge.proofs.Own.{met-some, own-same, own-met-of, as-itself}
 use Rattle.sheet_keep.specs.Steps.{lateNo, countsWith, longestsWith, idsWith}
 use Rattle.sheet_keep.proofs.Late.{not-late-variable}
 use Rattle.sheet_messages.specs.Messages.{messageAt}
-use Rattle.sheet_read.specs.Sheets.{Sheet, sheetOf, busIn, given, messageOf, fits, lacking, repeated, overLimit, metBefore}
+use Rattle.sheet_read.specs.Sheets.{Sheet, busIn, given, messageOf, fits, lacking, repeated, overLimit, metBefore}
 use Rattle.sheet_read.specs.Whole.{placeOf, recordsOf, before, firstStream, judge, ended, reading, told, streamsOfMaster, longestOfMaster, byMaster, countsTold, longestsTold, messagesTold, Outcome}
 use Rattle.sheet_read.specs.Whole.Outcome.{Read, Not}
 use Rattle.sheet_read.specs.Steps.{Opened}
@@ -34,7 +34,7 @@ use Rattle.sheet_read.proofs.Walk.{head-at, place-next, place-from}
 use Rattle.sheet_read.proofs.Cases.{Upto, passes-then, upto-more, upto-place, stops-once, ended-no-message, ended-no-stream, ended-sheet}
 use Rattle.sheet_read.proofs.Cases.Stops.{at-end}
 use Rattle.sheet_read.proofs.Judged.{numbered, lateChecks, ownAt, wrongAt}
-use Rattle.sheet_read.proofs.Kept.{Figures, Keeps, keeps-none, keeps-more, late-variable, late-stream, variable, no-variable}
+use Rattle.sheet_read.proofs.Kept.{Figures, Keeps, keeps-none, keeps-more, late-variable, late-stream, variable}
 use Rattle.sheet_read.proofs.Order.{no-limits, given-none, given-same, nth, stream-of, fits-behind, setting-late, first-passes, head-some, empty-list, how-many, adds-stream}
 use Rattle.sheet_read.proofs.Begins.{own-passed, numbered-not, told-refused, judged-own, judged-wrong, judged-late}
 

@@ -1,6 +1,6 @@
 -- Page 02, Ask 8: the longest messages that the reader keeps tell the same as the settings that it passed. Assumes nothing.
 use mathlib.Core.Path.{_≡_, refl, sym, ap, _∙_}
-use mathlib.Core.Bool.{Bool, true, false, _&&_, _||_, and-false}
+use mathlib.Core.Bool.{Bool, true, false, and-false}
 use mathlib.Core.List.{List, [], _∷_, _++_}
 use Prim.Native.Nat.{ℕ, zero, suc, _+_, _≤_, _<_, max}
 use native.Mathlib.Omega.{arith}
@@ -66,7 +66,7 @@ module _ {settings : List Record} {messages : List ℕ} (g : Gives settings mess
   pub place-of : (y : ℕ) → y ≤ 32 → getD messages y 0 ≡ longestOf y settings
   place-of y l = ap (λ (xs : List ℕ). getD xs y 0) (g .places) ∙ getD-tab (λ k. longestOf k settings) 33 y (omega arith)
 
-  pub places-long : length messages ≡ 33
+  places-long : length messages ≡ 33
   places-long = ap length (g .places) ∙ length-tab (λ y. longestOf y settings) 33
 
   -- a place that is not 0 is that of a master which has one

@@ -272,7 +272,7 @@ pub fn read_gathering(s: &[u8], counts: &mut [u8; 33], longests: &mut [u32; 33])
     read_whole(s, counts, longests, &mut messages)
 }
 
-// And no cycles, as those of PROFIBUS.
+// The same for callers that need no longest C, as those of PROFIBUS.
 pub fn read_ring(s: &[u8], counts: &mut [u8; 33], messages: &mut [u32; 33]) -> Reading
     ensures { λ r. ⌜ r ≡ told (now (s .entry)) (reading (now (s .entry))) ⌝ }
     ensures { λ _. ⌜ now (counts .exit) ≡ countsTold (reading (now (s .entry))) (now (counts .entry)) ⌝ }
@@ -282,21 +282,13 @@ pub fn read_ring(s: &[u8], counts: &mut [u8; 33], messages: &mut [u32; 33]) -> R
     read_whole(s, counts, &mut longests, messages)
 }
 
-// And neither.
-pub fn read_counting(s: &[u8], handed: &mut [u8; 33]) -> Reading
-    ensures { λ r. ⌜ r ≡ told (now (s .entry)) (reading (now (s .entry))) ⌝ }
-    ensures { λ _. ⌜ now (handed .exit) ≡ countsTold (reading (now (s .entry))) (now (handed .entry)) ⌝ }
-{
-    let mut longests: [u32; 33] = [0; 33];
-    read_gathering(s, handed, &mut longests)
-}
-
-// And nothing of its masters.
+// The same for callers that need nothing of its masters.
 pub fn read(s: &[u8]) -> Reading
     ensures { λ r. ⌜ r ≡ told (now (s .entry)) (reading (now (s .entry))) ⌝ }
 {
     let mut counts: [u8; 33] = [0; 33];
-    read_counting(s, &mut counts)
+    let mut longests: [u32; 33] = [0; 33];
+    read_gathering(s, &mut counts, &mut longests)
 }
 
 // The edition of the P-NET rule that an accepted P-NET sheet is by: 1, unless a record says so just behind the first.

@@ -1,9 +1,8 @@
 -- What is written at the front of a run: one record, the ring with a longest message for each master, and bytes as a whole where they fit. Assumes nothing.
-use Prim.Native.Nat.{ℕ, zero, suc, _+_, _*_, _-_, _≤_, _<_, min}
+use Prim.Native.Nat.{ℕ, zero, suc, _+_, _*_, _≤_, _<_}
 use mathlib.Core.Path.{_≡_, refl, sym, ap, _∙_, subst}
-use mathlib.Core.List.{List, [], _∷_, _++_, append-nil, append-assoc}
+use mathlib.Core.List.{List, _++_, append-assoc}
 use mathlib.Core.Bool.{true}
-use native.Mathlib.Nat.{suc-mul}
 use native.Mathlib.Numerals.{add-one}
 use native.Mathlib.Omega.{arith}
 use borrow.Author.Tests.{lt-ltb, le-ltb}
@@ -19,7 +18,6 @@ use Rattle.sheet_write.specs.declared.Put.the-variants as put
 use Rattle.sheet_write.specs.Writing.{freeAnswer, freeBytes}
 use Rattle.sheet_write.proofs.Trips.{length-encode}
 use Rattle.sheet_write.proofs.Writing.{room-free}
-use Rattle.sheet_read.specs.Sheets.{messageOf}
 use Rattle.sheet_read.specs.Records.{bytesOf}
 use Rattle.sheet_read.proofs.Order.{message-of-ring}
 use Rattle.sheet_read.proofs.Trips.{bytes-more}

@@ -1,8 +1,8 @@
 -- Page 02, Ask 8: the records of kind 10 that stand for the M of a ring of kind 3, one for each of masters 1..n, ascending. Assumes nothing.
 use Prim.Native.Nat.{ℕ, zero, suc, _+_, _≤_, _<_, max}
-use mathlib.Core.Path.{_≡_, refl, sym, ap, _∙_}
-use mathlib.Core.List.{List, [], _∷_, _++_, append-nil}
-use mathlib.Core.Bool.{true, false, _||_}
+use mathlib.Core.Path.{_≡_, refl, ap, _∙_}
+use mathlib.Core.List.{[], _∷_, _++_}
+use mathlib.Core.Bool.{true, false}
 use native.Mathlib.Nat.{not-suc-le-zero}
 use native.Mathlib.Numerals.{add-one}
 use native.Mathlib.Omega.{arith}
@@ -12,7 +12,6 @@ use lib.Dec.{eqb}
 use lib.ListN.{length, getD, take, length-append, List·getD-append}
 use lib.Seq.{getD-at, take-append-le, take-all}
 use Rattle.common.specs.Sums.{when}
-use Rattle.sheet_record.specs.declared.Record.{Record}
 use Rattle.sheet_record.specs.Kinds.{kinds, lineOf, partOf, isSetting, isStream, nothing}
 use Rattle.sheet_read.specs.Sheets.{Sheet, messageOf, having, countOf, longestOf, lacksOf}
 use Rattle.sheet_read.proofs.Walk.{having-append, having-it, not-having}

@@ -2,21 +2,19 @@
 use Prim.Native.Nat.{ℕ, zero, suc, _+_, _-_, _≤_, _<_}
 use mathlib.Core.Path.{_≡_, refl, sym, ap, _∙_, subst}
 use mathlib.Core.List.{List, [], _∷_, _++_, append-nil}
-use mathlib.Core.Bool.{Bool, true, false}
+use mathlib.Core.Bool.{true, false}
 use native.Mathlib.Nat.{not-suc-le-zero}
 use native.Mathlib.Omega.{arith}
 use native.Mathlib.Decide.{decLt}
-use borrow.Author.Tests.{le-ltb}
 use lib.ListN.{length, getD, take, length-append, List·getD-append}
-use lib.Seq.{take-append-le, take-append-add, getD-append-add, take-length}
-use Rattle.sheet_record.specs.declared.Given.{Given}
+use lib.Seq.{take-append-le, take-append-add, getD-append-add}
 use Rattle.sheet_record.specs.declared.Record.{Record}
-use Rattle.sheet_record.specs.Kinds.{kinds, lineOf, fieldsOf, busOf, partOf, known, isFirst, isSetting, isStream, isStreamOf, profibus, inRange, nothing}
-use Rattle.sheet_ranges.specs.Ranges.{Range, RingRanges}
+use Rattle.sheet_record.specs.Kinds.{kinds, lineOf, fieldsOf, busOf, partOf, known, isFirst, isSetting, isStream, isStreamOf, inRange, nothing}
+use Rattle.sheet_ranges.specs.Ranges.{RingRanges}
 use Rattle.sheet_ranges.proofs.Ranges.{ring-stream-ranges}
 use Rattle.sheet_ranges.proofs.InPage.{ring-stream-in-range, open-ring-in-range, message-in-range}
 use Rattle.sheet_messages.specs.Messages.{messageBy}
-use Rattle.sheet_read.specs.Sheets.{Sheet, headOf, having, sheetOf, busIn, mastersOf, messageOf, given, fits, lacking, repeated, overLimit, mostInAll, hasMasters, countOf, metBefore}
+use Rattle.sheet_read.specs.Sheets.{Sheet, headOf, having, sheetOf, mastersOf, messageOf, given, fits, lacking, repeated, overLimit, mostInAll, hasMasters, countOf, metBefore}
 use Rattle.sheet_read.specs.Records.{Follows, Right}
 use Rattle.sheet_read.proofs.Walk.{having-append}
 use Rattle.sheet_read.proofs.Order.{fits-first, message-fits, stream-fits, message-of-ring, message-of-master}
@@ -190,23 +188,23 @@ module _ (S : Sheet) (old : OldRing S) where
   unfolding known isStream fieldsOf partOf lineOf kinds busOf repeated overLimit mostInAll hasMasters countOf metBefore
   message-follows j l =
       follows-in (before-message j)
-        (record {
-          is-known = refl;
-          is-right = message-fits (record { head = openRing (S .head); settings = messageRecords S j; streams = [] });
-          is-ranged =
-              message-in-range _ (messageRecord S (suc j)) refl
-              (record {
-                master = record { least = omega arith; most = l };
-                message = record { least = omega (arith, its-M (suc j), old .ranges .message .least); most = omega (arith, its-M (suc j), old .ranges .message .most) };
-                no-c = refl;
-                no-d = refl;
-                no-e = refl;
-              });
-          first-of-master = rw (none-past S (suc j) j (omega arith)) refl;
-          none-missing = λ z. cc;
-          in-limits = refl;
-          is-new = refl;
-        })
+      (record {
+        is-known = refl;
+        is-right = message-fits (record { head = openRing (S .head); settings = messageRecords S j; streams = [] });
+        is-ranged =
+            message-in-range _ (messageRecord S (suc j)) refl
+            (record {
+              master = record { least = omega arith; most = l };
+              message = record { least = omega (arith, its-M (suc j), old .ranges .message .least); most = omega (arith, its-M (suc j), old .ranges .message .most) };
+              no-c = refl;
+              no-d = refl;
+              no-e = refl;
+            });
+        first-of-master = rw (none-past S (suc j) j (omega arith)) refl;
+        none-missing = λ z. cc;
+        in-limits = refl;
+        is-new = refl;
+      })
 
   -- a stream stands behind the same streams, and its master has the same M
   pub stream-follows : (k : ℕ) → k < length (S .streams) → Follows (openRing (S .head) ∷ (messageRecords S (mastersOf S) ++ take k (S .streams))) (getD (S .streams) k nothing)
@@ -262,14 +260,14 @@ module _ (S : Sheet) (old : OldRing S) where
   unfolding busOf lineOf kinds
   renewed-same =
       rw renewed-sheet (
-        record {
-          a-ring = ap busOf (old .is-old);
-          again = refl;
-          masters = refl;
-          latency = refl;
-          messages = same-message (S .streams);
-          streams = refl;
-        })
+      record {
+        a-ring = ap busOf (old .is-old);
+        again = refl;
+        masters = refl;
+        latency = refl;
+        messages = same-message (S .streams);
+        streams = refl;
+      })
 
   -- which is of kind 9
   pub renewed-first : sheetOf (renewed S) .head .kind ≡ 9

@@ -1,14 +1,13 @@
 -- Page 02, Ask 8: the rewritten sheet. It is read, keeps its meaning and does not begin with kind 3; written again it stays as it is; its bytes are the ring, a
 -- longest message for each master, and the streams' bytes as they were. Assumes nothing.
 use Prim.Native.Nat.{ℕ, zero, suc, _+_, _*_, _≤_, _<_}
-use mathlib.Core.Path.{_≡_, refl, sym, ap, _∙_, subst}
+use mathlib.Core.Path.{_≡_, refl, sym, ap, _∙_}
 use mathlib.Core.List.{List, [], _∷_, _++_, append-assoc}
 use mathlib.Core.Bool.{true}
-use native.Mathlib.Nat.{mul-suc}
 use native.Mathlib.Omega.{arith}
 use native.Mathlib.Decide.{ℕ-discrete}
 use borrow.Author.Tests.{eqb-true, eq-eqb, ne-eqb}
-use lib.ListN.{length, getD, take, drop, length-append}
+use lib.ListN.{length, getD, drop, length-append}
 use lib.Seq.{drop-at}
 use Rattle.sheet_record.specs.declared.Record.{Record}
 use Rattle.sheet_record.specs.Kinds.{kinds, lineOf, busOf, fieldsOf, widths, written, isStreamOf, sizeOf, decode, encode, inRange, nothing}
@@ -28,8 +27,8 @@ use Rattle.sheet_read.proofs.Lengths.{length-at-most, longest-sheet-is}
 use Rattle.sheet_read.proofs.Trips.{bytes-append, writable, written-reads, read-written, read-right}
 use Rattle.sheet_rewrite.specs.Meaning.{SameMeaning}
 use Rattle.sheet_rewrite.specs.Meaning.SameMeaning.{same-sheet, same-ring}
-use Rattle.sheet_rewrite.specs.Rewriting.{openRing, messageRecord, messageRecords, renewed, rewritten, alone, frontBytes}
-use Rattle.sheet_rewrite.proofs.Renewed.{RingStreams, OldRing, its-M, renewed-right, renewed-same, renewed-first}
+use Rattle.sheet_rewrite.specs.Rewriting.{openRing, messageRecords, renewed, rewritten, alone, frontBytes}
+use Rattle.sheet_rewrite.proofs.Renewed.{RingStreams, OldRing, renewed-right, renewed-same, renewed-first}
 use Rattle.sheet_rewrite.proofs.Filled.{front-length}
 
 -- ---- A ring of kind 3 that reads without refusal

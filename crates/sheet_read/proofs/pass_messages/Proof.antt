@@ -1,6 +1,6 @@
 -- `sheet_read::pass_messages` meets its contract. The loop's invariant is `GivesOn`: the longest messages so far passed, and are kept. The measure is
 -- what is left of the sheet. Assumes nothing.
-use mathlib.Core.Path.{_≡_, refl, sym, _∙_}
+use mathlib.Core.Path.{refl, sym, _∙_}
 use Prim.Native.Nat.{suc, _-_, _≤_}
 use native.Mathlib.Omega.{arith}
 use borrow.Author.Needs.{needs}

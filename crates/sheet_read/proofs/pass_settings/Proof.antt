@@ -1,5 +1,5 @@
 -- `sheet_read::pass_settings` meets its contract: a ring of kind 9 has no M of its own, so all places are 0 there before the messages are read. Assumes nothing.
-use mathlib.Core.Path.{refl, sym, ap, _∙_}
+use mathlib.Core.Path.{refl, sym, _∙_}
 use borrow.Author.Needs.{needs}
 use borrow.Author.Tests.{eqb-true, eqb-false}
 use Rattle.sheet_read.proofs.Begins.{no-message-yet, opened-at-once, settles-opened}

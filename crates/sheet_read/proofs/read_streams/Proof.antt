@@ -1,11 +1,10 @@
 -- `sheet_read::read_streams` meets its contract. The loop's invariant is `ReadsOn`: the records so far passed, and the arrays keep them.
 -- The measure is what is left of the sheet. Assumes nothing.
-use mathlib.Core.Path.{_≡_, refl, sym, ap, _∙_}
+use mathlib.Core.Path.{_≡_, sym, _∙_}
 use Prim.Native.Nat.{suc, _-_}
 use native.Mathlib.Omega.{arith}
 use borrow.Author.Needs.{needs}
 use lib.ListN.{length}
-use Rattle.sheet_record.specs.declared.Given.{Given}
 use Rattle.sheet_record.specs.Kinds.{busOf}
 use Rattle.sheet_read.proofs.Behind.{ReadsOn, opened, fewer-streams, Meets, master-here, not-late, reads-more, next-later}
 use Rattle.sheet_read.proofs.Behind.{refused-own, refused-lacking, refused-late, refused-keeps, ends-lacking, ends-empty, ends-accepted, ends-counted, ends-longest, ends-messages, ends-uncounted}

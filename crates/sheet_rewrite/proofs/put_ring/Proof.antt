@@ -2,7 +2,6 @@
 -- how many masters are left. Assumes nothing.
 use Prim.Native.Nat.{_-_}
 use native.Mathlib.Omega.{arith}
-use borrow.Author.Needs.{needs}
 use Rattle.text.proofs.Writing.{length-wrote}
 use Rattle.sheet_rewrite.proofs.Filled.{Fronted, ring-written, message-written, ring-size, fronted-none, ring-room, fronted-room, fronted-more, fronted-all}
 use Rattle.sheet_rewrite.proofs.put_ring.Statement.{statement}
