@@ -8,13 +8,16 @@ use lib.ListN.{length, getD}
 use lib.Seq.{slice}
 use Rattle.sheet_record.specs.declared.Record.{Record}
 use Rattle.sheet_record.specs.Numbers.{pasted}
+use Rattle.sheet_record.specs.Kinds.{nothing}
+use Rattle.sheet_write.specs.declared.Put.the-variants as put
+use Rattle.sheet_write.specs.Writing.{putAnswer}
 use Rattle.sheet_read.specs.Sheets.{Sheet, sheetOf}
 use Rattle.sheet_read.specs.Whole.{reading}
 use Rattle.sheet_read.specs.Whole.Outcome.{Read, Not}
 use Rattle.sheet_read.specs.Records.{recordsIn, bytesOf, Right, Writes}
 use Rattle.sheet_read.proofs.Known.{reading-read}
 use Rattle.sheet_read.proofs.Trips.{same-records-same-bytes}
-use Rattle.sheet_read.proofs.Writes.{right-writes, writes-read, read-writes, read-writes-alone}
+use Rattle.sheet_read.proofs.Writes.{right-writes, old-ring-refused, writes-read, read-writes, read-writes-alone}
 use Rattle.pnet_rules.specs.Segment.{Segment, count, turn, bound}
 use Rattle.pnet_rules.specs.Search.{valueFrom}
 use Rattle.pnet_rules.specs.Refined.{right, rounds, refined}
@@ -94,10 +97,10 @@ module _ (s : List ℕ) (S : Sheet) (reads : reading s ≡ Read S) (room : ℕ) 
 pub pnet-refused-exactly : (s : List ℕ) (la lb lc n p : ℕ) → (planned s la lb lc ≡ Not n p) ↔ late.Given s la lb lc n p
 pnet-refused-exactly = pnet.refused-exactly
 
--- ---- 'Sheets read and written come back equal.'
+-- ---- 'Sheets read and written come back equal.' A sheet of kind 3 is read and no longer written (page 02, Ask 8); what it comes back as: Rewritten.antt
 
--- records that make a right sheet can be written one after the other, from any place of any buffer that has room for them from there
-pub a-right-sheet-is-written : (rs : List Record) → Right rs → (b : List ℕ) (at : ℕ) → at + length (bytesOf rs) ≤ length b
+-- records that make a right sheet, the first not of kind 3, can be written one after the other, from any place of any buffer that has room for them from there
+pub a-right-sheet-is-written : (rs : List Record) → Right rs → (getD rs 0 nothing .kind ≡ 3 → ⊥) → (b : List ℕ) (at : ℕ) → at + length (bytesOf rs) ≤ length b
     → (b' : List ℕ) × (end : ℕ) × Writes b at rs b' end
 a-right-sheet-is-written = right-writes
 
@@ -105,13 +108,17 @@ a-right-sheet-is-written = right-writes
 pub written-comes-back : {b b' : List ℕ} {at end : ℕ} {rs : List Record} → Right rs → Writes b at rs b' end → reading (slice at end b') ≡ Read (sheetOf rs)
 written-comes-back = writes-read
 
--- the records of an accepted sheet, written in order into a buffer of its length, give its bytes
-pub read-comes-back : (s : List ℕ) (S : Sheet) → ((i : ℕ) → getD s i 0 < 256) → reading s ≡ Read S → (b : List ℕ) → length b ≡ length s
+-- a record of kind 3 is refused with 2 wherever it is put, so no sheet that begins with one is written
+pub a-ring-of-kind-3-is-refused : (n at : ℕ) (r : Record) → r .kind ≡ 3 → putAnswer n at r ≡ put.Refused 2 at
+a-ring-of-kind-3-is-refused = old-ring-refused
+
+-- the records of any other accepted sheet, written in order into a buffer of its length, give its bytes
+pub read-comes-back : (s : List ℕ) (S : Sheet) → ((i : ℕ) → getD s i 0 < 256) → reading s ≡ Read S → (S .head .kind ≡ 3 → ⊥) → (b : List ℕ) → length b ≡ length s
     → Writes b 0 (recordsIn S) s (length s)
 read-comes-back = read-writes-alone
 
 -- written from any place of any buffer that has room for them from there, they give its bytes there, and no other byte of the buffer changes
-pub read-comes-back-anywhere : (s : List ℕ) (S : Sheet) → ((i : ℕ) → getD s i 0 < 256) → reading s ≡ Read S → (b : List ℕ) (at : ℕ) → at + length s ≤ length b
+pub read-comes-back-anywhere : (s : List ℕ) (S : Sheet) → ((i : ℕ) → getD s i 0 < 256) → reading s ≡ Read S → (S .head .kind ≡ 3 → ⊥) → (b : List ℕ) (at : ℕ) → at + length s ≤ length b
     → Writes b at (recordsIn S) (pasted b at s) (at + length s)
 read-comes-back-anywhere = read-writes
 

@@ -3,6 +3,7 @@
 use mathlib.Core.Path.{_≡_, refl, sym, ap, _∙_}
 use mathlib.Core.List.{List}
 use mathlib.Core.Bool.{Bool, true, false, cond, not, _||_}
+use mathlib.Core.Logic.{⊎-elim}
 use Prim.Native.Nat.{ℕ, _+_, _≤_, _<_}
 use native.Mathlib.Omega.{arith}
 use lib.Dec.{eqb, ltb, leb}
@@ -138,7 +139,7 @@ no-13-segment s p e = by (reading s) refl e
     refused H (Refused n q) f = cc
 
     by : (o : Outcome) → reading s ≡ o → plannedBy o 32 32 32 ≡ Not 13 p → ⊥
-    by (Not n q) r f = let k : n ≡ 13 = cc in omega (arith, numbers-given s (given-then s n q r))
+    by (Not n q) r f = let k : n ≡ 13 = cc in ⊎-elim (λ (l : n ≤ 7). omega arith) (λ (e : n ≡ 20). omega arith) (numbers-given s (given-then s n q r) .1)
     by (Read H) r f =
         let N = H .head .a in
         checks (not (eqb (busIn H) 1)) (ltb 32 N || (ltb 32 N || ltb 32 N)) (leb (firstLate (segmentOf H)) (length (H .streams))) N (firstLate (segmentOf H))
@@ -166,7 +167,7 @@ no-13-table s p e = by (reading s) refl e
     refused T (Refused n q) f = cc
 
     by : (o : Outcome) → reading s ≡ o → fip.planOf o 4096 ≡ answer.Refused 13 p → ⊥
-    by (Not n q) r f = let k : n ≡ 13 = cc in omega (arith, numbers-given s (given-then s n q r))
+    by (Not n q) r f = let k : n ≡ 13 = cc in ⊎-elim (λ (l : n ≤ 7). omega arith) (λ (e : n ≡ 20). omega arith) (numbers-given s (given-then s n q r) .1)
     by (Read S) r f =
         let T = trafficOf S in
         checks (not (eqb (busIn S) 5)) (eqb (slots T) 0) (ltb 4096 (rows T)) (leb (missOf T) (rows T)) (rows T) (missingOf T)

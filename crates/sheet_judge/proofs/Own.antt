@@ -1,5 +1,5 @@
 -- The refusal of a record by itself: a law for each answer, and that what is met at a place tells the same as the bytes there. Assumes nothing.
-use mathlib.Core.Path.{_≡_, refl, ap, _∙_}
+use mathlib.Core.Path.{_≡_, refl, ap, _∙_, subst}
 use mathlib.Core.Bool.{Bool, true, false, not, _&&_}
 use mathlib.Core.List.{List}
 use mathlib.Core.Logic.{_⊎_, inl, inr}
@@ -11,8 +11,8 @@ use lib.Dec.{eqb, leb}
 use Rattle.sheet_record.specs.declared.Met.{Met}
 use Rattle.sheet_record.specs.declared.Record.{Record}
 use Rattle.sheet_record.specs.declared.Given.{Given}
-use Rattle.sheet_record.specs.Kinds.{known, sizeOf, decode, inRange, whole, metAt, isStreamOf, streamMet, nothing}
-use Rattle.sheet_record.proofs.Records.{stream-same}
+use Rattle.sheet_record.specs.Kinds.{known, sizeOf, decode, inRange, whole, metAt, metOf, isStreamOf, streamMet, nothing}
+use Rattle.sheet_record.proofs.Records.{met-same, stream-same}
 use Rattle.sheet_judge.specs.Own.{ownNo, asBus}
 
 -- ---- 2, 3, 1, 4
@@ -44,7 +44,7 @@ unfolding sizeOf
 size-some k = omega arith
 
 -- the later two tests matter only where the earlier ones passed
-own-same : (isKnown isRight isWhole isRanged isWhole' isRanged' : Bool) → (isKnown ≡ true → isRight ≡ true → isWhole ≡ isWhole')
+pub own-same : (isKnown isRight isWhole isRanged isWhole' isRanged' : Bool) → (isKnown ≡ true → isRight ≡ true → isWhole ≡ isWhole')
     → (isKnown ≡ true → isRight ≡ true → isWhole' ≡ true → isRanged ≡ isRanged')
     → ownNo isKnown isRight isWhole isRanged ≡ ownNo isKnown isRight isWhole' isRanged'
 unfolding ownNo
@@ -104,6 +104,34 @@ module _ (s : List ℕ) (at : ℕ) where
       ranged k r w =
           let e : streamMet s at bus .found ≡ decode s at = ap (λ (m : Met). m .found) (stream-same s at bus r) ∙ found-tells k w in
           ap (λ (x : Record). isStreamOf bus (x .kind) && inRange g x) e ∙ ap (λ (b : Bool). b && inRange g (decode s at)) r
+
+  -- and where a record of one kind alone is asked for, and that kind stands there
+  own-met-there : (isRight : Bool) (g : Given)
+      → ownNo (known (getD s at 0)) isRight (not (eqb (metOf s at (getD s at 0) .next) at))
+      (eqb (metOf s at (getD s at 0) .found .kind) (getD s at 0) && inRange g (metOf s at (getD s at 0) .found))
+      ≡ ownNo (known (getD s at 0)) isRight (leb (at + sizeOf (getD s at 0)) (length s)) (inRange g (decode s at))
+  unfolding decode
+  own-met-there isRight g = own-same (known (getD s at 0)) isRight _ _ _ _ ends ranged
+    where
+      same : metOf s at (getD s at 0) ≡ metAt s at
+      same = met-same s at (getD s at 0) refl
+
+      ends : known (getD s at 0) ≡ true → isRight ≡ true → not (eqb (metOf s at (getD s at 0) .next) at) ≡ leb (at + sizeOf (getD s at 0)) (length s)
+      ends k r = ap (λ (m : Met). not (eqb (m .next) at)) same ∙ next-tells k
+
+      ranged : known (getD s at 0) ≡ true → isRight ≡ true → leb (at + sizeOf (getD s at 0)) (length s) ≡ true
+          → (eqb (metOf s at (getD s at 0) .found .kind) (getD s at 0) && inRange g (metOf s at (getD s at 0) .found)) ≡ inRange g (decode s at)
+      ranged k r w =
+          let e : metOf s at (getD s at 0) .found ≡ decode s at = ap (λ (m : Met). m .found) same ∙ found-tells k w in
+          ap (λ (x : Record). eqb (x .kind) (getD s at 0) && inRange g x) e ∙ ap (λ (b : Bool). b && inRange g (decode s at)) (eq-eqb (getD s at 0) (getD s at 0) refl)
+
+  pub own-met-kind : (kind : ℕ) → getD s at 0 ≡ kind → (isRight : Bool) (g : Given)
+      → ownNo (known kind) isRight (not (eqb (metOf s at kind .next) at)) (eqb (metOf s at kind .found .kind) kind && inRange g (metOf s at kind .found))
+      ≡ ownNo (known (getD s at 0)) isRight (leb (at + sizeOf (getD s at 0)) (length s)) (inRange g (decode s at))
+  own-met-kind kind e isRight g =
+      subst (λ (k : ℕ).
+      ownNo (known k) isRight (not (eqb (metOf s at k .next) at)) (eqb (metOf s at k .found .kind) k && inRange g (metOf s at k .found))
+      ≡ ownNo (known (getD s at 0)) isRight (leb (at + sizeOf (getD s at 0)) (length s)) (inRange g (decode s at))) e (own-met-there isRight g)
 
 -- ---- The bus of a number
 

@@ -26,6 +26,7 @@ const CYCLE: u32 = 1548;
 
 // So are the ring latency L and a longest message.
 const LATENCY: u32 = 100000;
+
 const MESSAGE: u32 = 100000;
 
 // A record of a kind with every field in its range, behind what is given. A field that the kind does not have is 0. All tests are made at
@@ -80,13 +81,7 @@ pub fn in_range_of(kind: u8, given: Given, r: Record) -> bool
             & (c <= 1000000000)
             & fits_behind(c, d, e),
         8 => (1 <= a) & (a <= 2) & (b == 0) & (c == 0) & (d == 0) & (e == 0),
-        9 => (1 <= a)
-            & (a <= 32)
-            & (1 <= b)
-            & (b <= LATENCY)
-            & (c == 0)
-            & (d == 0)
-            & (e == 0),
+        9 => (1 <= a) & (a <= 32) & (1 <= b) & (b <= LATENCY) & (c == 0) & (d == 0) & (e == 0),
         10 => (1 <= a)
             & (a <= masters)
             & (1 <= b)

@@ -84,6 +84,11 @@ missing-at-stream : reading (9 ∷ 2 ∷ 0 ∷ 0 ∷ 0 ∷ 100 ∷ 10 ∷ 1 ∷ 
 unfolding reading sheetOf messageOf
 missing-at-stream = refl
 
+-- nor does it matter which master it is, and whose the stream
+missing-of-another : reading (9 ∷ 2 ∷ 0 ∷ 0 ∷ 0 ∷ 100 ∷ 10 ∷ 2 ∷ 0 ∷ 0 ∷ 0 ∷ 8 ∷ 4 ∷ 2 ∷ 0 ∷ 0 ∷ 0 ∷ 8 ∷ 0 ∷ 0 ∷ 255 ∷ 255 ∷ []) ≡ Not 20 12
+unfolding reading sheetOf messageOf
+missing-of-another = refl
+
 -- missing, and no stream: 20 at the end, before 6
 missing-at-end : reading (9 ∷ 1 ∷ 0 ∷ 0 ∷ 0 ∷ 100 ∷ []) ≡ Not 20 6
 unfolding reading sheetOf

@@ -1,9 +1,11 @@
+pub mod Begins
 pub mod Behind
 pub mod Cases
 pub mod Counts
 pub mod Editions
 pub mod Examples
 pub mod Fronts
+pub mod Gathered
 pub mod Judged
 pub mod Kept
 pub mod Known

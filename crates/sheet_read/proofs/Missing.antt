@@ -178,13 +178,15 @@ module _ (s : List ℕ) where
       other k its same =
           omega (arith, has-if i y k, ap (λ (x : ℕ). countOf x (before s i .settings)) (sym same) ∙ not-again i nine p its)
 
-      stays : HasMessage s i y → (before s (suc i) .settings ≡ before s i .settings) ⊎ (recordAt s i .kind ≡ 10) → longestOf y (before s (suc i) .settings) ≡ longestOf y (before s i .settings)
+      stays : HasMessage s i y → (before s (suc i) .settings ≡ before s i .settings) ⊎ (recordAt s i .kind ≡ 10)
+          → longestOf y (before s (suc i) .settings) ≡ longestOf y (before s i .settings)
       stays k (inl e) = ap (longestOf y) e
       stays k (inr e) =
           let w = ap (λ (b : Bool). when b (recordAt s i .b)) (ne-eqb (recordAt s i .a) y (other k e)) in
           omega (arith, more e, w)
 
-      split : Dec (h .j ≡ i) → ((k : HasMessage s i y) → longestOf y (before s i .settings) ≡ recordAt s (k .j) .b) → longestOf y (before s (suc i) .settings) ≡ recordAt s (h .j) .b
+      split : Dec (h .j ≡ i) → ((k : HasMessage s i y) → longestOf y (before s i .settings) ≡ recordAt s (k .j) .b)
+          → longestOf y (before s (suc i) .settings) ≡ recordAt s (h .j) .b
       split (yes e) ih = here e ∙ ap (λ (j : ℕ). recordAt s j .b) (sym e)
       split (no e) ih =
           let k : HasMessage s i y = record { j = h .j; earlier = omega (arith, h .earlier, e); message = h .message; its = h .its } in
@@ -211,7 +213,8 @@ module _ (s : List ℕ) where
   unfolding lacking
   lacking-if i u m =
       let S = before s (suc i) in
-      rw (eq-eqb (S .head .kind) 9 (head-kind i ∙ m .ring)) (lacks-if (S .head .a) (S .settings) (m .y) (m .least) (omega (arith, m .most, masters i)) (has-not (suc i) (m .y) u (m .ring) (m .none)))
+      let none = has-not (suc i) (m .y) u (m .ring) (m .none) in
+      rw (eq-eqb (S .head .kind) 9 (head-kind i ∙ m .ring)) (lacks-if (S .head .a) (S .settings) (m .y) (m .least) (omega (arith, m .most, masters i)) none)
 
   -- ---- What counts for a master
 

@@ -63,7 +63,7 @@ stream-only k e = split (partOf k) e
     split (setting h t) f = never f
     split stream f = refl
 
-setting-only : (k : ℕ) → isSetting k ≡ true → isStream k ≡ false
+pub setting-only : (k : ℕ) → isSetting k ≡ true → isStream k ≡ false
 unfolding isStream isSetting
 setting-only k e = split (partOf k) e
   where

@@ -356,12 +356,13 @@ module _ (s : List ℕ) where
   -- taken by the table exactly if it passes, behind records that pass
   taken-then : (i : ℕ) → Upto s i → PassesAt s i → Taken s i
   taken-then i u p =
+      let e = none-of-both (repeated (before s i) (recordAt s i)) (isStream (recordAt s i .kind)) (lacking (before s i)) (p .first-of-master) (p .none-missing) in
       record {
         is-known = known-then s i (p .is-known);
         is-right = right-then i u (p .is-right);
         is-complete = record { ends = p .is-whole };
         is-ranged = ranged-then s i (p .is-known) (p .is-ranged);
-        right-messages = λ w. differ (wrong-if i u w) (none-of-both (repeated (before s i) (recordAt s i)) (isStream (recordAt s i .kind)) (lacking (before s i)) (p .first-of-master) (p .none-missing));
+        right-messages = λ w. differ (wrong-if i u w) e;
         in-limits = limits-then s i (p .in-limits);
         is-new = λ m. differ (met-if i u (right-then i u (p .is-right)) m) (p .is-new);
       }

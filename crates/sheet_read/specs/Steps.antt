@@ -11,6 +11,7 @@ use Rattle.sheet_record.specs.declared.Met.{Met}
 use Rattle.sheet_record.specs.Kinds.{isSetting, decode, metOf}
 use Rattle.common.specs.Checks.Verdict.{Passed}
 use Rattle.common.specs.Runs.{tab}
+use Rattle.sheet_messages.specs.Messages.{messageAt}
 use Rattle.sheet_read.specs.Sheets.{Sheet, busIn, messageOf, lacking, sheetOf, fits}
 use Rattle.sheet_read.specs.Whole.{Outcome, placeOf, before, firstStream, judge, reading, told}
 use Rattle.sheet_read.specs.Whole.Outcome.{Read, Not}
@@ -25,7 +26,7 @@ pub record Begun (s : List ℕ) (head : Record) (first : ℕ) : Type 0 where
   pub is-first : first ≡ placeOf s 1
 
 -- it and the settings behind it passed, c of them; the place behind those is `first`, and no setting that fits stands there. Place y of `messages` has the
--- longest message of master y, and `lacks` says whether one is missing
+-- longest message of master y, it tells that of any other number too, and `lacks` says whether one is missing
 pub record Opened (s : List ℕ) (head : Record) (first : ℕ) (messages : List ℕ) (lacks : Bool) : Type 0 where
   pub c : ℕ
   pub inside : (i : ℕ) → i ≤ c → placeOf s i < length s
@@ -35,6 +36,7 @@ pub record Opened (s : List ℕ) (head : Record) (first : ℕ) (messages : List 
   pub is-first : first ≡ placeOf s (suc c)
   pub ends : isSetting (getD s first 0) ≡ true → fits (before s (suc c)) (getD s first 0) ≡ false
   pub limits : messages ≡ tab (messageOf (before s (suc c))) 33
+  pub of-any : (y : ℕ) → messageAt messages y ≡ messageOf (before s (suc c)) y
   pub is-lacking : lacks ≡ lacking (before s (suc c))
 
 -- what the settings come to: one of them is refused, as reading refuses the sheet, or all passed

@@ -58,9 +58,10 @@ fn read_streams(
         let right = sheet_judge::is_stream(bus, kind);
         let met = sheet_judge::stream_at(s, at, bus);
         let stream = met.found;
+        let message = sheet_messages::message_of(messages, stream.a);
         let given = Given {
             masters: head.a,
-            message: sheet_messages::message_of(messages, stream.a),
+            message,
         };
         let ranged = sheet_judge::stream_in_range(bus, given, stream);
         let own = sheet_judge::own_no(kind, right, met.next != at, ranged);
@@ -81,11 +82,12 @@ fn read_streams(
         n += 1;
         at = met.next;
     }
+    let end = s.len();
+    if lacks {
+        return Reading::Refused { no: 20, place: end };
+    }
     if n == 0 {
-        return Reading::Refused {
-            no: if lacks { 20 } else { 6 },
-            place: s.len(),
-        };
+        return Reading::Refused { no: 6, place: end };
     }
     let accepted = Reading::Accepted {
         head,
@@ -105,7 +107,7 @@ fn read_streams(
 fn pass_edition(s: &[u8], head: Record, first: usize) -> Settings
     requires { ⌜ Begun (now s) head first ⌝ }
     requires { ⌜ (head .kind ≡ 1) × (getD (now s) first 0 ≡ 8) ⌝ }
-    ensures { λ r. ⌜ Settles (now (s .entry)) head (replicate 33 0) r ⌝ }
+    ensures { λ r. ⌜ Settles (now (s .entry)) head (replicate 33 (head .c)) r ⌝ }
 {
     let met = sheet_record::record_of(s, first, 8);
     let given = Given {
@@ -113,10 +115,17 @@ fn pass_edition(s: &[u8], head: Record, first: usize) -> Settings
         message: head.c,
     };
     let ranged = sheet_ranges::in_range_of(8, given, met.found);
-    let no = sheet_judge::own_no(8, true, met.next != first, ranged);
+    let own = sheet_judge::own_no(8, true, met.next != first, ranged);
+    if own != 0 {
+        return Settings {
+            no: own,
+            at: first,
+            lacks: false,
+        };
+    }
     Settings {
-        no,
-        at: if no == 0 { met.next } else { first },
+        no: 0,
+        at: met.next,
         lacks: false,
     }
 }
@@ -138,10 +147,10 @@ fn pass_messages(s: &[u8], head: Record, first: usize, messages: &mut [u32; 33])
         let met = sheet_record::record_of(s, at, 10);
         let message = met.found;
         let ranged = sheet_ranges::in_range_of(10, given, message);
-        let own = sheet_judge::own_no(10, true, met.next != at, ranged);
-        if own != 0 {
+        let no = sheet_judge::own_no(10, true, met.next != at, ranged);
+        if no != 0 {
             return Settings {
-                no: own,
+                no,
                 at,
                 lacks: false,
             };
@@ -209,7 +218,16 @@ fn read_behind(
         };
     }
     // One call, so that it is taken in here, where the first record's kind is known: each bus has its own loop then.
-    read_streams(s, head, settings.at, &messages, settings.lacks, counts, longests, handed)
+    read_streams(
+        s,
+        head,
+        settings.at,
+        &messages,
+        settings.lacks,
+        counts,
+        longests,
+        handed,
+    )
 }
 
 // What a whole sheet is: accepted, or refused with a number and a place. One pass reads it and gathers what the planners ask of a master: it

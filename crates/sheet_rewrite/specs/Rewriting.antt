@@ -48,8 +48,12 @@ abbrev pub rewrittenBy : List ℕ → Outcome → List ℕ
 rewrittenBy s (Read S) = rewritten s S
 rewrittenBy s (Not n p) = []
 
+-- the bytes t fit, or 13 with their length
+abbrev pub roomVerdict : ℕ → List ℕ → Verdict
+roomVerdict room t = verdict (check 13 (ltb room (length t)) (length t) ∷ [])
+
 abbrev pub rewriteVerdict : ℕ → List ℕ → Outcome → Verdict
-rewriteVerdict room s (Read S) = verdict (check 13 (ltb room (length (rewritten s S))) (length (rewritten s S)) ∷ [])
+rewriteVerdict room s (Read S) = roomVerdict room (rewritten s S)
 rewriteVerdict room s (Not n p) = Refused n p
 
 unfoldable pub rewriteAnswer : ℕ → List ℕ → Put
@@ -59,3 +63,21 @@ rewriteAnswer room s = putBy (rewriteVerdict room s (reading s)) (length (rewrit
 unfoldable pub rewriteBytes : List ℕ → List ℕ → List ℕ
 unfolding verdict reading rewritten
 rewriteBytes old s = pastedBy (rewriteVerdict (length old) s (reading s)) (over (rewrittenBy s (reading s)) old) old
+
+-- ---- Words of inner contracts
+
+-- the ring of kind 3 alone
+abbrev pub alone : Record → Sheet
+alone h = record { head = h; settings = []; streams = [] }
+
+-- the bytes of the ring h without its M, and of the longest messages of masters 1..n
+unfoldable pub frontBytes : Record → ℕ → List ℕ
+unfolding bytesOf messageRecords
+frontBytes h n = bytesOf (openRing h ∷ messageRecords (alone h) n)
+
+-- the bytes t at the front of a run, where they fit
+abbrev pub fillAnswer : ℕ → List ℕ → Put
+fillAnswer room t = putBy (roomVerdict room t) (length t)
+
+abbrev pub fillBytes : List ℕ → List ℕ → List ℕ
+fillBytes old t = pastedBy (roomVerdict (length old) t) (over t old) old

@@ -32,7 +32,7 @@ use Rattle.sheet_read.specs.Whole.{Outcome, reading}
 use Rattle.sheet_read.specs.Whole.Outcome.{Read, Not}
 use Rattle.sheet_read.proofs.Order.{stream-of}
 use Rattle.sheet_read.proofs.Known.{reading-read}
-use Rattle.sheet_read.proofs.Trips.{writable, read-right, read-written}
+use Rattle.sheet_read.proofs.Trips.{right-ranged, read-right, read-written}
 use Rattle.sheet_line.specs.Lines.{wordOf, hasWord, inBytes, sayable}
 use Rattle.sheet_line.proofs.Lines.{known-but-3}
 use Rattle.sheet_said.proofs.Guessed.{has-word, in-bytes}
@@ -69,7 +69,7 @@ module _ (s : List ℕ) (S : Sheet) (e : reading s ≡ Read S) where
   how-many-records = omega (arith, length-append (S .settings) (S .streams))
 
   pub ranged-at : (i : ℕ) → i < length (recordsIn S) → inRange greatest (getD (recordsIn S) i nothing) ≡ true
-  ranged-at i l = writable (recordsIn S) (read-right s S e) i l .1
+  ranged-at i l = right-ranged (recordsIn S) (read-right s S e) i l
 
   -- where the first record has a word, all have
   behind-word : (i : ℕ) → i < length (S .settings ++ S .streams) → hasWord (getD (S .settings ++ S .streams) i nothing .kind) ≡ true

@@ -127,7 +127,7 @@ no-text-reads s some =
     refused-2 s 0 .1 (
       0,
       record { starts = refl; inside = inside s some; before = λ j l. absurd (omega arith) },
-      λ k. true≢false (sym (sym (known-within (getD s 0 0)) ∙ rw (le-leb 1 (getD s 0 0) (k .least), le-leb (getD s 0 0) 8 (k .most))) ∙ headed-unread s some),
+      λ k. true≢false (sym (sym (known-within (getD s 0 0)) ∙ rw (le-leb 1 (getD s 0 0) (k .least), le-leb (getD s 0 0) 10 (k .most))) ∙ headed-unread s some),
     )
   where
     inside : (l : List ℕ) → (kindIn l ≡ 0 → ⊥) → 0 < length l

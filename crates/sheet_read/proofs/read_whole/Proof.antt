@@ -1,15 +1,16 @@
--- `sheet_read::read_gathering` meets its contract: the first record by itself, and what stands behind it by `read_behind`. Assumes nothing.
+-- `sheet_read::read_whole` meets its contract: the first record by itself, and what stands behind it by `read_behind`. Assumes nothing.
 use native.Mathlib.Omega.{arith}
 use borrow.Author.Needs.{needs}
-use Rattle.sheet_read.proofs.Behind.{told-empty, refused-keeps, MeetsFirst, refused-first, begun-first}
-use Rattle.sheet_read.proofs.read_gathering.Statement.{statement}
-use Rattle.sheet_read.proofs.read_gathering.Tie as tie
+use Rattle.sheet_read.proofs.Begins.{told-empty, MeetsFirst, refused-first, begun-first}
+use Rattle.sheet_read.proofs.Behind.{refused-keeps}
+use Rattle.sheet_read.proofs.read_whole.Statement.{statement}
+use Rattle.sheet_read.proofs.read_whole.Tie as tie
 
 returns : tie.Need-returns
 returns c =
     let a = c .before .before .args in
     let e = told-empty (a .s .now) (c .if1 .taken) in
-    (e, refused-keeps (a .s .now) _ _ _ (a .counts .now) (a .longests .now) e)
+    (e, refused-keeps (a .s .now) _ _ _ (a .counts .now) (a .longests .now) (a .messages .now) e)
 
 shared-slice-read-kind : tie.Need-shared-slice-read-kind
 shared-slice-read-kind c = search needs
@@ -43,16 +44,16 @@ returns-2 : tie.Need-returns-2
 returns-2 c =
     let a = c .before .before .before .before .before .before .before .before .before .before .args in
     let e = refused-first (meets (c .before)) (c .if2 .taken) in
-    (e, refused-keeps (a .s .now) _ _ _ (a .counts .now) (a .longests .now) e)
+    (e, refused-keeps (a .s .now) _ _ _ (a .counts .now) (a .longests .now) (a .messages .now) e)
 
 read-behind-requires : tie.Need-read-behind-requires
-read-behind-requires c κs = begun-first (meets (c .before .before .before)) (c .before .before .if2 .left)
+read-behind-requires c κs = begun-first (meets (c .before .before .before .before)) (c .before .before .before .if2 .left)
 
 returns-3 : tie.Need-returns-3
 returns-3 c = search needs
 
-pub read-gathering-spec : {M : Type 1} → statement M
-read-gathering-spec =
+pub read-whole-spec : {M : Type 1} → statement M
+read-whole-spec =
     tie.close
     (tie.spec
     returns

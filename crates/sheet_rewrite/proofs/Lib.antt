@@ -1,0 +1,7 @@
+pub mod Answers
+pub mod Examples
+pub mod Filled
+pub mod Messages
+pub mod Refusals
+pub mod Renewed
+pub mod Rewritten
