@@ -230,7 +230,8 @@ def other_number(rng, records):
 def no_stream(rng, records):
     """With all that stands before the streams, or with the first record alone."""
     before = [record for record in records if record[0] not in second_opinion.STREAM_KINDS[1] + (4, 6)]
-    return before[: rng.choice([1, len(before), len(before)])]
+    # where the first record was taken away, nothing else may be left
+    return before[: rng.choice([1, len(before), len(before)])] or records[:1]
 
 
 def no_head(rng, records):
