@@ -230,7 +230,8 @@ def other_number(rng, records):
 def no_stream(rng, records):
     """With all that stands before the streams, or with the first record alone."""
     before = [record for record in records if record[0] not in second_opinion.STREAM_KINDS[1] + (4, 6)]
-    return before[: rng.choice([1, len(before), len(before)])]
+    # where the first record was taken away, nothing else may be left
+    return before[: rng.choice([1, len(before), len(before)])] or records[:1]
 
 
 def no_head(rng, records):
@@ -283,6 +284,18 @@ def met_before(rng):
     return written(records_of(sheets_table.worldfip_repeated(rng)))
 
 
+def messages_wrong(rng):
+    """A ring with the longest message of a master left out, or given again."""
+    records = records_of(open_ring(rng))
+    n = records[0][1][0]
+    at = rng.randint(1, n)
+    if rng.random() < 0.5:
+        del records[at]
+    else:
+        records.insert(rng.randint(at, n) + 1, records[at])
+    return written(records)
+
+
 def over(rng):
     """The 81st stream of a master, the 801st in all or the 65th variable, and more, with a bad line among them or none."""
     more = rng.choice([1, 2, 200])
@@ -328,7 +341,7 @@ def as_bytes(rng):
 
 FAMILIES = [
     exported, exported, exported, short, short, short, short, slipped, slipped, slipped, slipped, slipped, slipped, cut_short,
-    misread, misread, misread, misread, misread, met_before, over, over, empty, noise, ring, ring, as_bytes, as_bytes, as_bytes,
+    misread, misread, misread, misread, misread, met_before, messages_wrong, over, over, empty, noise, ring, ring, as_bytes, as_bytes, as_bytes,
 ]
 
 

@@ -16,6 +16,7 @@ pub mod Watched
 pub mod WatchedBytes
 pub mod CaptureCase
 pub mod Relayed
+pub mod Rewritten
 pub mod Lines
 pub mod Shown
 pub mod JitterCase
