@@ -71,7 +71,7 @@ OF_REWRITES = ["rewrite accepted, " + one for one in ("kind 1", "kind 1 with kin
 ] + ["rewritten: " + one for one in ("accepted, PROFIBUS ring", "refused 9")]
 
 MANY_ROUNDS = 100
-# by reading: 1 to 7, but for 3 at byte 0, which is that of another bus too
+# by reading: 1 to 7 and 20, but for 3 at byte 0, which is that of another bus too
 OF_URGENTS = [
     "urgent accepted", "urgent accepted, first come refused 8", "urgent accepted, first come refused 8, by J", "urgent accepted, by edition 2",
     "urgent accepted, of %d rounds or more" % MANY_ROUNDS,
