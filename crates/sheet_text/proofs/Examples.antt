@@ -4,7 +4,7 @@ use mathlib.Core.Path.{_≡_, refl}
 use mathlib.Core.List.{List, [], _∷_}
 use Rattle.common.specs.Sums.{firstOf}
 use Rattle.text.specs.Text.{word, places, holds, widthOf, decimal}
-use Rattle.sheet_read.specs.Sheets.{sheetOf}
+use Rattle.sheet_read.specs.Sheets.{sheetOf, messageOf}
 use Rattle.sheet_write.specs.declared.Put.the-variants as put
 use Rattle.sheet_text.specs.Answers.{exportAnswer, exportBytes, importAnswer, importBytes}
 
@@ -70,5 +70,12 @@ jittered = (refl, refl)
 -- export reads first; a ring of kind 3 has no text
 kind-three : (exportAnswer 99 (3 ∷ []) ≡ put.Refused 1 0) × (exportAnswer 99 (3 ∷ 1 ∷ 0 ∷ 0 ∷ 0 ∷ 1 ∷ 0 ∷ 0 ∷ 0 ∷ 1 ∷ []) ≡ put.Refused 6 10)
     × (exportAnswer 0 (3 ∷ 1 ∷ 0 ∷ 0 ∷ 0 ∷ 1 ∷ 0 ∷ 0 ∷ 0 ∷ 1 ∷ 4 ∷ 1 ∷ 0 ∷ 0 ∷ 0 ∷ 1 ∷ 0 ∷ 0 ∷ 3 ∷ 232 ∷ []) ≡ put.Refused 2 0)
-unfolding exportAnswer exportBytes importAnswer importBytes sheetOf decimal widthOf holds firstOf places
+unfolding exportAnswer exportBytes importAnswer importBytes sheetOf messageOf decimal widthOf holds firstOf places
 kind-three = (refl, refl, refl)
+
+-- a ring whose masters each have their own, the second first; and one that lacks master 1's
+own-messages : (importAnswer 99 (word "profibus-ring,2,100 bp\nprofibus-message,2,9 bp\nprofibus-message,1,8 bp\nprofibus-stream,1,8 bp,999 bp\n") ≡ put.Next 28)
+    × (importAnswer 99 (word "profibus-ring,2,100 bp\nprofibus-message,2,9 bp\nprofibus-stream,2,8 bp,999 bp\n") ≡ put.Refused 20 12)
+    × (importAnswer 99 (word "profibus-ring,2,100 bp\n") ≡ put.Refused 20 6)
+unfolding exportAnswer exportBytes importAnswer importBytes sheetOf messageOf decimal widthOf holds firstOf places
+own-messages = (refl, refl, refl)
