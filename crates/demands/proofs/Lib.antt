@@ -17,6 +17,7 @@ pub mod WatchedBytes
 pub mod CaptureCase
 pub mod Relayed
 pub mod Rewritten
+pub mod OwnMessages
 pub mod Lines
 pub mod Shown
 pub mod JitterCase

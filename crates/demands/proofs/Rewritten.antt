@@ -27,6 +27,8 @@ use Rattle.profibus_rules.proofs.Rule.{messages-of-one}
 use Rattle.profibus_rules.proofs.Same.{same-rings}
 use Rattle.profibus_plan.specs.Planned.{planOf}
 use Rattle.profibus_plan.proofs.Same.{same-plan}
+use Rattle.report_sheet.specs.Whole.{reportOf, accepts}
+use Rattle.report_sheet.proofs.Alike.{read-alike, rings-alike}
 
 -- ---- 'mean M for every master'
 
@@ -82,6 +84,16 @@ module _ (old s : List ℕ) where
     rewritten-keeps-the-answer =
         let k = rewritten-means-the-same in
         rw (k .is-read, k .was-read) (the-same-meaning-has-the-same-answer (k .means-the-same))
+
+    -- every planner reports it in the same words
+    pub rewritten-has-the-same-report : (reportOf new ≡ reportOf s) × (accepts new ≡ accepts s)
+    rewritten-has-the-same-report =
+        let k = rewritten-means-the-same in
+        by (k .before) (k .after) (k .was-read) (k .is-read) (k .means-the-same)
+      where
+        by : (S S' : Sheet) → reading s ≡ Read S → reading new ≡ Read S' → SameMeaning S S' → (reportOf new ≡ reportOf s) × (accepts new ≡ accepts s)
+        by S S' r r' same-sheet = read-alike s new S S r r' refl
+        by S S' r r' (same-ring m) = rings-alike s new S S' r r' (m .a-ring) (m .again) rewritten-keeps-the-answer
 
     -- and the new sheet comes back equal, as every sheet does that is not of kind 3
     pub rewritten-comes-back : ((i : ℕ) → getD new i 0 < 256) → (b : List ℕ) (at : ℕ) → at + length new ≤ length b

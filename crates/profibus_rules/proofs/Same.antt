@@ -17,11 +17,22 @@ unfolding least
 least-same f g zero e = e 1
 least-same f g (suc n) e = rw (least-same f g n e, e (suc n))
 
+-- what goes by the streams alone: h, and the rotation that all bear
+module _ (R R' : Ring) (number : R' .number ≡ R .number) (stream : (i : ℕ) → R' .stream i ≡ R .stream i) where
+  pub alike-count : (k : ℕ) → count R' k ≡ count R k
+  unfolding count owns
+  alike-count k = rw number (upto-same (λ i. when (owns R' k i) 1) (λ i. when (owns R k i) 1) (R .number) (λ i lo hi. rw (stream i)))
+
+  alike-bears : (i : ℕ) → bears R' i ≡ bears R i
+  unfolding bears
+  alike-bears i = rw (stream i, alike-count (R .stream i .master))
+
+  pub alike-least : least (bears R') (R' .number) ≡ least (bears R) (R .number)
+  alike-least = least-same (bears R') (bears R) (R' .number) alike-bears ∙ ap (least (bears R)) number
+
 module _ {R R' : Ring} (same : SameRings R R') where
   pub same-count : (k : ℕ) → count R' k ≡ count R k
-  unfolding count owns
-  same-count k =
-      rw (same .number) (upto-same (λ i. when (owns R' k i) 1) (λ i. when (owns R k i) 1) (R .number) (λ i lo hi. rw (same .stream i)))
+  same-count = alike-count R R' (same .number) (same .stream)
 
   pub same-messages : messages R' ≡ messages R
   unfolding messages
@@ -31,15 +42,9 @@ module _ {R R' : Ring} (same : SameRings R R') where
   unfolding needed rotation
   same-needed ttr i = rw (same .stream i, same-count (R .stream i .master), same-messages)
 
-  same-bears : (i : ℕ) → bears R' i ≡ bears R i
-  unfolding bears
-  same-bears i = rw (same .stream i, same-count (R .stream i .master))
-
   pub same-target : target R' ≡ target R
   unfolding target
-  same-target =
-      rw same-messages
-      (ap (λ (x : ℕ). x - messages R) (least-same (bears R') (bears R) (R' .number) same-bears ∙ ap (least (bears R)) (same .number)))
+  same-target = rw same-messages (ap (λ (x : ℕ). x - messages R) (alike-least R R' (same .number) (same .stream)))
 
   same-deadline : (i : ℕ) → R' .stream i .deadline ≡ R .stream i .deadline
   same-deadline i = rw (same .stream i)

@@ -103,3 +103,13 @@ pub record SameRings (R R' : Ring) : Type 0 where
   pub longest : (y : ℕ) → 1 ≤ y → y ≤ R .masters → R' .longest y ≡ R .longest y
   pub number : R' .number ≡ R .number
   pub stream : (i : ℕ) → R' .stream i ≡ R .stream i
+
+-- ---- A ring with shorter messages
+
+-- R' has the n, L and streams of R, and no master a longer message
+pub record Shortened (R R' : Ring) : Type 0 where
+  pub masters : R' .masters ≡ R .masters
+  pub latency : R' .latency ≡ R .latency
+  pub longest : (y : ℕ) → 1 ≤ y → y ≤ R .masters → R' .longest y ≤ R .longest y
+  pub number : R' .number ≡ R .number
+  pub stream : (i : ℕ) → R' .stream i ≡ R .stream i

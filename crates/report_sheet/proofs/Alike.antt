@@ -64,6 +64,28 @@ own-bus s S e =
     let found : firstBus s ≡ busOf (getD s 0 0) = simp (lt-ltb 0 (length s) inside, p .is-known, le-ltb (length s) (0 + sizeOf (getD s 0 0)) (p .is-whole)) in
     found ∙ ap (λ (R : Record). busOf (R .kind)) (sym (ap (λ (H : Sheet). H .head) (r .says) ∙ head-at s (r .m)))
 
+-- ---- Two sheets that say the same have one report
+
+module _ (s k : List ℕ) (S S' : Sheet) (was : reading s ≡ Read S) (now : reading k ≡ Read S') where
+  -- bytes that are read as one sheet
+  pub read-alike : S' ≡ S → (reportOf k ≡ reportOf s) × (accepts k ≡ accepts s)
+  read-alike e =
+      let r : reading k ≡ reading s = now ∙ (ap Read e ∙ sym was) in
+      let b : firstBus k ≡ firstBus s = own-bus k S' now ∙ (ap busIn e ∙ sym (own-bus s S was)) in (
+        report-by k ∙ (ap (reportBy (firstBus k)) r ∙ (ap (λ (n : ℕ). reportBy n (reading s)) b ∙ sym (report-by s))),
+        accepts-by k ∙ (ap (acceptsBy (firstBus k)) r ∙ (ap (λ (n : ℕ). acceptsBy n (reading s)) b ∙ sym (accepts-by s))),
+      )
+
+  -- rings that the planner answers alike
+  pub rings-alike : busIn S ≡ 3 → busIn S' ≡ 3 → ringPlan (reading k) ≡ ringPlan (reading s) → (reportOf k ≡ reportOf s) × (accepts k ≡ accepts s)
+  unfolding reportBy acceptsBy
+  rings-alike b b' same =
+      let f : firstBus s ≡ 3 = own-bus s S was ∙ b in
+      let f' : firstBus k ≡ 3 = own-bus k S' now ∙ b' in (
+        report-by k ∙ (ap (λ (n : ℕ). reportBy n (reading k)) f' ∙ (ap ringReport same ∙ sym (report-by s ∙ ap (λ (n : ℕ). reportBy n (reading s)) f))),
+        accepts-by k ∙ (ap (λ (n : ℕ). acceptsBy n (reading k)) f' ∙ (ap ringAccepts same ∙ sym (accepts-by s ∙ ap (λ (n : ℕ). acceptsBy n (reading s)) f))),
+      )
+
 -- ---- Reading's refusals
 
 -- whichever is picked
