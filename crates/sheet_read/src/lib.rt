@@ -24,10 +24,10 @@ pub enum Reading {
 
 // What the settings of a sheet come to, which stand between its first record and its streams: the number of a refusal and its place; or 0, the place
 // just after them, and whether a master's longest message is missing.
-pub struct Settings {
-    pub no: u8,
-    pub at: usize,
-    pub lacks: bool,
+struct Settings {
+    no: u8,
+    at: usize,
+    lacks: bool,
 }
 
 // Reads the streams behind a first record and settings that passed, up to the sheet's end or the first refusal.
