@@ -28,7 +28,7 @@ use Rattle.sheet_messages.specs.Messages.{messageAt}
 use Rattle.sheet_read.specs.Sheets.{Sheet, busIn, given, messageOf, fits, lacking, repeated, overLimit, metBefore}
 use Rattle.sheet_read.specs.Whole.{placeOf, recordsOf, before, firstStream, judge, ended, reading, told, streamsOfMaster, longestOfMaster, byMaster, countsTold, longestsTold, messagesTold, Outcome}
 use Rattle.sheet_read.specs.Whole.Outcome.{Read, Not}
-use Rattle.sheet_read.specs.Steps.{Opened}
+use Rattle.sheet_read.specs.Steps.{Opened, givenTo}
 use Rattle.sheet_read.specs.declared.Reading.the-variants as answer
 use Rattle.sheet_read.proofs.Walk.{head-at, place-next, place-from}
 use Rattle.sheet_read.proofs.Cases.{Upto, passes-then, upto-more, upto-place, stops-once, ended-no-message, ended-no-stream, ended-sheet}
@@ -137,7 +137,7 @@ module _ {s : List ℕ} {head : Record} {first : ℕ} {messages : List ℕ} {lac
   bus-is = ap (λ (r : Record). busOf (r .kind)) head-is
 
   -- and what is given to a record of master y is known
-  given-is : (y : ℕ) → record { masters = head .a; message = messageAt messages y } ≡ given (before s (suc i)) y
+  given-is : (y : ℕ) → givenTo (head .a) messages y ≡ given (before s (suc i)) y
   given-is y = let e = ap (λ (r : Record). r .a) (sym head-is) in let f = b .of-any y in cc
 
 -- what the reader holds while it goes: the bus, and the state
@@ -156,13 +156,12 @@ bus-as : {s : List ℕ} {head : Record} {first bus : ℕ} {messages : List ℕ} 
 bus-as {head = head} {bus = bus} r = as-itself bus (rw (r .is-bus) (first-bus (head .kind) (head-first (r .behind)))) ∙ r .is-bus
 
 -- the reader comes to a record: what it meets, whether that is right and in range, and the refusal of it by itself
-pub record Meets (s : List ℕ) (head : Record) (first : ℕ) (messages : List ℕ) (lacks : Bool) (counts longests ids : List ℕ) (i n at bus : ℕ) (g : Given) (met : Met) (right ranged : Bool) (own : ℕ) : Type 0 where
+pub record Meets (s : List ℕ) (head : Record) (first : ℕ) (messages : List ℕ) (lacks : Bool) (counts longests ids : List ℕ) (i n at bus : ℕ) (met : Met) (right ranged : Bool) (own : ℕ) : Type 0 where
   pub reads : Reads s head first bus messages lacks counts longests ids i n at
   pub inside : at < length s
-  pub is-given : g ≡ record { masters = head .a; message = messageAt messages (met .found .a) }
   pub is-right : right ≡ isStreamOf (asBus bus) (getD s at 0)
   pub is-met : met ≡ streamMet s at (asBus bus)
-  pub is-ranged : ranged ≡ (isStreamOf (asBus bus) (met .found .kind) && inRange g (met .found))
+  pub is-ranged : ranged ≡ (isStreamOf (asBus bus) (met .found .kind) && inRange (givenTo (head .a) messages (met .found .a)) (met .found))
   pub is-own : own ≡ ownNo (known (getD s at 0)) right (not (eqb (met .next) at)) ranged
 
 -- a stream is no longest message
@@ -170,8 +169,8 @@ no-message : (k : ℕ) → isStream k ≡ true → k ≡ 10 → ⊥
 unfolding isStream partOf lineOf kinds
 no-message k e q = let z : isStream 10 ≡ true = ap isStream (sym q) ∙ e in let y : _≡_ {A = ℕ} 0 1 = cc in omega arith
 
-module _ {s : List ℕ} {head : Record} {first : ℕ} {messages : List ℕ} {lacks : Bool} {counts longests ids : List ℕ} {i n at bus : ℕ} {g : Given} {met : Met} {right ranged : Bool} {own : ℕ}
-    (m : Meets s head first messages lacks counts longests ids i n at bus g met right ranged own) where
+module _ {s : List ℕ} {head : Record} {first : ℕ} {messages : List ℕ} {lacks : Bool} {counts longests ids : List ℕ} {i n at bus : ℕ} {met : Met} {right ranged : Bool} {own : ℕ}
+    (m : Meets s head first messages lacks counts longests ids i n at bus met right ranged own) where
   here : placeOf s (suc i) < length s
   here = rw (m .reads .behind .is-at) at (m .inside)
 
@@ -191,9 +190,9 @@ module _ {s : List ℕ} {head : Record} {first : ℕ} {messages : List ℕ} {lac
   -- and then the limits are those of its master
   own-by : own ≡ ownNo (known (getD s at 0)) (isStreamOf (busOf (head .kind)) (getD s at 0)) (leb (at + sizeOf (getD s at 0)) (length s)) (inRange (given (before s (suc i)) (decode s at .a)) (decode s at))
   own-by =
-      rw (m .is-own, m .is-right, m .is-ranged, m .is-met, bus-as (m .reads)) (own-met-of s at (busOf (head .kind)) g)
+      rw (m .is-own, m .is-right, m .is-ranged, m .is-met, bus-as (m .reads)) (own-met-of s at (busOf (head .kind)) _)
       ∙ own-same (known (getD s at 0)) (isStreamOf (busOf (head .kind)) (getD s at 0)) _ _ _ _ (λ k r. refl)
-      (λ k r w. ap (λ (x : Given). inRange x (decode s at)) (m .is-given ∙ (ap (λ (x : Met). record { masters = head .a; message = messageAt messages (x .found .a) }) (met-there k r w) ∙ given-is (m .reads .behind) (decode s at .a))))
+      (λ k r w. ap (λ (x : Given). inRange x (decode s at)) (ap (λ (x : Met). givenTo (head .a) messages (x .found .a)) (met-there k r w) ∙ given-is (m .reads .behind) (decode s at .a)))
 
   own-is : own ≡ ownAt s (suc i)
   unfolding ownAt

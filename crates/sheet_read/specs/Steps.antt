@@ -7,6 +7,7 @@ use mathlib.Core.Bool.{Bool, true, false, cond}
 use lib.ListN.{length, getD}
 use lib.Dec.{eqb}
 use Rattle.sheet_record.specs.declared.Record.{Record}
+use Rattle.sheet_record.specs.declared.Given.{Given}
 use Rattle.sheet_record.specs.declared.Met.{Met}
 use Rattle.sheet_record.specs.Kinds.{isSetting, decode, metOf}
 use Rattle.common.specs.Checks.Verdict.{Passed}
@@ -38,6 +39,10 @@ pub record Opened (s : List ℕ) (head : Record) (first : ℕ) (messages : List 
   pub limits : messages ≡ tab (messageOf (before s (suc c))) 33
   pub of-any : (y : ℕ) → messageAt messages y ≡ messageOf (before s (suc c)) y
   pub is-lacking : lacks ≡ lacking (before s (suc c))
+
+-- what is given to a stream of master y: how many masters there are, and the longest message that counts for it
+abbrev pub givenTo : ℕ → List ℕ → ℕ → Given
+givenTo masters messages y = record { masters = masters; message = messageAt messages y }
 
 -- what the settings come to: one of them is refused, as reading refuses the sheet, or all passed
 pub record Settles (s : List ℕ) (head : Record) (messages : List ℕ) (r : Settings) : Type 0 where

@@ -35,18 +35,15 @@ is-stream-requires c κs = search needs
 stream-at-requires : tie.Need-stream-at-requires Inv-loop μ-loop
 stream-at-requires c κs = search needs
 
-message-of-requires : tie.Need-message-of-requires Inv-loop μ-loop
-message-of-requires c κs = search needs
-
-stream-in-range-requires : tie.Need-stream-in-range-requires Inv-loop μ-loop
-stream-in-range-requires c κs = search needs
+stream-ranged-requires : tie.Need-stream-ranged-requires Inv-loop μ-loop
+stream-ranged-requires c κs = search needs
 
 own-no-requires : tie.Need-own-no-requires Inv-loop μ-loop
 own-no-requires c κs = search needs
 
 -- what is met behind the streams so far
 abbrev so-far : tie.After-own-no Inv-loop μ-loop → tie.At-loop Inv-loop μ-loop
-so-far c = c .before .before .before .before .before .before .before .before .before
+so-far c = c .before .before .before .before .before .before .before .before
 
 abbrev start : tie.After-own-no Inv-loop μ-loop → tie.Start Inv-loop μ-loop
 start c = so-far c .before .before .before
@@ -54,16 +51,14 @@ start c = so-far c .before .before .before
 meets : (c : tie.After-own-no Inv-loop μ-loop)
     → Meets (start c .args .s .now) (start c .args .head) (start c .args .first) (start c .args .messages .now) (start c .args .lacks)
     (so-far c .loop .counts) (so-far c .loop .longests) (so-far c .loop .ids) (so-far c .loop .inv .i) (so-far c .loop .n) (so-far c .loop .at) (so-far c .before .bus-of .result)
-    (record { masters = start c .args .head .a; message = c .before .before .before .message-of .result })
-    (c .before .before .before .before .before .stream-at .result) (c .before .before .before .before .before .before .is-stream .result) (c .before .before .stream-in-range .result) (c .own-no .result)
+    (c .before .before .before .before .stream-at .result) (c .before .before .before .before .before .is-stream .result) (c .before .before .stream-ranged .result) (c .own-no .result)
 meets c =
     record {
       reads = so-far c .loop .inv .reads;
-      inside = c .before .before .before .before .before .before .before .before .loop-test .taken;
-      is-given = let e = c .before .before .before .message-of .ensures in cc;
-      is-right = c .before .before .before .before .before .before .is-stream .ensures;
-      is-met = c .before .before .before .before .before .stream-at .ensures;
-      is-ranged = c .before .before .stream-in-range .ensures;
+      inside = c .before .before .before .before .before .before .before .loop-test .taken;
+      is-right = c .before .before .before .before .before .is-stream .ensures;
+      is-met = c .before .before .before .before .stream-at .ensures;
+      is-ranged = c .before .before .stream-ranged .ensures;
       is-own = c .own-no .ensures;
     }
 
@@ -178,8 +173,7 @@ read-streams-spec =
     shared-slice-read-kind
     is-stream-requires
     stream-at-requires
-    message-of-requires
-    stream-in-range-requires
+    stream-ranged-requires
     own-no-requires
     returns
     returns-2
