@@ -2,7 +2,7 @@
 -- under way and the front of the sheet, each in a lent run. Words of the contracts of the steps; what they come to is in proofs/Whole. Assumes nothing.
 use Prim.Native.Nat.{ℕ, suc, _+_, min}
 use mathlib.Core.List.{List, [], _∷_}
-use mathlib.Core.Bool.{Bool, true, false, cond, _||_}
+use mathlib.Core.Bool.{true, false, cond, _||_}
 use lib.ListN.{length, take, set}
 use lib.Dec.{ltb, eqb}
 use Rattle.sheet_record.specs.declared.Record.{Record}

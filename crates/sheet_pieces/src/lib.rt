@@ -9,7 +9,7 @@ ghost use Prim.Native.Nat.{_≤_};
 ghost use lib.ListN.{length};
 ghost use Rattle.text.specs.Text.{Zeros};
 ghost use Rattle.sheet_pieces.specs.Steps;
-ghost use Rattle.sheet_pieces.specs.Steps.{State, started, room, holds, heldMore, frontWith, keptMore, sheetMore, nextLine, lineEnds, stepped, steps, endedAs};
+ghost use Rattle.sheet_pieces.specs.Steps.{started, room, heldMore, frontWith, keptMore, sheetMore, nextLine, stepped, steps, endedAs};
 
 // So many bytes decide how a sheet is read.
 const ENOUGH: usize = 12_820;

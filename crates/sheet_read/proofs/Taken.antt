@@ -9,9 +9,9 @@ use native.Mathlib.Omega.{arith}
 use lib.ListN.{length, getD}
 use Rattle.sheet_record.specs.declared.Met.{Met}
 use Rattle.sheet_record.specs.declared.Record.{Record}
-use Rattle.sheet_record.specs.Kinds.{pnet, busOf, isStreamOf, decode, nothing, metAt, streamMet}
+use Rattle.sheet_record.specs.Kinds.{pnet, busOf, isStreamOf, nothing, metAt, streamMet}
 use Rattle.sheet_record.proofs.Records.{stream-same}
-use Rattle.sheet_read.specs.Sheets.{Sheet, busIn, editionOf}
+use Rattle.sheet_read.specs.Sheets.{editionOf}
 use Rattle.sheet_read.specs.Whole.{Outcome, placeOf, firstStream, reading, told}
 use Rattle.sheet_read.specs.Steps.{sheetIn, streamPlace, editionAt, Ready}
 use Rattle.sheet_read.specs.Whole.Outcome.{Read, Not}

@@ -36,6 +36,34 @@ module _ (such : ℕ → Bool) where
   unfolding having
   not-having r e = rw e
 
+-- ---- Records that come one by one
+
+-- of which the first n are xs n
+module _ (xs : ℕ → List Record) (x : ℕ → Record) (none : xs 0 ≡ []) (more : (n : ℕ) → xs (suc n) ≡ xs n ++ (x n ∷ [])) where
+  pub grown-length : (n : ℕ) → length (xs n) ≡ n
+  grown-length zero = ap length none
+  grown-length (suc n) = ap length (more n) ∙ simp (length-append, grown-length n) (add-one n)
+
+  pub grown-at : (n i : ℕ) → i < n → getD (xs n) i nothing ≡ x i
+  grown-at zero i h = absurd (not-suc-le-zero h)
+  grown-at (suc n) i h = ap (λ (rs : List Record). getD rs i nothing) (more n) ∙ split (ℕ-discrete i n) (grown-at n i)
+    where
+      split : Dec (i ≡ n) → (i < n → getD (xs n) i nothing ≡ x i) → getD (xs n ++ (x n ∷ [])) i nothing ≡ x i
+      split (yes e) ih = rw e (getD-at (xs n) (x n) [] nothing n (grown-length n))
+      split (no e) ih =
+          let l : i < n = omega (arith, e) in
+          List·getD-append (xs n) (x n ∷ []) nothing i (omega (arith, grown-length n)) ∙ ih l
+
+  pub grown-front : (n i : ℕ) → i ≤ n → take i (xs n) ≡ xs i
+  grown-front zero i h = let e : i ≡ 0 = omega arith in rw (e, none)
+  grown-front (suc n) i h = split (ℕ-discrete i (suc n)) (grown-front n i)
+    where
+      split : Dec (i ≡ suc n) → (i ≤ n → take i (xs n) ≡ xs i) → take i (xs (suc n)) ≡ xs i
+      split (yes e) ih = rw e (take-all (suc n) (xs (suc n)) (omega (arith, grown-length (suc n))))
+      split (no e) ih =
+          let l : i ≤ n = omega (arith, e) in
+          ap (take i) (more n) ∙ take-append-le i (xs n) (x n ∷ []) (omega (arith, grown-length n)) ∙ ih l
+
 -- ---- Places
 
 module _ (s : List ℕ) where
@@ -62,34 +90,16 @@ module _ (s : List ℕ) where
 
   pub length-records : (n : ℕ) → length (recordsOf s n) ≡ n
   unfolding recordsOf
-  length-records zero = refl
-  length-records (suc n) = simp (length-append, length-records n) (add-one n)
+  length-records = grown-length (recordsOf s) (λ n. decode s (placeOf s n)) refl (λ n. refl)
 
   pub record-at : (n i : ℕ) → i < n → getD (recordsOf s n) i nothing ≡ decode s (placeOf s i)
   unfolding recordsOf
-  record-at zero i h = absurd (not-suc-le-zero h)
-  record-at (suc n) i h = split (ℕ-discrete i n) (record-at n i)
-    where
-      split : Dec (i ≡ n) → (i < n → getD (recordsOf s n) i nothing ≡ decode s (placeOf s i))
-          → getD (recordsOf s n ++ (decode s (placeOf s n) ∷ [])) i nothing ≡ decode s (placeOf s i)
-      split (yes e) ih = rw e (getD-at (recordsOf s n) (decode s (placeOf s n)) [] nothing n (length-records n))
-      split (no e) ih =
-          let l : i < n = omega (arith, e) in
-          let l' : i < length (recordsOf s n) = rw (length-records n) l in
-          List·getD-append (recordsOf s n) (decode s (placeOf s n) ∷ []) nothing i l' ∙ ih l
+  record-at = grown-at (recordsOf s) (λ n. decode s (placeOf s n)) refl (λ n. refl)
 
   -- the records so far are the front of the later ones
   pub records-front : (n i : ℕ) → i ≤ n → take i (recordsOf s n) ≡ recordsOf s i
   unfolding recordsOf
-  records-front zero zero h = refl
-  records-front zero (suc i) h = absurd (not-suc-le-zero h)
-  records-front (suc n) i h = split (ℕ-discrete i (suc n)) (records-front n i)
-    where
-      split : Dec (i ≡ suc n) → (i ≤ n → take i (recordsOf s n) ≡ recordsOf s i) → take i (recordsOf s (suc n)) ≡ recordsOf s i
-      split (yes e) ih = rw e (take-all (suc n) (recordsOf s (suc n)) (omega (arith, length-records (suc n))))
-      split (no e) ih =
-          let l : i ≤ n = omega (arith, e) in
-          take-append-le i (recordsOf s n) (decode s (placeOf s n) ∷ []) (omega (arith, length-records n)) ∙ ih l
+  records-front = grown-front (recordsOf s) (λ n. decode s (placeOf s n)) refl (λ n. refl)
 
   -- the first record stands at 0, whatever comes behind it
   pub head-at : (n : ℕ) → before s (suc n) .head ≡ decode s 0

@@ -27,10 +27,10 @@ pub enum Reading {
 
 // What the settings of a sheet come to, which stand between its first record and its streams: the number of a refusal and its place; or 0, the place
 // just after them, and whether a master's longest message is missing.
-pub struct Settings {
-    pub no: u8,
-    pub at: usize,
-    pub lacks: bool,
+struct Settings {
+    no: u8,
+    at: usize,
+    lacks: bool,
 }
 
 // A stream of a bus with every field in its range, by how many masters there are and what longest message counts for each. Only a ring asks for that, and with

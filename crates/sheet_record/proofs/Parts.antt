@@ -11,7 +11,7 @@ use Rattle.sheet_record.specs.Kinds.{kinds, lineOf, known, fieldsOf, bus
 use Rattle.sheet_record.specs.Kinds.Part.{setting}
 use Rattle.sheet_record.specs.Kinds.Times.{once, often}
 use Rattle.sheet_record.specs.Widths.{widthAt, Wide}
-use Rattle.sheet_record.proofs.Tables.{both-true, wide}
+use Rattle.sheet_record.proofs.Tables.{wide}
 
 -- ---- Kind by kind
 

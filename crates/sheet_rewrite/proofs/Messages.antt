@@ -1,20 +1,17 @@
 -- Page 02, Ask 8: the records of kind 10 that stand for the M of a ring of kind 3, one for each of masters 1..n, ascending. Assumes nothing.
 use Prim.Native.Nat.{ℕ, zero, suc, _+_, _≤_, _<_, max}
 use mathlib.Core.Path.{_≡_, refl, ap, _∙_}
-use mathlib.Core.List.{[], _∷_, _++_}
+use mathlib.Core.List.{[], _∷_}
 use mathlib.Core.Bool.{true, false}
-use native.Mathlib.Nat.{not-suc-le-zero}
-use native.Mathlib.Numerals.{add-one}
 use native.Mathlib.Omega.{arith}
 use native.Mathlib.Decide.{ℕ-discrete}
 use borrow.Author.Tests.{eq-eqb, ne-eqb}
 use lib.Dec.{eqb}
-use lib.ListN.{length, getD, take, length-append, List·getD-append}
-use lib.Seq.{getD-at, take-append-le, take-all}
+use lib.ListN.{length, getD, take}
 use Rattle.common.specs.Sums.{when}
 use Rattle.sheet_record.specs.Kinds.{kinds, lineOf, partOf, isSetting, isStream, nothing}
 use Rattle.sheet_read.specs.Sheets.{Sheet, messageOf, having, countOf, longestOf, lacksOf}
-use Rattle.sheet_read.proofs.Walk.{having-append, having-it, not-having}
+use Rattle.sheet_read.proofs.Walk.{having-append, having-it, not-having, grown-length, grown-at, grown-front}
 use Rattle.sheet_read.proofs.Counts.{count-more, longest-more}
 use Rattle.sheet_rewrite.specs.Rewriting.{messageRecord, messageRecords}
 
@@ -23,32 +20,15 @@ module _ (S : Sheet) where
 
   pub length-messages : (n : ℕ) → length (messageRecords S n) ≡ n
   unfolding messageRecords
-  length-messages zero = refl
-  length-messages (suc n) = simp (length-append, length-messages n) (add-one n)
+  length-messages = grown-length (messageRecords S) (λ n. messageRecord S (suc n)) refl (λ n. refl)
 
   pub message-at : (n i : ℕ) → i < n → getD (messageRecords S n) i nothing ≡ messageRecord S (suc i)
   unfolding messageRecords
-  message-at zero i h = absurd (not-suc-le-zero h)
-  message-at (suc n) i h = split (ℕ-discrete i n) (message-at n i)
-    where
-      split : Dec (i ≡ n) → (i < n → getD (messageRecords S n) i nothing ≡ messageRecord S (suc i))
-          → getD (messageRecords S n ++ (messageRecord S (suc n) ∷ [])) i nothing ≡ messageRecord S (suc i)
-      split (yes e) ih = rw e (getD-at (messageRecords S n) (messageRecord S (suc n)) [] nothing n (length-messages n))
-      split (no e) ih =
-          let l : i < n = omega (arith, e) in
-          List·getD-append (messageRecords S n) (messageRecord S (suc n) ∷ []) nothing i (omega (arith, length-messages n)) ∙ ih l
+  message-at = grown-at (messageRecords S) (λ n. messageRecord S (suc n)) refl (λ n. refl)
 
   pub messages-front : (n i : ℕ) → i ≤ n → take i (messageRecords S n) ≡ messageRecords S i
   unfolding messageRecords
-  messages-front zero zero h = refl
-  messages-front zero (suc i) h = absurd (not-suc-le-zero h)
-  messages-front (suc n) i h = split (ℕ-discrete i (suc n)) (messages-front n i)
-    where
-      split : Dec (i ≡ suc n) → (i ≤ n → take i (messageRecords S n) ≡ messageRecords S i) → take i (messageRecords S (suc n)) ≡ messageRecords S i
-      split (yes e) ih = rw e (take-all (suc n) (messageRecords S (suc n)) (omega (arith, length-messages (suc n))))
-      split (no e) ih =
-          let l : i ≤ n = omega (arith, e) in
-          take-append-le i (messageRecords S n) (messageRecord S (suc n) ∷ []) (omega (arith, length-messages n)) ∙ ih l
+  messages-front = grown-front (messageRecords S) (λ n. messageRecord S (suc n)) refl (λ n. refl)
 
   -- ---- Each is a setting, and none a stream
 

@@ -2,7 +2,7 @@
 -- record is then held against it, byte by byte, so nothing is taken but what export writes. Assumes nothing.
 use Prim.Native.Nat.{ℕ, suc, _+_, _-_, _*_, min}
 use mathlib.Core.List.{List, [], _∷_, _++_}
-use mathlib.Core.Bool.{Bool, true, false, cond, not, _&&_}
+use mathlib.Core.Bool.{Bool, true, false, cond, _&&_}
 use lib.Dec.{eqb}
 use Rattle.text.specs.Text.{word}
 use Rattle.text_entry.specs.Entered.{isDigit}

@@ -1,6 +1,6 @@
 -- Page 02, 'Ask 14': how long the text of an accepted sheet is at most, and what export and import answer. Assumes nothing.
 use Prim.Native.Nat.{ℕ, suc, _*_, _^_, _≤_, _<_}
-use mathlib.Core.Path.{_≡_, refl, ap}
+use mathlib.Core.Path.{_≡_, refl}
 use mathlib.Core.List.{List, [], _∷_}
 use mathlib.Core.Bool.{true}
 use native.Mathlib.Nat.{pow-le-pow-right, suc-mul}

@@ -2,7 +2,7 @@
 -- for a sheet whose first record has no word, which is one of kind 3, and 13 with the text's length; import's are 23, those of reading, and 13
 -- with the sheet's length. Assumes nothing.
 use Prim.Native.Nat.{ℕ, suc, _+_, _*_}
-use mathlib.Core.List.{List, [], _∷_, _++_}
+use mathlib.Core.List.{List, [], _∷_}
 use mathlib.Core.Path.{_≡_}
 use mathlib.Core.Bool.{not}
 use lib.ListN.{length, take}

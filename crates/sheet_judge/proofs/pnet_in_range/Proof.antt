@@ -1,12 +1,8 @@
 -- `sheet_judge::pnet_in_range` meets its contract: of the two kinds of P-NET streams, each has its own ranges. Assumes nothing.
-use mathlib.Core.Path.{_≡_, ap, sym, _∙_}
-use mathlib.Core.Bool.{Bool, _&&_, or-false}
-use Prim.Native.Nat.{ℕ}
-use lib.Dec.{eqb}
-use native.Mathlib.Omega.{arith}
+use mathlib.Core.Path.{ap, sym, _∙_}
+use mathlib.Core.Bool.{Bool, _&&_}
 use borrow.Author.Needs.{needs}
-use borrow.Author.Tests.{ne-eqb}
-use Rattle.sheet_record.specs.Kinds.{isStreamOf, inRange}
+use Rattle.sheet_record.specs.Kinds.{inRange}
 use Rattle.sheet_record.proofs.Parts.{pnet-with-jitter, pnet-without}
 use Rattle.sheet_judge.proofs.pnet_in_range.Statement.{statement}
 use Rattle.sheet_judge.proofs.pnet_in_range.Tie as tie

@@ -1,7 +1,6 @@
 -- `sheet_record::pnet_stream_at` meets its contract: the streams of P-NET are of two kinds, whose fields stand alike but for J. Assumes nothing.
 use mathlib.Core.Path.{_≡_, sym, _∙_}
-use mathlib.Core.Bool.{Bool, true, false}
-use native.Mathlib.Omega.{arith}
+use mathlib.Core.Bool.{true}
 use borrow.Author.Needs.{needs}
 use lib.ListN.{getD}
 use Rattle.sheet_record.specs.Kinds.{isStreamOf}

@@ -4,9 +4,8 @@ use mathlib.Core.Bool.{true}
 use mathlib.Core.Logic.{_⊎_, inl, inr}
 use Prim.Native.Nat.{ℕ}
 use borrow.Author.Tests.{not-true, not-false}
-use Rattle.sheet_record.specs.Kinds.{kinds, lineOf, fieldsOf, known, written, inRange}
+use Rattle.sheet_record.specs.Kinds.{kinds, lineOf, fieldsOf, known, written}
 use Rattle.sheet_record.specs.Widths.{widthAt, Wide}
-use Rattle.sheet_write.specs.Writing.{greatest}
 use Rattle.sheet_record.proofs.Tables.{wide}
 use Rattle.sheet_write.proofs.Writing.{unknown-free, NoneIn, ring-or-message}
 use borrow.Author.Needs.{needs}

@@ -1,9 +1,8 @@
 -- `sheet_write::put_record` meets its contract: 4 for a kind that the writer puts, else what `put_free` answers. Assumes nothing.
-use mathlib.Core.Path.{_≡_, sym, ap, _∙_}
+use mathlib.Core.Path.{_≡_}
 use mathlib.Core.Bool.{Bool, not, _&&_}
 use borrow.Author.Needs.{needs}
-use Rattle.sheet_record.specs.Kinds.{written, inRange}
-use Rattle.sheet_write.specs.Writing.{greatest}
+use Rattle.sheet_record.specs.Kinds.{written}
 use Rattle.sheet_write.proofs.Writing.{range-written, free-written}
 use Rattle.sheet_write.proofs.put_record.Statement.{statement}
 use Rattle.sheet_write.proofs.put_record.Tie as tie
