@@ -8,9 +8,9 @@ use Rattle.common.specs.Checks.{Verdict}
 use Rattle.common.specs.Checks.Verdict.{Passed, Refused}
 use Rattle.common.specs.Runs.{filled}
 use Rattle.common.proofs.Runs.{filled-same, filled-at}
-use Rattle.sheet_read.specs.Sheets.{Sheet, mastersOf}
-use Rattle.sheet_read.specs.Whole.{Outcome, orElse}
-use Rattle.sheet_read.specs.Whole.Outcome.{Read, Not}
+use Rattle.sheet_rules.specs.Sheets.{Sheet, mastersOf}
+use Rattle.sheet_rules.specs.Whole.{Outcome, orElse}
+use Rattle.sheet_rules.specs.Whole.Outcome.{Read, Not}
 use Rattle.pnet_rules.specs.Segment.{Segment, segmentOf}
 use Rattle.pnet_plan.specs.Planned.{planOf, atPlace}
 use Rattle.pnet_plan.specs.declared.answer.Plan.the-variants as answer

@@ -2,8 +2,8 @@
 use Prim.Native.Nat.{ℕ, min}
 use mathlib.Core.List.{List}
 use lib.ListN.{length}
-use Rattle.sheet_read.specs.Whole.{Outcome, orElse}
-use Rattle.sheet_read.specs.Whole.Outcome.{Read, Not}
+use Rattle.sheet_rules.specs.Whole.{Outcome, orElse}
+use Rattle.sheet_rules.specs.Whole.Outcome.{Read, Not}
 use Rattle.pnet_rules.specs.Segment.{Segment}
 use Rattle.pnet_bounds.specs.Bounded.{bounded, boundOf}
 use Rattle.capture_log.specs.Log.{fresh, left, answered, largest, above}

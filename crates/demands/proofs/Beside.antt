@@ -11,9 +11,9 @@ use native.Mathlib.Omega.{arith}
 use lib.ListN.{length, getD, replicate, length-replicate}
 use Rattle.common.specs.Checks.Verdict.{Passed}
 use Rattle.common.proofs.Runs.{zero-at, filled-at}
-use Rattle.sheet_read.specs.Sheets.{Sheet}
-use Rattle.sheet_read.specs.Whole.{Outcome}
-use Rattle.sheet_read.specs.Whole.Outcome.{Read}
+use Rattle.sheet_rules.specs.Sheets.{Sheet}
+use Rattle.sheet_rules.specs.Whole.{Outcome}
+use Rattle.sheet_rules.specs.Whole.Outcome.{Read}
 use Rattle.pnet_rules.specs.Segment.{Segment, segmentOf}
 use Rattle.pnet_rules.specs.Limits.{Declared}
 use Rattle.pnet_plan.specs.Planned.{atPlace}

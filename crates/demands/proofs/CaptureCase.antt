@@ -8,7 +8,7 @@ use native.Mathlib.Omega.{arith}
 use lib.ListN.{length}
 use Rattle.common.specs.Checks.Verdict.{Passed}
 use Rattle.sheet_record.specs.Numbers.{be}
-use Rattle.sheet_read.specs.Whole.Outcome.{Read}
+use Rattle.sheet_rules.specs.Whole.Outcome.{Read}
 use Rattle.pnet_rules.specs.Segment.{segmentOf, streamAt, bound}
 use Rattle.pnet_run.specs.Run.{Belongs, Request, request, answer, put, join, toward, on-way, next, Run, start, complete, arrive, serve}
 use Rattle.pnet_run.specs.Promise.{none, and, Spaced}

@@ -5,8 +5,8 @@ use mathlib.Core.Path.{_≡_}
 use mathlib.Core.List.{List}
 use native.Mathlib.Omega.{arith}
 use lib.ListN.{length}
-use Rattle.sheet_read.specs.Sheets.{Sheet}
-use Rattle.sheet_read.specs.Whole.Outcome.{Read}
+use Rattle.sheet_rules.specs.Sheets.{Sheet}
+use Rattle.sheet_rules.specs.Whole.Outcome.{Read}
 use Rattle.units.specs.Units.{bp}
 use Rattle.pnet_rules.specs.Segment.{segmentOf}
 use Rattle.pnet_rules.specs.Refined.{refined}

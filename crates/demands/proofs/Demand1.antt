@@ -12,13 +12,14 @@ use Rattle.sheet_record.specs.declared.Record.{Record}
 use Rattle.sheet_write.specs.declared.Put.the-variants as put
 use Rattle.sheet_write.specs.Writing.{putAnswer, putBytes}
 use Rattle.sheet_write.proofs.Writing.{refused-keeps}
-use Rattle.sheet_read.specs.Sheets.{Sheet}
-use Rattle.sheet_read.specs.Whole.{Outcome, reading, countsTold}
-use Rattle.sheet_read.specs.Whole.Outcome.{Read, Not}
-use Rattle.sheet_read.specs.Refusals.{Given}
-use Rattle.sheet_read.specs.Lengths.{enough}
-use Rattle.sheet_read.proofs.Refusals.{refused-exactly}
-use Rattle.sheet_read.proofs.Lengths.{reading-prefix}
+use Rattle.sheet_rules.specs.Sheets.{Sheet}
+use Rattle.sheet_rules.specs.Whole.{Outcome, reading}
+use Rattle.sheet_read.specs.Told.{countsTold}
+use Rattle.sheet_rules.specs.Whole.Outcome.{Read, Not}
+use Rattle.sheet_rules.specs.Refusals.{Given}
+use Rattle.sheet_rules.specs.Lengths.{enough}
+use Rattle.sheet_rules.proofs.Refusals.{refused-exactly}
+use Rattle.sheet_rules.proofs.Lengths.{reading-prefix}
 use Rattle.pnet_rules.specs.Segment.{Segment}
 use Rattle.pnet_plan.specs.Planned.{planned, runOf}
 use Rattle.worldfip_figures.specs.Declares.{trafficOf}

@@ -11,13 +11,13 @@ use Rattle.sheet_record.specs.Numbers.{pasted}
 use Rattle.sheet_record.specs.Kinds.{nothing}
 use Rattle.sheet_write.specs.declared.Put.the-variants as put
 use Rattle.sheet_write.specs.Writing.{putAnswer}
-use Rattle.sheet_read.specs.Sheets.{Sheet, sheetOf}
-use Rattle.sheet_read.specs.Whole.{reading}
-use Rattle.sheet_read.specs.Whole.Outcome.{Read, Not}
-use Rattle.sheet_read.specs.Records.{recordsIn, bytesOf, Right, Writes}
-use Rattle.sheet_read.proofs.Known.{reading-read}
-use Rattle.sheet_read.proofs.Trips.{same-records-same-bytes}
-use Rattle.sheet_read.proofs.Writes.{right-writes, old-ring-refused, writes-read, read-writes, read-writes-alone}
+use Rattle.sheet_rules.specs.Sheets.{Sheet, sheetOf}
+use Rattle.sheet_rules.specs.Whole.{reading}
+use Rattle.sheet_rules.specs.Whole.Outcome.{Read, Not}
+use Rattle.sheet_rules.specs.Records.{recordsIn, bytesOf, Right, Writes}
+use Rattle.sheet_rules.proofs.Known.{reading-read}
+use Rattle.sheet_rules.proofs.Trips.{same-records-same-bytes}
+use Rattle.sheet_rules.proofs.Writes.{right-writes, old-ring-refused, writes-read, read-writes, read-writes-alone}
 use Rattle.pnet_rules.specs.Segment.{Segment, count, turn, bound}
 use Rattle.pnet_rules.specs.Search.{valueFrom}
 use Rattle.pnet_rules.specs.Refined.{right, rounds, refined}

@@ -12,9 +12,9 @@ use lib.ListN.{length, getD, drop}
 use lib.Seq.{getD-append-add, getD-drop, ext-getD}
 use Rattle.common.specs.Runs.{tab, filled}
 use Rattle.common.proofs.Runs.{length-tab, length-filled, filled-at}
-use Rattle.sheet_read.specs.Sheets.{Sheet, mastersOf}
-use Rattle.sheet_read.specs.Whole.{Outcome}
-use Rattle.sheet_read.specs.Whole.Outcome.{Read, Not}
+use Rattle.sheet_rules.specs.Sheets.{Sheet, mastersOf}
+use Rattle.sheet_rules.specs.Whole.{Outcome}
+use Rattle.sheet_rules.specs.Whole.Outcome.{Read, Not}
 use Rattle.pnet_rules.specs.Segment.{Segment, segmentOf, turn, bound}
 use Rattle.pnet_rules.specs.Search.{valueFrom}
 use Rattle.pnet_rules.specs.Refined.{right, refined, rounds}

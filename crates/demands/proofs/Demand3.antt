@@ -9,9 +9,9 @@ use native.Mathlib.Omega.{arith}
 use borrow.Author.Tests.{le-ltb}
 use lib.ListN.{length, getD}
 use Rattle.common.proofs.Runs.{filled-at}
-use Rattle.sheet_read.specs.Sheets.{Sheet}
-use Rattle.sheet_read.specs.Whole.Outcome.{Read}
-use Rattle.sheet_read.proofs.Known.{reading-read}
+use Rattle.sheet_rules.specs.Sheets.{Sheet}
+use Rattle.sheet_rules.specs.Whole.Outcome.{Read}
+use Rattle.sheet_rules.proofs.Known.{reading-read}
 use Rattle.units.specs.Units.{bp}
 use Rattle.units.specs.declared.BitPeriods.{BitPeriods}
 use Rattle.pnet_rules.specs.Segment.{Segment, segmentOf, count, bound, late}

@@ -9,8 +9,8 @@ use native.Mathlib.Omega.{arith}
 use lib.ListN.{length}
 use Rattle.common.specs.Sums.{up}
 use Rattle.sheet_record.specs.declared.Record.{Record}
-use Rattle.sheet_read.specs.Sheets.{Sheet}
-use Rattle.sheet_read.specs.Whole.Outcome.{Read}
+use Rattle.sheet_rules.specs.Sheets.{Sheet}
+use Rattle.sheet_rules.specs.Whole.Outcome.{Read}
 use Rattle.units.specs.Units.{bp, ns, nanosUp}
 use Rattle.units.specs.declared.BitPeriods.{BitPeriods}
 use Rattle.pnet_rules.specs.Segment.{Segment, segmentOf, count, bound}

@@ -7,10 +7,10 @@ use native.Mathlib.Omega.{arith}
 use Rattle.units.specs.Units.{ringBp}
 use Rattle.units.specs.declared.RingPeriods.{RingPeriods}
 use Rattle.sheet_record.specs.Kinds.{profibus}
-use Rattle.sheet_read.specs.Sheets.{Sheet, busIn, mastersOf, messageOf}
-use Rattle.sheet_read.specs.Whole.{reading}
-use Rattle.sheet_read.specs.Whole.Outcome.{Read}
-use Rattle.sheet_read.proofs.Known.{reading-read}
+use Rattle.sheet_rules.specs.Sheets.{Sheet, busIn, mastersOf, messageOf}
+use Rattle.sheet_rules.specs.Whole.{reading}
+use Rattle.sheet_rules.specs.Whole.Outcome.{Read}
+use Rattle.sheet_rules.proofs.Known.{reading-read}
 use Rattle.profibus_rules.specs.Ring.{ringOf, messages, Shortened}
 use Rattle.profibus_rules.specs.Target.{Limited, target, firstFailing}
 use Rattle.profibus_rules.proofs.Declared.{declared}

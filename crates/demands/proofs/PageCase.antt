@@ -14,9 +14,9 @@ use lib.ListN.{length, getD}
 use Rattle.sheet_record.specs.declared.Record.{Record}
 use Rattle.sheet_record.specs.Kinds.{nothing}
 use Rattle.sheet_record.proofs.Tables.{both-true}
-use Rattle.sheet_read.specs.Sheets.{Sheet}
-use Rattle.sheet_read.specs.Whole.Outcome.{Read}
-use Rattle.sheet_read.specs.Records.{recordsIn, bytesOf}
+use Rattle.sheet_rules.specs.Sheets.{Sheet}
+use Rattle.sheet_rules.specs.Whole.Outcome.{Read}
+use Rattle.sheet_rules.specs.Records.{recordsIn, bytesOf}
 use Rattle.units.specs.Units.{bp}
 use Rattle.units.specs.declared.BitPeriods.{BitPeriods}
 use Rattle.pnet_rules.specs.Segment.{Segment, segmentOf, count, bound}

@@ -11,9 +11,9 @@ use borrow.Author.Tests.{leb-false, eqb-true, not-false}
 use lib.Dec.{ltb}
 use lib.ListN.{length}
 use Rattle.common.proofs.Checks.{Clear, none, and}
-use Rattle.sheet_read.specs.Sheets.{Sheet, busIn}
-use Rattle.sheet_read.specs.Whole.{Outcome, reading}
-use Rattle.sheet_read.specs.Whole.Outcome.{Read}
+use Rattle.sheet_rules.specs.Sheets.{Sheet, busIn}
+use Rattle.sheet_rules.specs.Whole.{Outcome, reading}
+use Rattle.sheet_rules.specs.Whole.Outcome.{Read}
 use Rattle.pnet_rules.specs.Segment.{Segment, segmentOf}
 use Rattle.pnet_plan.specs.Planned.{firstLate, segmentChecks}
 use Rattle.pnet_plan.proofs.Refusals.{all-pass}

@@ -9,12 +9,12 @@ use lib.ListN.{length, getD, take}
 use Rattle.sheet_record.specs.Numbers.{pasted}
 use Rattle.sheet_write.specs.declared.Put.{Put}
 use Rattle.sheet_write.specs.declared.Put.the-variants as put
-use Rattle.sheet_read.specs.Sheets.{Sheet, mastersOf, messageOf}
-use Rattle.sheet_read.specs.Whole.{reading}
-use Rattle.sheet_read.specs.Whole.Outcome.{Read}
-use Rattle.sheet_read.specs.Records.{recordsIn, Writes}
-use Rattle.sheet_read.proofs.Order.{message-of-ring}
-use Rattle.sheet_read.proofs.Writes.{read-writes}
+use Rattle.sheet_rules.specs.Sheets.{Sheet, mastersOf, messageOf}
+use Rattle.sheet_rules.specs.Whole.{reading}
+use Rattle.sheet_rules.specs.Whole.Outcome.{Read}
+use Rattle.sheet_rules.specs.Records.{recordsIn, Writes}
+use Rattle.sheet_rules.proofs.Order.{message-of-ring}
+use Rattle.sheet_rules.proofs.Writes.{read-writes}
 use Rattle.sheet_rewrite.specs.Meaning.{SameMeaning, Rewrites}
 use Rattle.sheet_rewrite.specs.Meaning.SameMeaning.{same-sheet, same-ring}
 use Rattle.sheet_rewrite.specs.Meaning.Rewrites.{refused, kept}

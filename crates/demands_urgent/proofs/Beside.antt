@@ -9,8 +9,8 @@ use mathlib.Core.Bool.{false}
 use mathlib.Core.List.{List}
 use lib.ListN.{length}
 use Rattle.common.specs.Checks.Verdict.{Passed}
-use Rattle.sheet_read.specs.Sheets.{Sheet}
-use Rattle.sheet_read.specs.Whole.Outcome.{Read}
+use Rattle.sheet_rules.specs.Sheets.{Sheet}
+use Rattle.sheet_rules.specs.Whole.Outcome.{Read}
 use Rattle.pnet_rules.specs.Segment.{Segment, segmentOf}
 use Rattle.pnet_rules.specs.Limits.{Declared}
 use Rattle.pnet_run.specs.Run.{Belongs, Request, Answer, Token, RunBy}

@@ -12,8 +12,8 @@ use lib.Dec.{eqb}
 use lib.ListN.{length}
 use Rattle.common.specs.Checks.Verdict.{Passed}
 use Rattle.common.specs.Sums.{when, up}
-use Rattle.sheet_read.specs.Sheets.{Sheet}
-use Rattle.sheet_read.specs.Whole.Outcome.{Read}
+use Rattle.sheet_rules.specs.Sheets.{Sheet}
+use Rattle.sheet_rules.specs.Whole.Outcome.{Read}
 use Rattle.pnet_rules.specs.Segment.{Segment, segmentOf, charged, turnBy, turn}
 use Rattle.pnet_rules.specs.Limits.{Declared}
 use Rattle.pnet_urgent_rules.specs.Urgent.{blocked, aheadIn, rightBy, right, figure, unmet}

@@ -7,8 +7,8 @@ use mathlib.Core.List.{List}
 use native.Mathlib.Omega.{arith}
 use borrow.Author.Tests.{le-ltb}
 use lib.ListN.{length}
-use Rattle.sheet_read.specs.Sheets.{Sheet}
-use Rattle.sheet_read.specs.Whole.Outcome.{Read}
+use Rattle.sheet_rules.specs.Sheets.{Sheet}
+use Rattle.sheet_rules.specs.Whole.Outcome.{Read}
 use Rattle.pnet_rules.specs.Segment.{Segment, segmentOf, bound, late}
 use Rattle.pnet_plan.specs.Planned.{planned}
 use Rattle.pnet_plan.specs.Refusals as first-come

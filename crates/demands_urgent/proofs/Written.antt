@@ -11,10 +11,10 @@ use native.Mathlib.Omega.{arith}
 use lib.ListN.{length}
 use Rattle.common.specs.Runs.{filled}
 use Rattle.common.proofs.Runs.{filled-at}
-use Rattle.sheet_read.specs.Sheets.{Sheet}
-use Rattle.sheet_read.specs.Whole.{Outcome}
-use Rattle.sheet_read.specs.Whole.Outcome.{Read, Not}
-use Rattle.sheet_read.proofs.Known.{reading-read}
+use Rattle.sheet_rules.specs.Sheets.{Sheet}
+use Rattle.sheet_rules.specs.Whole.{Outcome}
+use Rattle.sheet_rules.specs.Whole.Outcome.{Read, Not}
+use Rattle.sheet_rules.proofs.Known.{reading-read}
 use Rattle.pnet_rules.specs.Segment.{Segment, segmentOf, turn}
 use Rattle.pnet_rules.specs.Search.{valueFrom}
 use Rattle.pnet_rules.specs.Limits.{Declared}

@@ -3,7 +3,7 @@
 use Prim.Native.Nat.{ℕ}
 use mathlib.Core.List.{List, [], _∷_, _++_}
 use Rattle.sheet_record.specs.declared.Record.{Record}
-use Rattle.sheet_read.specs.Sheets.{Sheet}
+use Rattle.sheet_rules.specs.Sheets.{Sheet}
 
 -- kind 1: N = 1; kind 2, three times: master 1, C, T and D
 abbrev pub bytes : List ℕ

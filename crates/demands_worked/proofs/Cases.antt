@@ -2,7 +2,7 @@
 -- Assumes nothing.
 use mathlib.Core.Path.{_≡_, refl}
 use mathlib.Core.Bool.{true}
-use Rattle.sheet_read.specs.Sheets.{messageOf}
+use Rattle.sheet_rules.specs.Sheets.{messageOf}
 use Rattle.worldfip_rules.specs.Build.{byRank, row, missRow}
 use Rattle.worldfip_rules.specs.Traffic.{askedOf}
 use Rattle.profibus_plan.specs.Planned as ring

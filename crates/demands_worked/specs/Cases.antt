@@ -9,9 +9,9 @@ use lib.Dec.{eqb}
 use Rattle.common.specs.Runs.{tab}
 use Rattle.units.specs.Units.{bp, us, microsUp, nanosUp, periodsDown}
 use Rattle.sheet_record.specs.declared.Record.{Record}
-use Rattle.sheet_read.specs.Whole.{Outcome, reading}
-use Rattle.sheet_read.specs.Whole.Outcome.{Read, Not}
-use Rattle.sheet_read.specs.Records.{bytesOf}
+use Rattle.sheet_rules.specs.Whole.{Outcome, reading}
+use Rattle.sheet_rules.specs.Whole.Outcome.{Read, Not}
+use Rattle.sheet_rules.specs.Records.{bytesOf}
 use Rattle.pnet_rules.specs.Segment.{segmentOf, turn, bound}
 use Rattle.pnet_rules.specs.Refined.{refined, rounds}
 use Rattle.pnet_plan.specs.Planned.{planned, atPlace}

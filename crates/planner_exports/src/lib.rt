@@ -4,7 +4,7 @@
 ghost use mathlib.Core.Path.{_≡_};
 ghost use Prim.Native.Nat.{min};
 ghost use lib.ListN.{length};
-ghost use Rattle.sheet_read.specs.Whole.{reading};
+ghost use Rattle.sheet_rules.specs.Whole.{reading};
 ghost use Rattle.pnet_rules.specs.Segment;
 ghost use Rattle.pnet_rules.specs.Refined;
 ghost use Rattle.pnet_plan.specs.Planned;

@@ -5,9 +5,9 @@ use mathlib.Core.List.{List, _++_}
 use mathlib.Core.Bool.{Bool, true, false, _||_, not}
 use lib.ListN.{length, take}
 use lib.Dec.{eqb}
-use Rattle.sheet_read.specs.Sheets.{Sheet}
-use Rattle.sheet_read.specs.Whole.{reading}
-use Rattle.sheet_read.specs.Whole.Outcome.{Read}
+use Rattle.sheet_rules.specs.Sheets.{Sheet}
+use Rattle.sheet_rules.specs.Whole.{reading}
+use Rattle.sheet_rules.specs.Whole.Outcome.{Read}
 use Rattle.sheet_said.specs.Said.{kindIn}
 use Rattle.sheet_pieces.specs.Texts.{meaning}
 use Rattle.sheet_pieces.specs.Texts.Meaning.{Stands, Bad}

@@ -6,8 +6,8 @@ use lib.ListN.{length}
 use lib.Dec.{ltb}
 use Rattle.common.specs.Checks.{verdict}
 use Rattle.common.specs.Runs.{filled}
-use Rattle.sheet_read.specs.Whole.{Outcome, orElse, reading}
-use Rattle.sheet_read.specs.Whole.Outcome.{Read, Not}
+use Rattle.sheet_rules.specs.Whole.{Outcome, orElse, reading}
+use Rattle.sheet_rules.specs.Whole.Outcome.{Read, Not}
 use Rattle.pnet_rules.specs.Segment.{Segment, segmentOf, bound}
 use Rattle.pnet_plan.specs.Planned.{segmentChecks, firstLate, atPlace}
 

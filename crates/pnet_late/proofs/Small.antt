@@ -6,7 +6,7 @@ use native.Mathlib.Omega.{arith}
 use Rattle.sheet_record.specs.declared.Met.{Met}
 use Rattle.sheet_record.specs.declared.Record.{Record}
 use Rattle.sheet_record.specs.Kinds.{pnet}
-use Rattle.sheet_read.specs.Steps.{Ready}
+use Rattle.sheet_rules.specs.Ready.{Ready}
 use Rattle.pnet_rules.specs.Segment.{count, turn}
 use Rattle.pnet_rules.proofs.Holds.{turn-at-most, bound-at-most}
 use Rattle.pnet_turn.specs.Turn.{at}

@@ -19,10 +19,10 @@ use Rattle.common.proofs.Checks.Clear.{none, and}
 use Rattle.common.proofs.Firsts.{First, first-is}
 use Rattle.sheet_record.specs.Kinds.{within}
 use Rattle.sheet_ranges.proofs.Ranges.{within-range, range-within}
-use Rattle.sheet_read.specs.Sheets.{Sheet}
-use Rattle.sheet_read.specs.Whole.{Outcome}
-use Rattle.sheet_read.specs.Whole.Outcome.{Read, Not}
-use Rattle.sheet_read.proofs.Known.{both-fail}
+use Rattle.sheet_rules.specs.Sheets.{Sheet}
+use Rattle.sheet_rules.specs.Whole.{Outcome}
+use Rattle.sheet_rules.specs.Whole.Outcome.{Read, Not}
+use Rattle.sheet_rules.proofs.Known.{both-fail}
 use Rattle.pnet_rules.specs.Segment.{Segment, segmentOf, count}
 use Rattle.units.specs.Units.{bp}
 use Rattle.pnet_crossing.specs.Cost.{tooLong, pathChecks, costOr, crossingBy}

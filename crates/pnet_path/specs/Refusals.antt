@@ -2,8 +2,8 @@
 -- and gateway i lies between segments i and i + 1. Assumes nothing.
 use Prim.Native.Nat.{ℕ, _≤_, _<_}
 use mathlib.Core.Path.{_≡_}
-use Rattle.sheet_read.specs.Sheets.{Sheet}
-use Rattle.sheet_read.specs.Whole.Outcome.{Read, Not}
+use Rattle.sheet_rules.specs.Sheets.{Sheet}
+use Rattle.sheet_rules.specs.Whole.Outcome.{Read, Not}
 use Rattle.pnet_rules.specs.Segment.{Segment, segmentOf, count}
 use Rattle.pnet_crossing.specs.Cost.{costOver}
 use Rattle.pnet_path.specs.Path.{Path, gateways, sheetAt, boundAt, forwardingAt}

@@ -12,9 +12,10 @@ use Rattle.common.proofs.Runs.{tab-same}
 use Rattle.sheet_record.specs.declared.Met.{Met}
 use Rattle.sheet_record.specs.declared.Record.{Record}
 use Rattle.sheet_record.specs.Kinds.{pnet, busOf, streamMet}
-use Rattle.sheet_read.specs.Sheets.{Sheet, busIn}
-use Rattle.sheet_read.specs.Whole.{Outcome, reading, byMaster, streamsOfMaster, longestOfMaster, countsTold, longestsTold}
-use Rattle.sheet_read.specs.Steps.{sheetIn, streamPlace, Ready}
+use Rattle.sheet_rules.specs.Sheets.{Sheet, busIn}
+use Rattle.sheet_rules.specs.Whole.{Outcome, reading}
+use Rattle.sheet_read.specs.Told.{byMaster, streamsOfMaster, longestOfMaster, countsTold, longestsTold}
+use Rattle.sheet_rules.specs.Ready.{sheetIn, streamPlace, Ready}
 use Rattle.sheet_read.proofs.Taken.{Taken, taken-ready, ready-known, stream-met}
 use Rattle.pnet_rules.specs.Segment.{Stream, streamOf, streamAt, segmentOf, count, longest, boundBy, turn, bound, late}
 use Rattle.pnet_rules.specs.Limits.{Declared}

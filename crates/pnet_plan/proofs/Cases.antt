@@ -12,11 +12,11 @@ use Rattle.common.proofs.Checks.{Applies, refused-if, passed-if}
 use Rattle.common.proofs.Checks.Applies.{here, later}
 use Rattle.common.proofs.Checks.Clear.{none, and}
 use Rattle.sheet_record.specs.Kinds.{pnet}
-use Rattle.sheet_read.specs.Sheets.{Sheet, busIn, mastersOf}
-use Rattle.sheet_read.specs.Whole.{Outcome, orElse, reading}
-use Rattle.sheet_read.specs.Steps.{sheetIn, editionAt}
+use Rattle.sheet_rules.specs.Sheets.{Sheet, busIn, mastersOf}
+use Rattle.sheet_rules.specs.Whole.{Outcome, orElse, reading}
+use Rattle.sheet_rules.specs.Ready.{sheetIn, editionAt}
 use Rattle.sheet_read.proofs.Taken.{ready-edition}
-use Rattle.sheet_read.specs.Whole.Outcome.{Read, Not}
+use Rattle.sheet_rules.specs.Whole.Outcome.{Read, Not}
 use Rattle.common.specs.Runs.{filled}
 use Rattle.common.proofs.Sums.{upto-same}
 use Rattle.common.proofs.Runs.{filled-same, getD-tab}

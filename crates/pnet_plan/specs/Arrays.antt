@@ -9,7 +9,7 @@ use lib.ListN.{length}
 use Rattle.common.specs.Runs.{tab}
 use Rattle.common.specs.Sums.{when, upto}
 use Rattle.sheet_record.specs.Kinds.{pnet}
-use Rattle.sheet_read.specs.Steps.{sheetIn, Ready}
+use Rattle.sheet_rules.specs.Ready.{sheetIn, Ready}
 use Rattle.pnet_rules.specs.Segment.{Segment, segmentOf, owns, count, longest}
 use Rattle.pnet_turn.specs.Turn.{at}
 use Rattle.pnet_search.specs.Arrays.{spacingAt, jitterAt}

@@ -9,9 +9,9 @@ use Rattle.common.specs.Checks.{Check, check, verdict}
 use Rattle.common.specs.Runs.{filled}
 use Rattle.common.specs.Sums.{firstOf}
 use Rattle.sheet_record.specs.Kinds.{pnet}
-use Rattle.sheet_read.specs.Sheets.{Sheet, busIn, mastersOf}
-use Rattle.sheet_read.specs.Whole.{Outcome, orElse, reading}
-use Rattle.sheet_read.specs.Whole.Outcome.{Read, Not}
+use Rattle.sheet_rules.specs.Sheets.{Sheet, busIn, mastersOf}
+use Rattle.sheet_rules.specs.Whole.{Outcome, orElse, reading}
+use Rattle.sheet_rules.specs.Whole.Outcome.{Read, Not}
 use Rattle.pnet_rules.specs.Segment.{Segment, segmentOf, late}
 use Rattle.pnet_plan.specs.declared.answer.Plan.{Plan}
 use Rattle.pnet_plan.specs.declared.answer.Plan.the-variants as answer

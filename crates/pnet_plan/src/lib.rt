@@ -9,7 +9,7 @@ ghost use mathlib.Core.Path.{_≡_};
 ghost use Prim.Native.Nat.{ℕ, _*_, _≤_, _<_};
 ghost use lib.ListN.{length};
 ghost use Rattle.sheet_record.specs.Kinds.{pnet};
-ghost use Rattle.sheet_read.specs.Steps.{Ready};
+ghost use Rattle.sheet_rules.specs.Ready.{Ready};
 ghost use Rattle.pnet_rules.specs.Segment;
 ghost use Rattle.pnet_rules.specs.Refined;
 ghost use Rattle.pnet_plan.specs.Planned.{firstLate, planned, planOf, runOf};

@@ -10,9 +10,9 @@ use Rattle.sheet_record.specs.declared.Record.{Record}
 use Rattle.sheet_record.specs.Kinds.{pnet, isStreamOf, nothing, inRange}
 use Rattle.sheet_record.proofs.Parts.{pnet-first}
 use Rattle.sheet_ranges.proofs.Ranges.{segment-ranges, pnet-ranges}
-use Rattle.sheet_read.specs.Sheets.{Sheet, sheetOf, busIn, given, countOf, longestOf}
-use Rattle.sheet_read.proofs.Counts.{counted-by-number, longest-by-number}
-use Rattle.sheet_read.proofs.Known.{Known}
+use Rattle.sheet_rules.specs.Sheets.{Sheet, sheetOf, busIn, given, countOf, longestOf}
+use Rattle.sheet_rules.proofs.Counts.{counted-by-number, longest-by-number}
+use Rattle.sheet_rules.proofs.Known.{Known}
 use Rattle.pnet_rules.specs.Segment.{streamOf, streamAt, segmentOf, owns, count, longest}
 use Rattle.pnet_rules.specs.Limits.{Ranged, Declared}
 

@@ -8,7 +8,7 @@ use lib.Dec.{eqb, ltb}
 use Rattle.common.specs.Sums.{when, upto, greatest}
 use Rattle.sheet_record.specs.declared.Record.{Record}
 use Rattle.sheet_record.specs.Kinds.{nothing}
-use Rattle.sheet_read.specs.Sheets.{Sheet, mastersOf, editionOf}
+use Rattle.sheet_rules.specs.Sheets.{Sheet, mastersOf, editionOf}
 
 -- ---- A segment as a sheet declares it
 

@@ -7,7 +7,7 @@ use mathlib.Core.List.{List}
 use native.Mathlib.Nat.{le-refl}
 use native.Mathlib.Omega.{arith}
 use borrow.Author.Tests.{ltb-false}
-use Rattle.sheet_read.specs.Sheets.{Sheet}
+use Rattle.sheet_rules.specs.Sheets.{Sheet}
 use Rattle.units.specs.Units.{bp}
 use Rattle.units.specs.declared.BitPeriods.{BitPeriods}
 use Rattle.pnet_rules.specs.Segment.{Segment, segmentOf, count, hold, charged, boundBy, bound, late}

@@ -1,8 +1,8 @@
 -- Page 02, 'Ask 4': what one segment of a path says, a sheet and the master that sends there. Assumes nothing.
 use Prim.Native.Nat.{ℕ}
 use mathlib.Core.List.{List}
-use Rattle.sheet_read.specs.Whole.{Outcome}
-use Rattle.sheet_read.specs.Whole.Outcome.{Read, Not}
+use Rattle.sheet_rules.specs.Whole.{Outcome}
+use Rattle.sheet_rules.specs.Whole.Outcome.{Read, Not}
 use Rattle.units.specs.Units.{bp}
 use Rattle.pnet_rules.specs.Segment.{segmentOf, bound}
 use Rattle.pnet_bounds.specs.Bounded.{bounded}

@@ -12,10 +12,10 @@ use Rattle.common.specs.Sums.{firstOf}
 use Rattle.common.proofs.Runs.{filled-same}
 use Rattle.common.proofs.Firsts.{First, first-is, first-same}
 use Rattle.sheet_record.specs.Kinds.{pnet}
-use Rattle.sheet_read.specs.Sheets.{mastersOf}
-use Rattle.sheet_read.specs.Steps.{sheetIn, Ready}
-use Rattle.sheet_read.specs.Whole.{Outcome}
-use Rattle.sheet_read.specs.Whole.Outcome.{Read, Not}
+use Rattle.sheet_rules.specs.Sheets.{mastersOf}
+use Rattle.sheet_rules.specs.Ready.{sheetIn, Ready}
+use Rattle.sheet_rules.specs.Whole.{Outcome}
+use Rattle.sheet_rules.specs.Whole.Outcome.{Read, Not}
 use Rattle.pnet_rules.specs.Segment.{Segment, segmentOf}
 use Rattle.pnet_rules.specs.Limits.{Declared}
 use Rattle.pnet_turn.specs.Turn.{at}

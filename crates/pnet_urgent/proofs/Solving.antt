@@ -7,7 +7,7 @@ use native.Mathlib.Omega.{arith}
 use Rattle.common.specs.Runs.{filled}
 use Rattle.common.proofs.Runs.{filled-at}
 use Rattle.sheet_record.specs.Kinds.{pnet}
-use Rattle.sheet_read.specs.Steps.{Ready}
+use Rattle.sheet_rules.specs.Ready.{Ready}
 use Rattle.pnet_rules.specs.Segment.{Segment, count, turn}
 use Rattle.pnet_rules.specs.Limits.{Declared}
 use Rattle.pnet_turn.specs.Turn.{at}

@@ -9,7 +9,7 @@ ghost use lib.ListN.{length};
 ghost use Rattle.common.specs.Runs.{filled};
 ghost use Rattle.common.specs.Sums.{firstOf};
 ghost use Rattle.sheet_record.specs.Kinds.{pnet};
-ghost use Rattle.sheet_read.specs.Steps.{Ready};
+ghost use Rattle.sheet_rules.specs.Ready.{Ready};
 ghost use Rattle.pnet_turn.specs.Turn.{at};
 ghost use Rattle.pnet_plan.specs.Arrays.{segmentIn, Sheeted};
 ghost use Rattle.pnet_plan.specs.Planned.{planOf};

@@ -7,7 +7,7 @@ use Rattle.common.specs.Checks.{verdict}
 use Rattle.common.specs.Checks.Verdict.{Passed, Refused}
 use Rattle.sheet_record.specs.declared.Record.{Record}
 use Rattle.sheet_record.specs.Kinds.{busOf}
-use Rattle.sheet_read.specs.Sheets.{Sheet}
+use Rattle.sheet_rules.specs.Sheets.{Sheet}
 use Rattle.pnet_rules.specs.Segment.{Segment, segmentOf}
 use Rattle.pnet_urgent_rules.specs.Urgent.{rank, place, rounds, figure, unmet}
 use Rattle.pnet_urgent_rules.specs.Planned.{firstUnmet, urgentChecks}

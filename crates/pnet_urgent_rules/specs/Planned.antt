@@ -7,9 +7,9 @@ use lib.Dec.{ltb, leb, eqb}
 use Rattle.common.specs.Checks.{Check, check, verdict}
 use Rattle.common.specs.Sums.{firstOf}
 use Rattle.sheet_record.specs.Kinds.{pnet}
-use Rattle.sheet_read.specs.Sheets.{Sheet, busIn}
-use Rattle.sheet_read.specs.Whole.{Outcome, orElse, reading}
-use Rattle.sheet_read.specs.Whole.Outcome.{Read, Not}
+use Rattle.sheet_rules.specs.Sheets.{Sheet, busIn}
+use Rattle.sheet_rules.specs.Whole.{Outcome, orElse, reading}
+use Rattle.sheet_rules.specs.Whole.Outcome.{Read, Not}
 use Rattle.pnet_rules.specs.Segment.{Segment, segmentOf}
 use Rattle.pnet_urgent_rules.specs.Urgent.{unmet}
 

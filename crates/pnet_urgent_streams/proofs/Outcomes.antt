@@ -14,9 +14,9 @@ use Rattle.common.proofs.Firsts.{first-is}
 use Rattle.units.specs.Units.{bp}
 use Rattle.units.specs.declared.BitPeriods.{BitPeriods}
 use Rattle.sheet_record.specs.Kinds.{pnet}
-use Rattle.sheet_read.specs.Whole.{Outcome, reading}
-use Rattle.sheet_read.specs.Whole.Outcome.{Read, Not}
-use Rattle.sheet_read.specs.Steps.{sheetIn, Ready}
+use Rattle.sheet_rules.specs.Whole.{Outcome, reading}
+use Rattle.sheet_rules.specs.Whole.Outcome.{Read, Not}
+use Rattle.sheet_rules.specs.Ready.{sheetIn, Ready}
 use Rattle.pnet_rules.specs.Segment.{Segment, turn, bound, boundBy, late}
 use Rattle.pnet_rules.proofs.Holds.{turn-at-most}
 use Rattle.pnet_turn.specs.Turn.{at}

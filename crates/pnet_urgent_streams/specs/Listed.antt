@@ -4,8 +4,8 @@ use lib.ListN.{length}
 use lib.Dec.{leb}
 use Rattle.common.specs.Sums.{when}
 use Rattle.units.specs.Units.{bp}
-use Rattle.sheet_read.specs.Whole.{Outcome}
-use Rattle.sheet_read.specs.Whole.Outcome.{Read, Not}
+use Rattle.sheet_rules.specs.Whole.{Outcome}
+use Rattle.sheet_rules.specs.Whole.Outcome.{Read, Not}
 use Rattle.pnet_rules.specs.Segment.{Segment, segmentOf}
 use Rattle.pnet_plan.specs.Planned.{firstLate}
 use Rattle.pnet_bounds.specs.Bounded.{boundOf}

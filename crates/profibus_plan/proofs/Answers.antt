@@ -8,12 +8,12 @@ use native.Mathlib.Omega.{arith}
 use borrow.Author.Tests.{eq-eqb, ne-eqb, le-leb, lt-leb}
 use Rattle.common.specs.Checks.{verdict}
 use Rattle.sheet_record.specs.Kinds.{profibus}
-use Rattle.sheet_read.specs.Sheets.{Sheet, busIn}
-use Rattle.sheet_read.specs.Whole.Outcome.{Read}
+use Rattle.sheet_rules.specs.Sheets.{Sheet, busIn}
+use Rattle.sheet_rules.specs.Whole.Outcome.{Read}
 use Rattle.units.specs.Units.{ringBp}
 use Rattle.profibus_rules.specs.Ring.{ringOf, Declared}
 use Rattle.profibus_rules.specs.Target.{AllPass, FirstFails, Limited, target, firstFailing}
-use Rattle.sheet_read.proofs.Known.{Known}
+use Rattle.sheet_rules.proofs.Known.{Known}
 use Rattle.profibus_rules.proofs.Rule.{all-pass-below}
 use Rattle.profibus_rules.proofs.Declared.{declared}
 use Rattle.profibus_rules.proofs.Answer.{named-fails, none-fails, fails-named, none-named, target-limited, limited-is}

@@ -3,8 +3,8 @@
 use Prim.Native.Nat.{ℕ}
 use mathlib.Core.Path.{_≡_, refl}
 use mathlib.Core.List.{List, [], _∷_}
-use Rattle.sheet_read.specs.Sheets.{sheetOf, messageOf}
-use Rattle.sheet_read.specs.Whole.{reading}
+use Rattle.sheet_rules.specs.Sheets.{sheetOf, messageOf}
+use Rattle.sheet_rules.specs.Whole.{reading}
 use Rattle.units.specs.Units.{ringBp}
 use Rattle.profibus_plan.specs.declared.answer.Plan.the-variants as plan
 use Rattle.profibus_plan.specs.Planned.{planOf}

@@ -11,9 +11,10 @@ use Rattle.common.proofs.Runs.{tab-same, getD-tab}
 use Rattle.common.proofs.Sums.{upto-same}
 use Rattle.sheet_record.specs.declared.Met.{Met}
 use Rattle.sheet_record.specs.Kinds.{profibus, worldfip, streamMet}
-use Rattle.sheet_read.specs.Sheets.{busIn}
-use Rattle.sheet_read.specs.Whole.{reading, streamsOfMaster, countsTold, messagesTold}
-use Rattle.sheet_read.specs.Steps.{sheetIn, streamPlace, Ready}
+use Rattle.sheet_rules.specs.Sheets.{busIn}
+use Rattle.sheet_rules.specs.Whole.{reading}
+use Rattle.sheet_read.specs.Told.{streamsOfMaster, countsTold, messagesTold}
+use Rattle.sheet_rules.specs.Ready.{sheetIn, streamPlace, Ready}
 use Rattle.sheet_read.proofs.Taken.{ready-known, stream-met}
 use Rattle.profibus_rules.specs.Ring.{Ring, Stream, streamOf, streamAt, ringOf, On, count, messages, Declared}
 use Rattle.profibus_rules.proofs.Declared.{declared, count-is}

@@ -7,8 +7,8 @@ use lib.Dec.{eqb, leb}
 use Rattle.common.specs.Checks.{Check, check, Verdict, verdict}
 use Rattle.common.specs.Checks.Verdict.{Passed, Refused}
 use Rattle.sheet_record.specs.Kinds.{profibus}
-use Rattle.sheet_read.specs.Sheets.{Sheet, busIn}
-use Rattle.sheet_read.specs.Whole.Outcome.{Read}
+use Rattle.sheet_rules.specs.Sheets.{Sheet, busIn}
+use Rattle.sheet_rules.specs.Whole.Outcome.{Read}
 use Rattle.units.specs.Units.{ringBp}
 use Rattle.profibus_rules.specs.Ring.{Ring, ringOf, SameRings}
 use Rattle.profibus_rules.specs.Target.{target, firstFailing}

@@ -8,9 +8,9 @@ use lib.Dec.{eqb, leb}
 use Rattle.common.specs.Checks.{Check, check, Verdict, verdict}
 use Rattle.common.specs.Checks.Verdict.{Passed, Refused}
 use Rattle.sheet_record.specs.Kinds.{profibus}
-use Rattle.sheet_read.specs.Sheets.{Sheet, busIn}
-use Rattle.sheet_read.specs.Whole.{Outcome}
-use Rattle.sheet_read.specs.Whole.Outcome.{Read, Not}
+use Rattle.sheet_rules.specs.Sheets.{Sheet, busIn}
+use Rattle.sheet_rules.specs.Whole.{Outcome}
+use Rattle.sheet_rules.specs.Whole.Outcome.{Read, Not}
 use Rattle.units.specs.Units.{ringBp}
 use Rattle.profibus_rules.specs.Ring.{Ring, ringOf}
 use Rattle.profibus_rules.specs.Target.{FirstFails, Limited, target, firstFailing}

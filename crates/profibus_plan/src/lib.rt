@@ -10,9 +10,9 @@ ghost use lib.ListN.{getD};
 ghost use Rattle.common.specs.Runs.{tab};
 ghost use Rattle.common.specs.Sums.{upto};
 ghost use Rattle.sheet_record.specs.Kinds.{profibus};
-ghost use Rattle.sheet_read.specs.Whole.{reading};
-ghost use Rattle.sheet_read.specs.Steps.{sheetIn, Ready};
-ghost use Rattle.sheet_read.specs.Whole.Outcome.{Read};
+ghost use Rattle.sheet_rules.specs.Whole.{reading};
+ghost use Rattle.sheet_rules.specs.Ready.{sheetIn, Ready};
+ghost use Rattle.sheet_rules.specs.Whole.Outcome.{Read};
 ghost use Rattle.profibus_rules.specs.Ring.{ringOf, count, messages};
 ghost use Rattle.profibus_plan.specs.Planned.{planOf};
 

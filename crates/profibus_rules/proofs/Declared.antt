@@ -11,9 +11,9 @@ use Rattle.sheet_record.specs.Kinds.{nothing, profibus, isStreamOf, inRange}
 use Rattle.sheet_record.proofs.Parts.{ring-first, ring-streams}
 use Rattle.sheet_ranges.specs.Ranges.{Range, RingStreamRanges}
 use Rattle.sheet_ranges.proofs.Ranges.{ring-ranges, open-ring-ranges, ring-stream-ranges}
-use Rattle.sheet_read.specs.Sheets.{Sheet, busIn, given, sheetOf, countOf}
-use Rattle.sheet_read.proofs.Counts.{counted-by-number}
-use Rattle.sheet_read.proofs.Known.{Known}
+use Rattle.sheet_rules.specs.Sheets.{Sheet, busIn, given, sheetOf, countOf}
+use Rattle.sheet_rules.proofs.Counts.{counted-by-number}
+use Rattle.sheet_rules.proofs.Known.{Known}
 use Rattle.profibus_rules.specs.Ring.{streamAt, ringOf, owns, count, Declared}
 
 -- h is what reading counted

@@ -6,7 +6,7 @@ use mathlib.Core.List.{List, [], _∷_}
 use Rattle.common.specs.Sums.{upto, firstOf}
 use Rattle.sheet_record.specs.declared.Record.{Record}
 use Rattle.sheet_messages.specs.Messages.{messageBy}
-use Rattle.sheet_read.specs.Sheets.{longestOf, messageOf}
+use Rattle.sheet_rules.specs.Sheets.{longestOf, messageOf}
 use Rattle.profibus_rules.specs.Ring.{Ring, ringOf, streamAt, owns, count, messages, rotation, needed, fails}
 use Rattle.profibus_rules.specs.Target.{bears, least, target, firstFailing}
 

@@ -8,7 +8,7 @@ use native.Mathlib.Omega.{arith}
 use borrow.Author.Tests.{eq-eqb}
 use Rattle.common.specs.Sums.{when}
 use Rattle.common.proofs.Sums.{upto-same, upto-term, upto-even}
-use Rattle.sheet_read.specs.Sheets.{Sheet, mastersOf, messageOf}
+use Rattle.sheet_rules.specs.Sheets.{Sheet, mastersOf, messageOf}
 use Rattle.profibus_rules.specs.Ring.{Ring, ringOf, On, owns, count, messages, rotation, needed, Declared}
 use Rattle.profibus_rules.specs.Target.{AllPass, bears}
 

@@ -8,7 +8,7 @@ use Rattle.common.specs.Sums.{when, firstOf}
 use Rattle.common.proofs.Sums.{upto-same}
 use Rattle.common.proofs.Firsts.{first-same}
 use Rattle.sheet_record.specs.declared.Record.{Record}
-use Rattle.sheet_read.specs.Sheets.{Sheet, mastersOf, messageOf}
+use Rattle.sheet_rules.specs.Sheets.{Sheet, mastersOf, messageOf}
 use Rattle.profibus_rules.specs.Ring.{Ring, streamAt, ringOf, owns, count, messages, rotation, needed, fails, SameRings}
 use Rattle.profibus_rules.specs.Target.{AllPass, FirstFails, Limited, bears, least, target, firstFailing}
 

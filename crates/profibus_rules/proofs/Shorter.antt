@@ -8,7 +8,7 @@ use native.Mathlib.Omega.{arith}
 use lib.ListN.{length}
 use Rattle.common.proofs.Sums.{upto-mono}
 use Rattle.sheet_record.specs.declared.Record.{Record}
-use Rattle.sheet_read.specs.Sheets.{Sheet, mastersOf, messageOf}
+use Rattle.sheet_rules.specs.Sheets.{Sheet, mastersOf, messageOf}
 use Rattle.profibus_rules.specs.Ring.{Ring, streamAt, ringOf, count, messages, rotation, needed, Declared, Shortened}
 use Rattle.profibus_rules.specs.Target.{AllPass, Limited, target, firstFailing}
 use Rattle.profibus_rules.proofs.Rule.{all-pass-below}

@@ -9,7 +9,7 @@ use lib.Dec.{eqb, ltb}
 use Rattle.common.specs.Sums.{when, upto}
 use Rattle.sheet_record.specs.declared.Record.{Record}
 use Rattle.sheet_record.specs.Kinds.{nothing}
-use Rattle.sheet_read.specs.Sheets.{Sheet, mastersOf, messageOf}
+use Rattle.sheet_rules.specs.Sheets.{Sheet, mastersOf, messageOf}
 
 -- ---- A ring as a sheet declares it
 

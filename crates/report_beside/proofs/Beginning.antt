@@ -5,8 +5,8 @@ use mathlib.Core.List.{List}
 use mathlib.Core.Bool.{Bool}
 use native.Mathlib.Omega.{arith}
 use lib.ListN.{length}
-use Rattle.sheet_read.specs.Whole.{Outcome}
-use Rattle.sheet_read.specs.Whole.Outcome.{Read, Not}
+use Rattle.sheet_rules.specs.Whole.{Outcome}
+use Rattle.sheet_rules.specs.Whole.Outcome.{Read, Not}
 use Rattle.pnet_plan.specs.Planned.{planOf}
 use Rattle.pnet_plan.specs.declared.answer.Plan.the-variants as plan
 use Rattle.capture_compare.proofs.Beside.{told-refused}

@@ -5,9 +5,9 @@ use mathlib.Core.List.{List}
 use mathlib.Core.Bool.{Bool, true, false}
 use Prim.Native.Nat.{ℕ}
 use lib.ListN.{take}
-use Rattle.sheet_read.specs.Lengths.{enough}
-use Rattle.sheet_read.specs.Whole.{Outcome, reading}
-use Rattle.sheet_read.proofs.Lengths.{reading-prefix}
+use Rattle.sheet_rules.specs.Lengths.{enough}
+use Rattle.sheet_rules.specs.Whole.{Outcome, reading}
+use Rattle.sheet_rules.proofs.Lengths.{reading-prefix}
 use Rattle.pnet_bounds.specs.Bounded.{boundedBy, bounded}
 use Rattle.pnet_urgent_rules.specs.Planned.{urgentBy, urgently}
 use Rattle.capture_tally.specs.Pieces.{most}

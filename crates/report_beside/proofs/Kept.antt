@@ -11,9 +11,9 @@ use lib.ListN.{length, take, drop, length-append}
 use lib.Seq.{take-append-seam}
 use Rattle.common.specs.Checks.{Verdict}
 use Rattle.common.specs.Checks.Verdict.{Passed, Refused}
-use Rattle.sheet_read.specs.Sheets.{Sheet}
-use Rattle.sheet_read.specs.Whole.{Outcome}
-use Rattle.sheet_read.specs.Whole.Outcome.{Read, Not}
+use Rattle.sheet_rules.specs.Sheets.{Sheet}
+use Rattle.sheet_rules.specs.Whole.{Outcome}
+use Rattle.sheet_rules.specs.Whole.Outcome.{Read, Not}
 use Rattle.pnet_rules.specs.Segment.{segmentOf}
 use Rattle.pnet_bounds.specs.Bounded.{masterOf, spacingOf, jitterOf, streamRun}
 use Rattle.pnet_bounds.proofs.Bounded.{bounded-declared}

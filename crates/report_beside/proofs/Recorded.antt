@@ -16,9 +16,9 @@ use Rattle.common.proofs.Runs.{length-tab, filled-at, zero-at}
 use Rattle.text.specs.Text.{item}
 use Rattle.sheet_record.specs.declared.Record.{Record}
 use Rattle.sheet_record.specs.Kinds.{nothing}
-use Rattle.sheet_read.specs.Sheets.{Sheet}
-use Rattle.sheet_read.specs.Whole.{Outcome}
-use Rattle.sheet_read.specs.Whole.Outcome.{Read, Not}
+use Rattle.sheet_rules.specs.Sheets.{Sheet}
+use Rattle.sheet_rules.specs.Whole.{Outcome}
+use Rattle.sheet_rules.specs.Whole.Outcome.{Read, Not}
 use Rattle.pnet_rules.specs.Segment.{Segment, segmentOf, streamAt}
 use Rattle.pnet_plan.specs.Planned.{atPlace}
 use Rattle.pnet_bounds.specs.Bounded.{masterOf, spacingOf, jitterOf}

@@ -4,8 +4,8 @@ use Prim.Native.Nat.{ℕ, _+_, _^_}
 use mathlib.Core.List.{List}
 use mathlib.Core.Bool.{Bool, true, false, cond}
 use lib.ListN.{length}
-use Rattle.sheet_read.specs.Whole.{Outcome}
-use Rattle.sheet_read.specs.Whole.Outcome.{Read, Not}
+use Rattle.sheet_rules.specs.Whole.{Outcome}
+use Rattle.sheet_rules.specs.Whole.Outcome.{Read, Not}
 use Rattle.capture_tally.specs.declared.Taken.{Taken}
 use Rattle.capture_tally.specs.declared.Taken.the-variants as taken
 use Rattle.capture_ages.specs.declared.Watch.{Watch}

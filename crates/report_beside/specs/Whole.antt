@@ -8,9 +8,9 @@ use lib.ListN.{length, replicate}
 use Rattle.common.specs.Checks.{Verdict}
 use Rattle.common.specs.Checks.Verdict.{Passed, Refused}
 use Rattle.text.specs.Text.{item}
-use Rattle.sheet_read.specs.Sheets.{Sheet}
-use Rattle.sheet_read.specs.Whole.{Outcome}
-use Rattle.sheet_read.specs.Whole.Outcome.{Read, Not}
+use Rattle.sheet_rules.specs.Sheets.{Sheet}
+use Rattle.sheet_rules.specs.Whole.{Outcome}
+use Rattle.sheet_rules.specs.Whole.Outcome.{Read, Not}
 use Rattle.pnet_rules.specs.Segment.{Segment}
 use Rattle.pnet_bounds.specs.Bounded.{bounded, boundOf, masterOf, spacingOf, jitterOf, streamRun}
 use Rattle.pnet_urgent_rules.specs.Urgent as Urgent

@@ -5,9 +5,9 @@ use mathlib.Core.Bool.{Bool}
 use Prim.Native.Nat.{ℕ, zero, suc}
 use mathlib.Core.List.{List}
 use lib.ListN.{take}
-use Rattle.sheet_read.specs.Lengths.{enough}
-use Rattle.sheet_read.specs.Whole.{Outcome, reading}
-use Rattle.sheet_read.proofs.Lengths.{reading-prefix}
+use Rattle.sheet_rules.specs.Lengths.{enough}
+use Rattle.sheet_rules.specs.Whole.{Outcome, reading}
+use Rattle.sheet_rules.proofs.Lengths.{reading-prefix}
 use Rattle.units.specs.Units.{bp}
 use Rattle.pnet_bounds.specs.Bounded.{bounded, boundedBy}
 use Rattle.pnet_crossing.specs.Cost.{crossingBy}

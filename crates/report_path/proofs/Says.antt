@@ -6,7 +6,7 @@ use mathlib.Core.Logic.{_↔_}
 use Prim.Native.Nat.{ℕ, zero, suc, _+_, _-_}
 use native.Mathlib.Nat.{zero-add, add-zero}
 use native.Mathlib.Omega.{arith}
-use Rattle.sheet_read.specs.Whole.{Outcome}
+use Rattle.sheet_rules.specs.Whole.{Outcome}
 use Rattle.units.specs.Units.{bp}
 use Rattle.pnet_crossing.specs.declared.Crossing.{Crossing}
 use Rattle.pnet_crossing.specs.declared.Crossing.the-variants as crossing

@@ -13,14 +13,14 @@ use borrow.Author.Tests.{eqb-true, not-false, lt-ltb, le-ltb}
 use Rattle.common.specs.Checks.{verdict, Verdict}
 use Rattle.common.specs.Checks.Verdict.{Passed, Refused}
 use Rattle.sheet_reader.specs.Walk.{byteChecks, foundAt}
-use Rattle.sheet_read.specs.Sheets.{Sheet, busIn}
-use Rattle.sheet_read.specs.Whole.{Outcome, orElse, placeOf, reading}
-use Rattle.sheet_read.specs.Whole.Outcome.{Read, Not}
-use Rattle.sheet_read.specs.Lengths.{enough}
-use Rattle.sheet_read.proofs.Lengths.{longest-sheet-is, enough-is, length-at-most, reading-prefix}
-use Rattle.sheet_read.proofs.Refusals.{given-then, numbers-given}
-use Rattle.sheet_read.proofs.Known.{reading-whole, reading-read}
-use Rattle.sheet_read.proofs.Walk.{head-at}
+use Rattle.sheet_rules.specs.Sheets.{Sheet, busIn}
+use Rattle.sheet_rules.specs.Whole.{Outcome, orElse, placeOf, reading}
+use Rattle.sheet_rules.specs.Whole.Outcome.{Read, Not}
+use Rattle.sheet_rules.specs.Lengths.{enough}
+use Rattle.sheet_rules.proofs.Lengths.{longest-sheet-is, enough-is, length-at-most, reading-prefix}
+use Rattle.sheet_rules.proofs.Refusals.{given-then, numbers-given}
+use Rattle.sheet_rules.proofs.Known.{reading-whole, reading-read}
+use Rattle.sheet_rules.proofs.Walk.{head-at}
 use Rattle.sheet_record.specs.declared.Record.{Record}
 use Rattle.sheet_record.specs.Kinds.{busOf, sizeOf, decode}
 use Rattle.sheet_record.proofs.Parts.{pnet-first}

@@ -14,10 +14,10 @@ use Rattle.common.specs.Checks.Verdict.{Passed, Refused}
 use Rattle.sheet_record.specs.Kinds.{isStreamOf, nothing}
 use Rattle.sheet_record.proofs.Parts.{variables}
 use Rattle.sheet_ranges.proofs.Ranges.{variable-ranges}
-use Rattle.sheet_read.specs.Sheets.{Sheet, busIn}
-use Rattle.sheet_read.specs.Whole.{Outcome, reading}
-use Rattle.sheet_read.specs.Whole.Outcome.{Read, Not}
-use Rattle.sheet_read.proofs.Known.{Known, reading-read}
+use Rattle.sheet_rules.specs.Sheets.{Sheet, busIn}
+use Rattle.sheet_rules.specs.Whole.{Outcome, reading}
+use Rattle.sheet_rules.specs.Whole.Outcome.{Read, Not}
+use Rattle.sheet_rules.proofs.Known.{Known, reading-read}
 use Rattle.pnet_rules.specs.Segment.{segmentOf}
 use Rattle.pnet_plan.specs.Planned.{planned}
 use Rattle.profibus_plan.specs.Planned.{planOf}

@@ -11,9 +11,9 @@ use Rattle.common.specs.Checks.Verdict.{Passed, Refused}
 use Rattle.common.proofs.Checks.{Clear, passed-then}
 use Rattle.common.proofs.Checks.Clear.{and}
 use Rattle.common.proofs.Runs.{filled-at}
-use Rattle.sheet_read.specs.Sheets.{Sheet}
-use Rattle.sheet_read.specs.Whole.{Outcome, orElse, reading}
-use Rattle.sheet_read.specs.Whole.Outcome.{Read, Not}
+use Rattle.sheet_rules.specs.Sheets.{Sheet}
+use Rattle.sheet_rules.specs.Whole.{Outcome, orElse, reading}
+use Rattle.sheet_rules.specs.Whole.Outcome.{Read, Not}
 use Rattle.pnet_rules.specs.Segment.{Segment, segmentOf, bound}
 use Rattle.pnet_rules.specs.Refined.{refined, rounds}
 use Rattle.pnet_rules.proofs.Holds.{silent-by-bound}

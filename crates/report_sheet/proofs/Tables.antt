@@ -14,9 +14,9 @@ use Rattle.common.proofs.Checks.Clear.{and}
 use Rattle.common.proofs.Runs.{getD-tab, filled-at}
 use Rattle.units.specs.Units.{us}
 use Rattle.units.specs.declared.Micros.{Micros}
-use Rattle.sheet_read.specs.Sheets.{Sheet, busIn}
-use Rattle.sheet_read.specs.Whole.{Outcome}
-use Rattle.sheet_read.specs.Whole.Outcome.{Read, Not}
+use Rattle.sheet_rules.specs.Sheets.{Sheet, busIn}
+use Rattle.sheet_rules.specs.Whole.{Outcome}
+use Rattle.sheet_rules.specs.Whole.Outcome.{Read, Not}
 use Rattle.worldfip_rules.specs.Traffic.{microcycle, slots, rows, rowOf, identifierAt}
 use Rattle.worldfip_figures.specs.Declares.{trafficOf}
 use Rattle.worldfip_figures.specs.Figures.{identifierOf}

@@ -12,14 +12,14 @@ use Rattle.sheet_record.specs.Kinds.{sizeOf, decode, whole, nothing}
 use Rattle.sheet_reader.specs.Walk.{foundAt, stepFrom, placeAfter, staysAfter, count}
 use Rattle.sheet_reader.specs.declared.Found.the-variants as found
 use Rattle.sheet_reader.proofs.Walk.{finds-whole, steps-over, step-on, place-within, count-is}
-use Rattle.sheet_read.specs.Sheets.{Sheet}
-use Rattle.sheet_read.specs.Records.{recordsIn}
-use Rattle.sheet_read.specs.Whole.{placeOf, recordsOf, reading}
-use Rattle.sheet_read.specs.Whole.Outcome.{Read}
-use Rattle.sheet_read.proofs.Walk.{place-next, length-records, record-at}
-use Rattle.sheet_read.proofs.Cases.{PassesAt, Upto, upto-front}
-use Rattle.sheet_read.proofs.Order.{in-order}
-use Rattle.sheet_read.proofs.Known.{ReadsTo, reading-whole}
+use Rattle.sheet_rules.specs.Sheets.{Sheet}
+use Rattle.sheet_rules.specs.Records.{recordsIn}
+use Rattle.sheet_rules.specs.Whole.{placeOf, recordsOf, reading}
+use Rattle.sheet_rules.specs.Whole.Outcome.{Read}
+use Rattle.sheet_rules.proofs.Walk.{place-next, length-records, record-at}
+use Rattle.sheet_rules.proofs.Cases.{PassesAt, Upto, upto-front}
+use Rattle.sheet_rules.proofs.Order.{in-order}
+use Rattle.sheet_rules.proofs.Known.{ReadsTo, reading-whole}
 
 module _ (s : List ℕ) where
   -- where the first i records stand whole and are of known kinds

@@ -12,8 +12,8 @@ use Rattle.sheet_record.specs.Kinds.{profibus, worldfip, busOf}
 use Rattle.sheet_reader.specs.Walk.{foundAt}
 use Rattle.sheet_reader.specs.declared.Found.{Found}
 use Rattle.sheet_reader.specs.declared.Found.the-variants as found
-use Rattle.sheet_read.specs.Whole.{Outcome, reading}
-use Rattle.sheet_read.specs.Whole.Outcome.{Read, Not}
+use Rattle.sheet_rules.specs.Whole.{Outcome, reading}
+use Rattle.sheet_rules.specs.Whole.Outcome.{Read, Not}
 use Rattle.pnet_rules.specs.Segment.{Segment, segmentOf, count, bound}
 use Rattle.pnet_rules.specs.Refined.{refined, rounds}
 use Rattle.pnet_plan.specs.Planned.{planned, planOf as segmentPlan}

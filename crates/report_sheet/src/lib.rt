@@ -11,7 +11,7 @@ ghost use mathlib.Core.Path.{_≡_};
 ghost use mathlib.Core.Bool.{false};
 ghost use Prim.Native.Nat.{_≤_};
 ghost use lib.ListN.{length};
-ghost use Rattle.sheet_read.specs.Whole.{reading};
+ghost use Rattle.sheet_rules.specs.Whole.{reading};
 ghost use Rattle.profibus_plan.specs.Planned.{planOf as ringPlan};
 ghost use Rattle.pnet_plan.specs.Planned.{planned, planOf as segmentPlan};
 ghost use Rattle.worldfip_plan.specs.Answer.{planOf as tablePlan};

@@ -3,9 +3,9 @@ use mathlib.Core.Path.{_≡_, ap}
 use mathlib.Core.List.{List}
 use Prim.Native.Nat.{ℕ}
 use lib.ListN.{take}
-use Rattle.sheet_read.specs.Lengths.{enough}
-use Rattle.sheet_read.specs.Whole.{Outcome, reading}
-use Rattle.sheet_read.proofs.Lengths.{reading-prefix}
+use Rattle.sheet_rules.specs.Lengths.{enough}
+use Rattle.sheet_rules.specs.Whole.{Outcome, reading}
+use Rattle.sheet_rules.proofs.Lengths.{reading-prefix}
 use Rattle.pnet_urgent_rules.specs.Planned.{urgentBy, urgently}
 use Rattle.report_urgent.specs.Whole.{answerText, isRead, urgentReport, urgentAccepts}
 

@@ -5,9 +5,9 @@ use mathlib.Core.List.{List}
 use mathlib.Core.Logic.{_↔_}
 use Prim.Native.Nat.{ℕ}
 use native.Mathlib.Omega.{arith}
-use Rattle.sheet_read.specs.Sheets.{Sheet}
-use Rattle.sheet_read.specs.Whole.{Outcome}
-use Rattle.sheet_read.specs.Whole.Outcome.{Read, Not}
+use Rattle.sheet_rules.specs.Sheets.{Sheet}
+use Rattle.sheet_rules.specs.Whole.{Outcome}
+use Rattle.sheet_rules.specs.Whole.Outcome.{Read, Not}
 use Rattle.pnet_rules.specs.Segment.{segmentOf}
 use Rattle.pnet_urgent_rules.specs.Planned.{urgently}
 use Rattle.pnet_urgent_rules.specs.Refusals.{Given, Accepted}

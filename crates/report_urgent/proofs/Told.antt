@@ -12,9 +12,9 @@ use Rattle.common.proofs.Runs.{filled-at}
 use Rattle.text.specs.Text.{word, item, texts}
 use Rattle.units.specs.Units.{bp}
 use Rattle.units.specs.declared.BitPeriods.{BitPeriods}
-use Rattle.sheet_read.specs.Sheets.{Sheet}
-use Rattle.sheet_read.specs.Whole.{Outcome}
-use Rattle.sheet_read.specs.Whole.Outcome.{Read, Not}
+use Rattle.sheet_rules.specs.Sheets.{Sheet}
+use Rattle.sheet_rules.specs.Whole.{Outcome}
+use Rattle.sheet_rules.specs.Whole.Outcome.{Read, Not}
 use Rattle.pnet_rules.specs.Segment.{Segment, segmentOf, late}
 use Rattle.pnet_plan.specs.Planned.{firstLate, atPlace}
 use Rattle.pnet_bounds.specs.Bounded.{boundOf, masterOf, streamRun}

@@ -12,6 +12,7 @@ use Rattle.sheet_record.specs.declared.Met.{Met}
 use Rattle.sheet_record.specs.declared.Record.{Record}
 use Rattle.sheet_record.specs.declared.Given.{Given}
 use Rattle.sheet_record.specs.Kinds.{known, sizeOf, decode, inRange, whole, metAt, metOf, isStreamOf, streamMet, nothing}
+use Rattle.sheet_record.proofs.Tables.{size-some}
 use Rattle.sheet_record.proofs.Records.{met-same, stream-same}
 use Rattle.sheet_judge.specs.Own.{ownNo, asBus}
 
@@ -37,11 +38,6 @@ module _ (isKnown isRight isWhole isRanged : Bool) where
   pub own-none : isKnown ≡ true → isRight ≡ true → isWhole ≡ true → isRanged ≡ true → 0 ≡ ownNo isKnown isRight isWhole isRanged
   unfolding ownNo
   own-none a b c d = rw (a, b, c, d)
-
--- a record has its kind byte at least
-pub size-some : (k : ℕ) → 1 ≤ sizeOf k
-unfolding sizeOf
-size-some k = omega arith
 
 -- the later two tests matter only where the earlier ones passed
 pub own-same : (isKnown isRight isWhole isRanged isWhole' isRanged' : Bool) → (isKnown ≡ true → isRight ≡ true → isWhole ≡ isWhole')

@@ -18,11 +18,11 @@ use Rattle.sheet_write.specs.declared.Put.{Put}
 use Rattle.sheet_write.specs.Writing.{freeAnswer, freeBytes}
 use Rattle.sheet_write.proofs.Trips.{length-encode}
 use Rattle.sheet_write.proofs.Writing.{room-free}
-use Rattle.sheet_read.specs.Sheets.{Sheet}
-use Rattle.sheet_read.specs.Whole.{reading}
-use Rattle.sheet_read.specs.Whole.Outcome.{Read}
-use Rattle.sheet_read.specs.Lengths.{enough}
-use Rattle.sheet_read.proofs.Lengths.{enough-is, longest-sheet-is, length-at-most, reading-prefix}
+use Rattle.sheet_rules.specs.Sheets.{Sheet}
+use Rattle.sheet_rules.specs.Whole.{reading}
+use Rattle.sheet_rules.specs.Whole.Outcome.{Read}
+use Rattle.sheet_rules.specs.Lengths.{enough}
+use Rattle.sheet_rules.proofs.Lengths.{enough-is, longest-sheet-is, length-at-most, reading-prefix}
 use Rattle.sheet_line.specs.Lines.{hasWord}
 use Rattle.sheet_line.proofs.Lines.{known-but-3}
 use Rattle.sheet_pieces.specs.Steps.{room, placeAfter, keptMore, sheetMore}

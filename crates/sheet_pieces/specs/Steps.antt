@@ -9,7 +9,7 @@ use Rattle.sheet_record.specs.declared.Record.{Record}
 use Rattle.sheet_write.specs.declared.Put.{Put}
 use Rattle.sheet_write.specs.declared.Put.the-variants as put
 use Rattle.sheet_write.specs.Writing.{freeAnswer, freeBytes}
-use Rattle.sheet_read.specs.Lengths.{longest-record, enough}
+use Rattle.sheet_rules.specs.Lengths.{longest-record, enough}
 use Rattle.sheet_said.specs.Said.{recordIn}
 use Rattle.sheet_pieces.specs.declared.Taken.{Taken}
 use Rattle.sheet_pieces.specs.declared.Ended.{Ended}

@@ -21,17 +21,18 @@ use Rattle.sheet_ranges.proofs.Ranges.{open-ring-ranges, message-ranges}
 use Rattle.sheet_judge.specs.Own.{ownNo}
 use Rattle.sheet_judge.proofs.Own.{met-some, own-met, own-met-kind}
 use Rattle.sheet_messages.specs.Messages.{messageBy, lacksIn}
-use Rattle.sheet_read.specs.Sheets.{Sheet, sheetOf, headOf, given, messageOf, fits, lacking, repeated, mostInAll, hasMasters, countOf, overLimit, metBefore}
-use Rattle.sheet_read.specs.Whole.{placeOf, recordsOf, before, judge, reading, told}
+use Rattle.sheet_rules.specs.Sheets.{Sheet, sheetOf, headOf, given, messageOf, fits, lacking, repeated, mostInAll, hasMasters, countOf, overLimit, metBefore}
+use Rattle.sheet_rules.specs.Whole.{placeOf, recordsOf, before, judge, reading}
+use Rattle.sheet_read.specs.Told.{told}
 use Rattle.sheet_read.specs.Steps.{Begun, Opened, Settles}
 use Rattle.sheet_read.specs.declared.Reading.the-variants as answer
 use Rattle.sheet_read.specs.declared.Settings.{Settings}
-use Rattle.sheet_read.proofs.Walk.{head-at, place-next}
-use Rattle.sheet_read.proofs.Cases.{PassesAt, Upto, passes-then, passes-if, upto-none, upto-more, stops-once, ended-empty}
-use Rattle.sheet_read.proofs.Cases.Stops.{by-record, at-end}
+use Rattle.sheet_rules.proofs.Walk.{head-at, place-next}
+use Rattle.sheet_rules.proofs.Cases.{PassesAt, Upto, passes-then, passes-if, upto-none, upto-more, stops-once, ended-empty}
+use Rattle.sheet_rules.proofs.Cases.Stops.{by-record, at-end}
 use Rattle.sheet_read.proofs.Judged.{numbered, lateChecks, ownAt, wrongAt, judge-own}
-use Rattle.sheet_read.proofs.Order.{no-limits, given-none, nth, fits-first, edition-fits, message-fits, setting-only, empty-list, how-many, behind-first, adds-setting}
-use Rattle.sheet_read.proofs.Openings.{counted, edition-first}
+use Rattle.sheet_rules.proofs.Order.{no-limits, given-none, nth, fits-first, edition-fits, message-fits, setting-only, empty-list, how-many, behind-first, adds-setting}
+use Rattle.sheet_rules.proofs.Openings.{counted, edition-first}
 use Rattle.sheet_read.proofs.Gathered.{of-every, same-for-all, same-past, lacks-nothing, Gives, gives-none, place-again, place-new, gives-more, lacks-told, counts-each, counts-past}
 
 -- ---- A record by itself

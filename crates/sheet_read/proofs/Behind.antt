@@ -25,17 +25,18 @@ use Rattle.sheet_judge.proofs.Own.{met-some, own-same, own-met-of, as-itself}
 use Rattle.sheet_keep.specs.Steps.{lateNo, countsWith, longestsWith, idsWith}
 use Rattle.sheet_keep.proofs.Late.{not-late-variable}
 use Rattle.sheet_messages.specs.Messages.{messageAt}
-use Rattle.sheet_read.specs.Sheets.{Sheet, busIn, given, messageOf, fits, lacking, repeated, overLimit, metBefore}
-use Rattle.sheet_read.specs.Whole.{placeOf, recordsOf, before, firstStream, judge, ended, reading, told, streamsOfMaster, longestOfMaster, byMaster, countsTold, longestsTold, messagesTold, Outcome}
-use Rattle.sheet_read.specs.Whole.Outcome.{Read, Not}
+use Rattle.sheet_rules.specs.Sheets.{Sheet, busIn, given, messageOf, fits, lacking, repeated, overLimit, metBefore}
+use Rattle.sheet_rules.specs.Whole.{placeOf, recordsOf, before, firstStream, judge, ended, reading, Outcome}
+use Rattle.sheet_read.specs.Told.{told, streamsOfMaster, longestOfMaster, byMaster, countsTold, longestsTold, messagesTold}
+use Rattle.sheet_rules.specs.Whole.Outcome.{Read, Not}
 use Rattle.sheet_read.specs.Steps.{Opened, givenTo}
 use Rattle.sheet_read.specs.declared.Reading.the-variants as answer
-use Rattle.sheet_read.proofs.Walk.{head-at, place-next, place-from}
-use Rattle.sheet_read.proofs.Cases.{Upto, passes-then, upto-more, upto-place, stops-once, ended-no-message, ended-no-stream, ended-sheet}
-use Rattle.sheet_read.proofs.Cases.Stops.{at-end}
+use Rattle.sheet_rules.proofs.Walk.{head-at, place-next, place-from}
+use Rattle.sheet_rules.proofs.Cases.{Upto, passes-then, upto-more, upto-place, stops-once, ended-no-message, ended-no-stream, ended-sheet}
+use Rattle.sheet_rules.proofs.Cases.Stops.{at-end}
 use Rattle.sheet_read.proofs.Judged.{numbered, lateChecks, ownAt, wrongAt}
 use Rattle.sheet_read.proofs.Kept.{Figures, Keeps, keeps-none, keeps-more, late-variable, late-stream, variable}
-use Rattle.sheet_read.proofs.Order.{no-limits, given-none, given-same, nth, stream-of, fits-behind, setting-late, first-passes, head-some, empty-list, how-many, adds-stream}
+use Rattle.sheet_rules.proofs.Order.{no-limits, given-none, given-same, nth, stream-of, fits-behind, setting-late, first-passes, head-some, empty-list, how-many, adds-stream}
 use Rattle.sheet_read.proofs.Begins.{own-passed, numbered-not, told-refused, judged-own, judged-wrong, judged-late}
 
 -- ---- Masters

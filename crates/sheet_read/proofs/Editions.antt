@@ -5,7 +5,7 @@ use Prim.Native.Nat.{ℕ}
 use borrow.Author.Tests.{eq-eqb, ne-eqb}
 use Rattle.sheet_record.specs.declared.Met.{Met}
 use Rattle.sheet_record.specs.Kinds.{metOf}
-use Rattle.sheet_read.specs.Steps.{editionAt}
+use Rattle.sheet_rules.specs.Ready.{editionAt}
 
 module _ (s : List ℕ) (m : Met) (is : m ≡ metOf s 2 8) where
   pub none-met : m .next ≡ 2 → 1 ≡ editionAt s

@@ -13,9 +13,9 @@ use Rattle.common.specs.Runs.{tab}
 use Rattle.common.proofs.Runs.{length-tab, getD-tab, tab-same, tab-places, zero-at}
 use Rattle.sheet_record.specs.declared.Record.{Record}
 use Rattle.sheet_messages.specs.Messages.{messageBy, messageAt, lacksIn}
-use Rattle.sheet_read.specs.Sheets.{Sheet, messageOf, countOf, longestOf, lacksOf, lacking, repeated}
-use Rattle.sheet_read.proofs.Counts.{count-more, longest-more}
-use Rattle.sheet_read.proofs.Order.{message-of-ring, message-of-master}
+use Rattle.sheet_rules.specs.Sheets.{Sheet, messageOf, countOf, longestOf, lacksOf, lacking, repeated}
+use Rattle.sheet_rules.proofs.Counts.{count-more, longest-more}
+use Rattle.sheet_rules.proofs.Order.{message-of-ring, message-of-master}
 
 -- ---- What counts for any number
 

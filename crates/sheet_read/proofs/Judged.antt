@@ -10,8 +10,8 @@ use Rattle.common.specs.Checks.{Check, check, Verdict, verdict}
 use Rattle.common.specs.Checks.Verdict.{Refused}
 use Rattle.sheet_record.specs.Kinds.{known, isStream, sizeOf, decode, inRange}
 use Rattle.sheet_judge.specs.Own.{ownNo}
-use Rattle.sheet_read.specs.Sheets.{given, fits, lacking, repeated, overLimit, metBefore}
-use Rattle.sheet_read.specs.Whole.{placeOf, before, recordChecks, judge}
+use Rattle.sheet_rules.specs.Sheets.{given, fits, lacking, repeated, overLimit, metBefore}
+use Rattle.sheet_rules.specs.Whole.{placeOf, before, recordChecks, judge}
 
 -- a number that is not 0 is a refusal
 unfoldable pub numbered : ℕ → ℕ → Verdict → Verdict

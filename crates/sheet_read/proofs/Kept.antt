@@ -18,10 +18,10 @@ use Rattle.sheet_record.specs.Kinds.{kinds, lineOf, busOf, isStreamOf, nothing}
 use Rattle.sheet_record.proofs.Parts.{variables}
 use Rattle.sheet_keep.specs.Steps.{among, lateNo, countsWith, longestsWith, idsWith}
 use Rattle.sheet_keep.proofs.Late.{among-yes, among-then}
-use Rattle.sheet_read.specs.Sheets.{mostInAll, hasMasters, countOf, longestOf, overLimit, metBefore}
-use Rattle.sheet_read.proofs.Counts.{count-more, longest-more, count-none, count-zero}
+use Rattle.sheet_rules.specs.Sheets.{mostInAll, hasMasters, countOf, longestOf, overLimit, metBefore}
+use Rattle.sheet_rules.proofs.Counts.{count-more, longest-more, count-none, count-zero}
 use Rattle.sheet_read.proofs.Judged.{numbered}
-use Rattle.sheet_read.proofs.Order.{stream-of}
+use Rattle.sheet_rules.proofs.Order.{stream-of}
 
 -- ---- What is kept
 

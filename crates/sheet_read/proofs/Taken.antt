@@ -6,17 +6,20 @@ use mathlib.Core.List.{List}
 use Prim.Native.Nat.{ℕ, suc, _+_, _<_}
 use native.Mathlib.Nat.{add-zero}
 use native.Mathlib.Omega.{arith}
-use lib.ListN.{length, getD}
+use lib.ListN.{length, getD, take}
 use Rattle.sheet_record.specs.declared.Met.{Met}
 use Rattle.sheet_record.specs.declared.Record.{Record}
 use Rattle.sheet_record.specs.Kinds.{pnet, busOf, isStreamOf, nothing, metAt, streamMet}
 use Rattle.sheet_record.proofs.Records.{stream-same}
-use Rattle.sheet_read.specs.Sheets.{editionOf}
-use Rattle.sheet_read.specs.Whole.{Outcome, placeOf, firstStream, reading, told}
-use Rattle.sheet_read.specs.Steps.{sheetIn, streamPlace, editionAt, Ready}
-use Rattle.sheet_read.specs.Whole.Outcome.{Read, Not}
+use Rattle.sheet_rules.specs.Sheets.{editionOf}
+use Rattle.sheet_rules.specs.Whole.{Outcome, placeOf, firstStream, reading}
+use Rattle.sheet_read.specs.Told.{told}
+use Rattle.sheet_rules.specs.Ready.{sheetIn, streamPlace, editionAt, Ready}
+use Rattle.sheet_rules.specs.Whole.Outcome.{Read, Not}
 use Rattle.sheet_read.specs.declared.Reading.the-variants as answer
-use Rattle.sheet_read.proofs.Known.{Known, reading-read}
+use Rattle.sheet_rules.specs.Lengths.{enough}
+use Rattle.sheet_rules.proofs.Lengths.{accepted-prefix, reading-prefix}
+use Rattle.sheet_rules.proofs.Known.{Known, reading-read}
 
 -- the answer `Accepted head n first`: what was read has this first record and n streams, the first of them at this place
 pub record Taken (s : List ℕ) (head : Record) (n first : ℕ) : Type 0 where
@@ -82,3 +85,13 @@ module _ {s : List ℕ} {bus first n : ℕ} (ready : Ready s bus first n) where
         is = ap (λ (x : Met). x .found) q' ∙ ready-known .met i l';
         next = ap (λ (x : Met). x .next) q' ∙ (ready-known .next i l' ∙ ap (placeOf s) z);
       }
+
+-- ---- The first 12,820 bytes are enough
+
+-- so the reader answers the same on them
+pub told-prefix : (s : List ℕ) → told s (reading s) ≡ told (take enough s) (reading (take enough s))
+told-prefix s = by (reading s) refl
+  where
+    by : (o : Outcome) → reading s ≡ o → told s (reading s) ≡ told (take enough s) (reading (take enough s))
+    by (Read S) e = ap (λ (t : List ℕ). told t (reading t)) (sym (accepted-prefix s S e))
+    by (Not n p) e = ap (told s) e ∙ ap (told (take enough s)) (sym e ∙ reading-prefix s)

@@ -1,6 +1,2 @@
-pub mod Lengths
-pub mod Records
-pub mod Refusals
-pub mod Sheets
 pub mod Steps
-pub mod Whole
+pub mod Told

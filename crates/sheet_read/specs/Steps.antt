@@ -1,21 +1,19 @@
--- Page 01, 'Sheet records': what the parts of the reader go by behind the first record, and then what the parts of a planner go by.
+-- Page 01, 'Sheet records': what the parts of the reader go by behind the first record.
 -- Words of inner contracts alone. Assumes nothing.
-use Prim.Native.Nat.{ℕ, suc, _+_, _≤_, _<_}
+use Prim.Native.Nat.{ℕ, suc, _≤_, _<_}
 use mathlib.Core.Path.{_≡_}
-use mathlib.Core.List.{List, []}
-use mathlib.Core.Bool.{Bool, true, false, cond}
+use mathlib.Core.List.{List}
+use mathlib.Core.Bool.{Bool, true, false}
 use lib.ListN.{length, getD}
-use lib.Dec.{eqb}
 use Rattle.sheet_record.specs.declared.Record.{Record}
 use Rattle.sheet_record.specs.declared.Given.{Given}
-use Rattle.sheet_record.specs.declared.Met.{Met}
-use Rattle.sheet_record.specs.Kinds.{isSetting, decode, metOf}
+use Rattle.sheet_record.specs.Kinds.{isSetting, decode}
 use Rattle.common.specs.Checks.Verdict.{Passed}
 use Rattle.common.specs.Runs.{tab}
 use Rattle.sheet_messages.specs.Messages.{messageAt}
-use Rattle.sheet_read.specs.Sheets.{Sheet, busIn, messageOf, lacking, sheetOf, fits}
-use Rattle.sheet_read.specs.Whole.{Outcome, placeOf, before, firstStream, judge, reading, told}
-use Rattle.sheet_read.specs.Whole.Outcome.{Read, Not}
+use Rattle.sheet_rules.specs.Sheets.{messageOf, lacking, fits}
+use Rattle.sheet_rules.specs.Whole.{placeOf, before, judge, reading}
+use Rattle.sheet_read.specs.Told.{told}
 use Rattle.sheet_read.specs.declared.Reading.the-variants as answer
 use Rattle.sheet_read.specs.declared.Settings.{Settings}
 
@@ -48,34 +46,3 @@ givenTo masters messages y = record { masters = masters; message = messageAt mes
 pub record Settles (s : List ℕ) (head : Record) (messages : List ℕ) (r : Settings) : Type 0 where
   pub refused : (r .no ≡ 0 → ⊥) → answer.Refused (r .no) (r .at) ≡ told s (reading s)
   pub opened : r .no ≡ 0 → Opened s head (r .at) messages (r .lacks)
-
--- ---- What a planner goes by
-
--- the sheet that was read, and one without records where it was refused
-abbrev pub sheetBy : Outcome → Sheet
-sheetBy (Read S) = S
-sheetBy (Not n p) = sheetOf []
-
-unfoldable pub sheetIn : List ℕ → Sheet
-unfolding reading sheetOf
-sheetIn s = sheetBy (reading s)
-
--- where stream i of an accepted sheet stands, counted from 0
-unfoldable pub streamPlace : List ℕ → ℕ → ℕ
-unfolding placeOf sheetIn
-streamPlace s i = placeOf s (firstStream (sheetIn s) + i)
-
--- the edition of a P-NET sheet: its record can stand just behind the first, whose 2 bytes are before it
-abbrev pub editionMet : Met → ℕ
-editionMet m = cond (eqb (m .next) 2) 1 (m .found .a)
-
-unfoldable pub editionAt : List ℕ → ℕ
-unfolding metOf
-editionAt s = editionMet (metOf s 2 8)
-
--- these bytes are an accepted sheet of a bus with n streams, and the first of them stands at a place
-pub record Ready (s : List ℕ) (bus first n : ℕ) : Type 0 where
-  pub reads : reading s ≡ Read (sheetIn s)
-  pub on-bus : busIn (sheetIn s) ≡ bus
-  pub number : length (sheetIn s .streams) ≡ n
-  pub starts : first ≡ streamPlace s 0

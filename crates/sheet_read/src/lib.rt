@@ -7,8 +7,10 @@ ghost use mathlib.Core.Bool.{_&&_};
 ghost use lib.ListN.{getD, replicate};
 ghost use Rattle.sheet_record.specs.Kinds.{isStreamOf, inRange};
 ghost use Rattle.sheet_judge.specs.Own.{asBus};
-ghost use Rattle.sheet_read.specs.Steps.{editionAt, givenTo, Begun, Opened, Settles};
-ghost use Rattle.sheet_read.specs.Whole.{told, countsTold, longestsTold, messagesTold, reading};
+ghost use Rattle.sheet_rules.specs.Ready.{editionAt};
+ghost use Rattle.sheet_read.specs.Steps.{givenTo, Begun, Opened, Settles};
+ghost use Rattle.sheet_rules.specs.Whole.{reading};
+ghost use Rattle.sheet_read.specs.Told.{told, countsTold, longestsTold, messagesTold};
 
 // What reading a sheet answers.
 pub enum Reading {

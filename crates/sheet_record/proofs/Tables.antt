@@ -37,6 +37,11 @@ pub at-every-kind : (p : List Field → Bool) → p [] ≡ true → everywhere (
 unfolding fieldsOf
 at-every-kind p none e k = at-every-line (λ l. p (l .fields)) none e k
 
+-- a record has its kind byte at least
+pub size-some : (k : ℕ) → 1 ≤ sizeOf k
+unfolding sizeOf
+size-some k = omega arith
+
 -- ---- What the tests show
 
 pub size-at-most : (k : ℕ) → sizeOf k ≤ 16

@@ -13,12 +13,13 @@ use Rattle.text.specs.Text.{over}
 use Rattle.sheet_record.specs.declared.Record.{Record}
 use Rattle.sheet_write.specs.declared.Put.{Put}
 use Rattle.sheet_write.specs.declared.Put.the-variants as put
-use Rattle.sheet_read.specs.Sheets.{Sheet, mastersOf}
-use Rattle.sheet_read.specs.Whole.{Outcome, placeOf, firstStream, reading, told}
-use Rattle.sheet_read.specs.Whole.Outcome.{Read, Not}
-use Rattle.sheet_read.specs.Steps.{sheetIn, streamPlace}
+use Rattle.sheet_rules.specs.Sheets.{Sheet, mastersOf}
+use Rattle.sheet_rules.specs.Whole.{Outcome, placeOf, firstStream, reading}
+use Rattle.sheet_read.specs.Told.{told}
+use Rattle.sheet_rules.specs.Whole.Outcome.{Read, Not}
+use Rattle.sheet_rules.specs.Ready.{sheetIn, streamPlace}
 use Rattle.sheet_read.specs.declared.Reading.the-variants as answer
-use Rattle.sheet_read.proofs.Lengths.{length-at-most, longest-sheet-is}
+use Rattle.sheet_rules.proofs.Lengths.{length-at-most, longest-sheet-is}
 use Rattle.sheet_read.proofs.Taken.{Taken, taken, not-taken}
 use Rattle.sheet_rewrite.specs.Meaning.{Rewrites}
 use Rattle.sheet_rewrite.specs.Meaning.Rewrites.{refused, kept}

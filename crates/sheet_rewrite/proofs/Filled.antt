@@ -18,9 +18,9 @@ use Rattle.sheet_write.specs.declared.Put.the-variants as put
 use Rattle.sheet_write.specs.Writing.{freeAnswer, freeBytes}
 use Rattle.sheet_write.proofs.Trips.{length-encode}
 use Rattle.sheet_write.proofs.Writing.{room-free}
-use Rattle.sheet_read.specs.Records.{bytesOf}
-use Rattle.sheet_read.proofs.Order.{message-of-ring}
-use Rattle.sheet_read.proofs.Trips.{bytes-more}
+use Rattle.sheet_rules.specs.Records.{bytesOf}
+use Rattle.sheet_rules.proofs.Order.{message-of-ring}
+use Rattle.sheet_rules.proofs.Trips.{bytes-more}
 use Rattle.sheet_rewrite.specs.Rewriting.{openRing, messageRecords, alone, frontBytes, fillAnswer, fillBytes}
 
 -- ---- One record

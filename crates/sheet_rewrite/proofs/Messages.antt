@@ -10,9 +10,9 @@ use lib.Dec.{eqb}
 use lib.ListN.{length, getD, take}
 use Rattle.common.specs.Sums.{when}
 use Rattle.sheet_record.specs.Kinds.{kinds, lineOf, partOf, isSetting, isStream, nothing}
-use Rattle.sheet_read.specs.Sheets.{Sheet, messageOf, having, countOf, longestOf, lacksOf}
-use Rattle.sheet_read.proofs.Walk.{having-append, having-it, not-having, grown-length, grown-at, grown-front}
-use Rattle.sheet_read.proofs.Counts.{count-more, longest-more}
+use Rattle.sheet_rules.specs.Sheets.{Sheet, messageOf, having, countOf, longestOf, lacksOf}
+use Rattle.sheet_rules.proofs.Walk.{having-append, having-it, not-having, grown-length, grown-at, grown-front}
+use Rattle.sheet_rules.proofs.Counts.{count-more, longest-more}
 use Rattle.sheet_rewrite.specs.Rewriting.{messageRecord, messageRecords}
 
 module _ (S : Sheet) where

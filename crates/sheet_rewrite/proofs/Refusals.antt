@@ -15,10 +15,10 @@ use Rattle.common.proofs.Checks.Applies.{here}
 use Rattle.text.specs.Text.{over}
 use Rattle.sheet_write.specs.declared.Put.the-variants as put
 use Rattle.sheet_write.proofs.Writing.{refused-by, refused-kept, next-passed}
-use Rattle.sheet_read.specs.Sheets.{Sheet}
-use Rattle.sheet_read.specs.Whole.{Outcome, reading}
-use Rattle.sheet_read.specs.Whole.Outcome.{Read, Not}
-use Rattle.sheet_read.proofs.Refusals.{given-then, given-if}
+use Rattle.sheet_rules.specs.Sheets.{Sheet}
+use Rattle.sheet_rules.specs.Whole.{Outcome, reading}
+use Rattle.sheet_rules.specs.Whole.Outcome.{Read, Not}
+use Rattle.sheet_rules.proofs.Refusals.{given-then, given-if}
 use Rattle.sheet_rewrite.specs.Rewriting.{rewritten, rewrittenBy, rewriteVerdict, rewriteAnswer, rewriteBytes}
 use Rattle.sheet_rewrite.specs.Refusals.{newLength, RewriteRefused}
 use Rattle.sheet_rewrite.specs.Refusals.RewriteRefused.{unread, no-room, no-room-alike}

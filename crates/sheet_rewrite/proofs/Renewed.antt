@@ -14,10 +14,10 @@ use Rattle.sheet_ranges.specs.Ranges.{RingRanges}
 use Rattle.sheet_ranges.proofs.Ranges.{ring-stream-ranges}
 use Rattle.sheet_ranges.proofs.InPage.{ring-stream-in-range, open-ring-in-range, message-in-range}
 use Rattle.sheet_messages.specs.Messages.{messageBy}
-use Rattle.sheet_read.specs.Sheets.{Sheet, headOf, having, sheetOf, mastersOf, messageOf, given, fits, lacking, repeated, overLimit, mostInAll, hasMasters, countOf, metBefore}
-use Rattle.sheet_read.specs.Records.{Follows, Right}
-use Rattle.sheet_read.proofs.Walk.{having-append}
-use Rattle.sheet_read.proofs.Order.{fits-first, message-fits, stream-fits, message-of-ring, message-of-master}
+use Rattle.sheet_rules.specs.Sheets.{Sheet, headOf, having, sheetOf, mastersOf, messageOf, given, fits, lacking, repeated, overLimit, mostInAll, hasMasters, countOf, metBefore}
+use Rattle.sheet_rules.specs.Records.{Follows, Right}
+use Rattle.sheet_rules.proofs.Walk.{having-append}
+use Rattle.sheet_rules.proofs.Order.{fits-first, message-fits, stream-fits, message-of-ring, message-of-master}
 use Rattle.sheet_rewrite.specs.Meaning.{SameRing}
 use Rattle.sheet_rewrite.specs.Rewriting.{openRing, messageRecord, messageRecords, renewed}
 use Rattle.sheet_rewrite.proofs.Messages.{length-messages, message-at, messages-front, messages-settings, messages-no-streams, none-past, none-lacks, its-message}

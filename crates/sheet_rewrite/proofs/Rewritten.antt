@@ -15,16 +15,16 @@ use Rattle.sheet_record.proofs.Parts.{ring-streams}
 use Rattle.sheet_ranges.proofs.Ranges.{ring-ranges}
 use Rattle.sheet_write.specs.Writing.{greatest}
 use Rattle.sheet_write.proofs.Trips.{length-encode}
-use Rattle.sheet_read.specs.Sheets.{Sheet, sheetOf, mastersOf, messageOf}
-use Rattle.sheet_read.specs.Records.{recordsIn, bytesOf, Right}
-use Rattle.sheet_read.specs.Whole.{placeOf, firstStream, reading}
-use Rattle.sheet_read.specs.Whole.Outcome.{Read}
-use Rattle.sheet_read.proofs.Walk.{place-order, head-at}
-use Rattle.sheet_read.proofs.Openings.{settings-none}
-use Rattle.sheet_read.proofs.Order.{message-of-ring}
-use Rattle.sheet_read.proofs.Known.{reading-whole, reading-read}
-use Rattle.sheet_read.proofs.Lengths.{length-at-most, longest-sheet-is}
-use Rattle.sheet_read.proofs.Trips.{bytes-append, writable, written-reads, read-written, read-right}
+use Rattle.sheet_rules.specs.Sheets.{Sheet, sheetOf, mastersOf, messageOf}
+use Rattle.sheet_rules.specs.Records.{recordsIn, bytesOf, Right}
+use Rattle.sheet_rules.specs.Whole.{placeOf, firstStream, reading}
+use Rattle.sheet_rules.specs.Whole.Outcome.{Read}
+use Rattle.sheet_rules.proofs.Walk.{place-order, head-at}
+use Rattle.sheet_rules.proofs.Openings.{settings-none}
+use Rattle.sheet_rules.proofs.Order.{message-of-ring}
+use Rattle.sheet_rules.proofs.Known.{reading-whole, reading-read}
+use Rattle.sheet_rules.proofs.Lengths.{length-at-most, longest-sheet-is}
+use Rattle.sheet_rules.proofs.Trips.{bytes-append, writable, written-reads, read-written, read-right}
 use Rattle.sheet_rewrite.specs.Meaning.{SameMeaning}
 use Rattle.sheet_rewrite.specs.Meaning.SameMeaning.{same-sheet, same-ring}
 use Rattle.sheet_rewrite.specs.Rewriting.{openRing, messageRecords, renewed, rewritten, alone, frontBytes}

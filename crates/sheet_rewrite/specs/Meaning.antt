@@ -7,9 +7,9 @@ use lib.ListN.{take}
 use Rattle.sheet_record.specs.Kinds.{profibus}
 use Rattle.sheet_write.specs.declared.Put.{Put}
 use Rattle.sheet_write.specs.declared.Put.the-variants as put
-use Rattle.sheet_read.specs.Sheets.{Sheet, busIn, mastersOf, messageOf}
-use Rattle.sheet_read.specs.Whole.{reading}
-use Rattle.sheet_read.specs.Whole.Outcome.{Read}
+use Rattle.sheet_rules.specs.Sheets.{Sheet, busIn, mastersOf, messageOf}
+use Rattle.sheet_rules.specs.Whole.{reading}
+use Rattle.sheet_rules.specs.Whole.Outcome.{Read}
 
 -- two sheets say the same ring, the one by kind 3 and the other by kinds 9 and 10: n, L, the longest message of each master, and the streams
 pub record SameRing (S S' : Sheet) : Type 0 where

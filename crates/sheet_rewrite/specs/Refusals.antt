@@ -3,10 +3,10 @@ use Prim.Native.Nat.{ℕ, _+_, _*_, _<_}
 use mathlib.Core.Path.{_≡_}
 use mathlib.Core.List.{List}
 use lib.ListN.{length}
-use Rattle.sheet_read.specs.Sheets.{Sheet, mastersOf}
-use Rattle.sheet_read.specs.Whole.{reading}
-use Rattle.sheet_read.specs.Whole.Outcome.{Read}
-use Rattle.sheet_read.specs.Refusals.{Given}
+use Rattle.sheet_rules.specs.Sheets.{Sheet, mastersOf}
+use Rattle.sheet_rules.specs.Whole.{reading}
+use Rattle.sheet_rules.specs.Whole.Outcome.{Read}
+use Rattle.sheet_rules.specs.Refusals.{Given}
 
 -- how long a ring of kind 3 is as one of kinds 9 and 10: 6 bytes for the ring, 6 for each master, 10 for each stream
 unfoldable pub newLength : Sheet → ℕ

@@ -11,10 +11,10 @@ use Rattle.text.specs.Text.{over}
 use Rattle.sheet_record.specs.declared.Record.{Record}
 use Rattle.sheet_write.specs.declared.Put.{Put}
 use Rattle.sheet_write.specs.Writing.{putBy, pastedBy}
-use Rattle.sheet_read.specs.Sheets.{Sheet, mastersOf, messageOf}
-use Rattle.sheet_read.specs.Records.{bytesOf}
-use Rattle.sheet_read.specs.Whole.{Outcome, reading}
-use Rattle.sheet_read.specs.Whole.Outcome.{Read, Not}
+use Rattle.sheet_rules.specs.Sheets.{Sheet, mastersOf, messageOf}
+use Rattle.sheet_rules.specs.Records.{bytesOf}
+use Rattle.sheet_rules.specs.Whole.{Outcome, reading}
+use Rattle.sheet_rules.specs.Whole.Outcome.{Read, Not}
 
 -- ---- The new sheet
 

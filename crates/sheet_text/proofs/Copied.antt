@@ -10,9 +10,10 @@ use Rattle.text.proofs.Writing.{wrote-front}
 use Rattle.sheet_record.specs.declared.Record.{Record}
 use Rattle.sheet_write.specs.declared.Put.{Put}
 use Rattle.sheet_write.specs.declared.Put.the-variants as put
-use Rattle.sheet_read.specs.Sheets.{Sheet}
-use Rattle.sheet_read.specs.Whole.{Outcome, reading, told}
-use Rattle.sheet_read.specs.Whole.Outcome.{Read, Not}
+use Rattle.sheet_rules.specs.Sheets.{Sheet}
+use Rattle.sheet_rules.specs.Whole.{Outcome, reading}
+use Rattle.sheet_read.specs.Told.{told}
+use Rattle.sheet_rules.specs.Whole.Outcome.{Read, Not}
 use Rattle.sheet_read.specs.declared.Reading.the-variants as answer
 use Rattle.sheet_read.proofs.Taken.{taken, not-taken}
 use Rattle.sheet_text.specs.Answers.{copyAnswer, copyBytes}

@@ -4,7 +4,7 @@ use mathlib.Core.Path.{_≡_, refl}
 use mathlib.Core.List.{List, [], _∷_}
 use Rattle.common.specs.Sums.{firstOf}
 use Rattle.text.specs.Text.{word, places, holds, widthOf, decimal}
-use Rattle.sheet_read.specs.Sheets.{sheetOf, messageOf}
+use Rattle.sheet_rules.specs.Sheets.{sheetOf, messageOf}
 use Rattle.sheet_write.specs.declared.Put.the-variants as put
 use Rattle.sheet_text.specs.Answers.{exportAnswer, exportBytes, importAnswer, importBytes}
 

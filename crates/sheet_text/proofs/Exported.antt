@@ -13,9 +13,10 @@ use Rattle.text.proofs.Writing.{wrote-front}
 use Rattle.sheet_record.specs.declared.Record.{Record}
 use Rattle.sheet_write.specs.declared.Put.{Put}
 use Rattle.sheet_write.specs.declared.Put.the-variants as put
-use Rattle.sheet_read.specs.Whole.{reading, told}
-use Rattle.sheet_read.specs.Whole.Outcome.{Read}
-use Rattle.sheet_read.specs.Steps.{sheetIn}
+use Rattle.sheet_rules.specs.Whole.{reading}
+use Rattle.sheet_read.specs.Told.{told}
+use Rattle.sheet_rules.specs.Whole.Outcome.{Read}
+use Rattle.sheet_rules.specs.Ready.{sheetIn}
 use Rattle.sheet_read.specs.declared.Reading.the-variants as answer
 use Rattle.sheet_read.proofs.Taken.{Taken, taken, not-taken}
 use Rattle.sheet_line.specs.Lines.{hasWord}

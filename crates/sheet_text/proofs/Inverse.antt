@@ -26,13 +26,13 @@ use Rattle.sheet_write.specs.declared.Put.the-variants as put
 use Rattle.sheet_write.specs.Writing.{greatest, putBy}
 use Rattle.sheet_write.proofs.Trips.{decode-fit}
 use Rattle.sheet_write.proofs.Writing.{next-passed}
-use Rattle.sheet_read.specs.Sheets.{Sheet, busIn}
-use Rattle.sheet_read.specs.Records.{recordsIn, bytesOf}
-use Rattle.sheet_read.specs.Whole.{Outcome, reading}
-use Rattle.sheet_read.specs.Whole.Outcome.{Read, Not}
-use Rattle.sheet_read.proofs.Order.{stream-of}
-use Rattle.sheet_read.proofs.Known.{reading-read}
-use Rattle.sheet_read.proofs.Trips.{right-ranged, read-right, read-written}
+use Rattle.sheet_rules.specs.Sheets.{Sheet, busIn}
+use Rattle.sheet_rules.specs.Records.{recordsIn, bytesOf}
+use Rattle.sheet_rules.specs.Whole.{Outcome, reading}
+use Rattle.sheet_rules.specs.Whole.Outcome.{Read, Not}
+use Rattle.sheet_rules.proofs.Order.{stream-of}
+use Rattle.sheet_rules.proofs.Known.{reading-read}
+use Rattle.sheet_rules.proofs.Trips.{right-ranged, read-right, read-written}
 use Rattle.sheet_line.specs.Lines.{wordOf, hasWord, inBytes, sayable}
 use Rattle.sheet_line.proofs.Lines.{known-but-3}
 use Rattle.sheet_said.proofs.Guessed.{has-word, in-bytes}

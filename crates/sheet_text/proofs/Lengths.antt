@@ -15,12 +15,12 @@ use Rattle.sheet_ranges.proofs.Fits.{Fit, in-range-fits}
 use Rattle.sheet_ranges.proofs.Fits.Fit.{none, over, more}
 use Rattle.sheet_write.specs.declared.Put.the-variants as put
 use Rattle.sheet_write.specs.Writing.{greatest}
-use Rattle.sheet_read.specs.Sheets.{Sheet, mostInAll}
-use Rattle.sheet_read.specs.Records.{recordsIn}
-use Rattle.sheet_read.specs.Whole.{reading}
-use Rattle.sheet_read.specs.Whole.Outcome.{Read}
-use Rattle.sheet_read.proofs.Known.{reading-read}
-use Rattle.sheet_read.proofs.Lengths.{length-at-most, longest-sheet-is}
+use Rattle.sheet_rules.specs.Sheets.{Sheet, mostInAll}
+use Rattle.sheet_rules.specs.Records.{recordsIn}
+use Rattle.sheet_rules.specs.Whole.{reading}
+use Rattle.sheet_rules.specs.Whole.Outcome.{Read}
+use Rattle.sheet_rules.proofs.Known.{reading-read}
+use Rattle.sheet_rules.proofs.Lengths.{length-at-most, longest-sheet-is}
 use Rattle.sheet_line.specs.Lines.{lineText}
 use Rattle.sheet_line.proofs.Lines.{Small, line-most}
 use Rattle.sheet_pieces.specs.Texts.{textOf}

@@ -13,7 +13,7 @@ use lib.Dec.{eqb}
 use lib.ListN.{length, length-append}
 use Rattle.sheet_record.specs.declared.Record.{Record}
 use Rattle.sheet_record.specs.Kinds.{encode}
-use Rattle.sheet_read.specs.Records.{bytesOf}
+use Rattle.sheet_rules.specs.Records.{bytesOf}
 use Rattle.sheet_line.specs.Lines.{lineText, sayable, Says}
 use Rattle.sheet_said.specs.Said.{recordIn}
 use Rattle.sheet_said.proofs.Without.{Without, without-append}

@@ -11,13 +11,13 @@ use Rattle.text.proofs.Writing.{wrote-none, wrote-then}
 use Rattle.sheet_record.specs.declared.Met.{Met}
 use Rattle.sheet_record.specs.declared.Record.{Record}
 use Rattle.sheet_record.specs.Kinds.{decode, metAt, nothing}
-use Rattle.sheet_read.specs.Records.{recordsIn}
-use Rattle.sheet_read.specs.Whole.{placeOf, recordsOf, reading}
-use Rattle.sheet_read.specs.Whole.Outcome.{Read}
-use Rattle.sheet_read.specs.Steps.{sheetIn}
-use Rattle.sheet_read.proofs.Walk.{place-next, length-records, record-at, records-front}
-use Rattle.sheet_read.proofs.Order.{in-order}
-use Rattle.sheet_read.proofs.Known.{ReadsTo, reading-whole, met-whole}
+use Rattle.sheet_rules.specs.Records.{recordsIn}
+use Rattle.sheet_rules.specs.Whole.{placeOf, recordsOf, reading}
+use Rattle.sheet_rules.specs.Whole.Outcome.{Read}
+use Rattle.sheet_rules.specs.Ready.{sheetIn}
+use Rattle.sheet_rules.proofs.Walk.{place-next, length-records, record-at, records-front}
+use Rattle.sheet_rules.proofs.Order.{in-order}
+use Rattle.sheet_rules.proofs.Known.{ReadsTo, reading-whole, met-whole}
 use Rattle.sheet_line.specs.Lines.{lineText}
 use Rattle.sheet_pieces.specs.Texts.{textOf}
 use Rattle.sheet_text.specs.Answers.{sheetText, most-text}

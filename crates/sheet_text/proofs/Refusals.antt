@@ -19,12 +19,12 @@ use Rattle.sheet_record.specs.Kinds.{decode}
 use Rattle.sheet_record.proofs.Tables.{known-within}
 use Rattle.sheet_write.specs.declared.Put.the-variants as put
 use Rattle.sheet_write.proofs.Writing.{refused-by, refused-kept}
-use Rattle.sheet_read.specs.Sheets.{Sheet}
-use Rattle.sheet_read.specs.Records.{bytesOf}
-use Rattle.sheet_read.specs.Whole.{Outcome, placeOf, reading}
-use Rattle.sheet_read.specs.Whole.Outcome.{Read, Not}
-use Rattle.sheet_read.proofs.Known.{reading-read}
-use Rattle.sheet_read.proofs.Refusals.{given-then, given-if, refused-2}
+use Rattle.sheet_rules.specs.Sheets.{Sheet}
+use Rattle.sheet_rules.specs.Records.{bytesOf}
+use Rattle.sheet_rules.specs.Whole.{Outcome, placeOf, reading}
+use Rattle.sheet_rules.specs.Whole.Outcome.{Read, Not}
+use Rattle.sheet_rules.proofs.Known.{reading-read}
+use Rattle.sheet_rules.proofs.Refusals.{given-then, given-if, refused-2}
 use Rattle.sheet_line.specs.Lines.{hasWord}
 use Rattle.sheet_said.specs.Said.{kindIn}
 use Rattle.sheet_said.proofs.Guessed.{has-word, kind-text}

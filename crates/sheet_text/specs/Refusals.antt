@@ -6,11 +6,11 @@ use mathlib.Core.List.{List, [], _∷_, _++_}
 use mathlib.Core.Bool.{true}
 use lib.ListN.{length}
 use Rattle.sheet_record.specs.declared.Record.{Record}
-use Rattle.sheet_read.specs.Sheets.{Sheet}
-use Rattle.sheet_read.specs.Records.{bytesOf}
-use Rattle.sheet_read.specs.Whole.{reading}
-use Rattle.sheet_read.specs.Whole.Outcome.{Read}
-use Rattle.sheet_read.specs.Refusals.{Given}
+use Rattle.sheet_rules.specs.Sheets.{Sheet}
+use Rattle.sheet_rules.specs.Records.{bytesOf}
+use Rattle.sheet_rules.specs.Whole.{reading}
+use Rattle.sheet_rules.specs.Whole.Outcome.{Read}
+use Rattle.sheet_rules.specs.Refusals.{Given}
 use Rattle.sheet_line.specs.Lines.{lineText, sayable}
 use Rattle.sheet_pieces.specs.Texts.{textOf}
 use Rattle.sheet_text.specs.Answers.{sheetText}

@@ -7,9 +7,9 @@ use sheet_write::Put;
 ghost use mathlib.Core.Path.{_≡_};
 ghost use lib.ListN.{length};
 ghost use Rattle.text.specs.Text.{Zeros, Wrote};
-ghost use Rattle.sheet_read.specs.Steps.{sheetIn};
-ghost use Rattle.sheet_read.specs.Whole.{reading};
-ghost use Rattle.sheet_read.specs.Whole.Outcome.{Read};
+ghost use Rattle.sheet_rules.specs.Ready.{sheetIn};
+ghost use Rattle.sheet_rules.specs.Whole.{reading};
+ghost use Rattle.sheet_rules.specs.Whole.Outcome.{Read};
 ghost use Rattle.sheet_text.specs.Answers.{sheetText, most-text, exportAnswer, exportBytes, importAnswer, importBytes, copyAnswer, copyBytes};
 
 // No text of an accepted sheet is longer.

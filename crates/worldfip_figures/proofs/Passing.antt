@@ -17,11 +17,11 @@ use Rattle.sheet_record.specs.Kinds.{nothing, worldfip, isStreamOf, streamMet}
 use Rattle.sheet_record.proofs.Parts.{exchange-first, variables}
 use Rattle.sheet_ranges.specs.Ranges.{VariableRanges}
 use Rattle.sheet_ranges.proofs.Ranges.{exchange-ranges, variable-ranges}
-use Rattle.sheet_read.specs.Sheets.{Sheet, busIn, given, sheetOf}
-use Rattle.sheet_read.specs.Whole.{Outcome, reading}
-use Rattle.sheet_read.specs.Steps.{sheetIn, streamPlace, Ready}
-use Rattle.sheet_read.specs.Whole.Outcome.{Read}
-use Rattle.sheet_read.proofs.Known.{Known}
+use Rattle.sheet_rules.specs.Sheets.{Sheet, busIn, given, sheetOf}
+use Rattle.sheet_rules.specs.Whole.{Outcome, reading}
+use Rattle.sheet_rules.specs.Ready.{sheetIn, streamPlace, Ready}
+use Rattle.sheet_rules.specs.Whole.Outcome.{Read}
+use Rattle.sheet_rules.proofs.Known.{Known}
 use Rattle.sheet_read.proofs.Taken.{ready-known, stream-met}
 use Rattle.worldfip_rules.specs.Traffic.{Traffic, Declared, plain, periodOf, ahead, rankOf, variableOf, identifierAt, microcycle, slots, inRows, rows, periodAt}
 use Rattle.worldfip_rules.proofs.Plain.{plainOf, plain-declared, plain-variable}

@@ -4,7 +4,7 @@ use mathlib.Core.List.{List}
 use lib.ListN.{length, getD}
 use Rattle.sheet_record.specs.declared.Record.{Record}
 use Rattle.sheet_record.specs.Kinds.{nothing}
-use Rattle.sheet_read.specs.Sheets.{Sheet}
+use Rattle.sheet_rules.specs.Sheets.{Sheet}
 use Rattle.worldfip_rules.specs.Traffic.{Variable, Traffic}
 
 -- a variable's fields

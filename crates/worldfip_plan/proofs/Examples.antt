@@ -3,8 +3,8 @@ use Prim.Native.Nat.{ℕ}
 use mathlib.Core.Path.{_≡_, refl}
 use mathlib.Core.List.{List, [], _∷_}
 use Rattle.common.specs.Runs.{tab}
-use Rattle.sheet_read.specs.Sheets.{sheetOf}
-use Rattle.sheet_read.specs.Whole.{reading}
+use Rattle.sheet_rules.specs.Sheets.{sheetOf}
+use Rattle.sheet_rules.specs.Whole.{reading}
 use Rattle.worldfip_rules.specs.Build.{row, missRow, byRank}
 use Rattle.units.specs.Units.{us}
 use Rattle.worldfip_rules.specs.Traffic.{askedOf}

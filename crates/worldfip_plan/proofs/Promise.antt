@@ -11,10 +11,10 @@ use Rattle.common.specs.Checks.Verdict.{Passed, Refused}
 use Rattle.common.specs.Runs.{tab, filled}
 use Rattle.common.proofs.Runs.{length-tab, length-filled, filled-at}
 use Rattle.sheet_record.specs.Kinds.{worldfip}
-use Rattle.sheet_read.specs.Sheets.{Sheet, busIn}
-use Rattle.sheet_read.specs.Whole.{Outcome}
-use Rattle.sheet_read.specs.Whole.Outcome.{Read, Not}
-use Rattle.sheet_read.proofs.Known.{Known}
+use Rattle.sheet_rules.specs.Sheets.{Sheet, busIn}
+use Rattle.sheet_rules.specs.Whole.{Outcome}
+use Rattle.sheet_rules.specs.Whole.Outcome.{Read, Not}
+use Rattle.sheet_rules.proofs.Known.{Known}
 use Rattle.units.specs.declared.Micros.{Micros}
 use Rattle.worldfip_rules.specs.Table.{Table}
 use Rattle.worldfip_rules.specs.Traffic.{Traffic, rows, askedOf, rowOf}

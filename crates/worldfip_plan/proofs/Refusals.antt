@@ -9,9 +9,9 @@ use native.Mathlib.Decide.{ℕ-discrete, decLt}
 use Rattle.common.specs.Checks.{Verdict, verdict}
 use Rattle.common.specs.Checks.Verdict.{Refused}
 use Rattle.sheet_record.specs.Kinds.{worldfip}
-use Rattle.sheet_read.specs.Sheets.{Sheet, busIn}
-use Rattle.sheet_read.specs.Whole.Outcome.{Read}
-use Rattle.sheet_read.proofs.Known.{Known}
+use Rattle.sheet_rules.specs.Sheets.{Sheet, busIn}
+use Rattle.sheet_rules.specs.Whole.Outcome.{Read}
+use Rattle.sheet_rules.proofs.Known.{Known}
 use Rattle.units.specs.Units.{us}
 use Rattle.worldfip_rules.specs.Traffic.{Traffic, Declared, microcycle, slots, rows, missOf, missingOf}
 use Rattle.worldfip_rules.specs.Misses.{Named}

@@ -3,7 +3,7 @@
 use mathlib.Core.Path.{_≡_}
 use Prim.Native.Nat.{ℕ, _≤_, _<_}
 use Rattle.sheet_record.specs.Kinds.{worldfip}
-use Rattle.sheet_read.specs.Sheets.{Sheet, busIn}
+use Rattle.sheet_rules.specs.Sheets.{Sheet, busIn}
 use Rattle.worldfip_rules.specs.Table.{Table}
 use Rattle.units.specs.Units.{us}
 use Rattle.worldfip_rules.specs.Traffic.{Traffic, microcycle, slots, rows, askedOf, rowOf}

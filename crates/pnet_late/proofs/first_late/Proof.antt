@@ -7,7 +7,7 @@ use borrow.Author.Count.{below-none, below-more}
 use borrow.Author.Needs.{needs}
 use Rattle.common.specs.Sums.{firstOf}
 use Rattle.common.proofs.Firsts.{first-here, first-nowhere}
-use Rattle.sheet_read.specs.Steps.{streamPlace}
+use Rattle.sheet_rules.specs.Ready.{streamPlace}
 use Rattle.pnet_rules.specs.Segment.{late}
 use Rattle.pnet_plan.specs.Planned.{firstLate}
 use Rattle.pnet_plan.specs.Arrays.{segmentIn}

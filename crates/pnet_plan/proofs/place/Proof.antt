@@ -10,7 +10,7 @@ use borrow.Author.Needs.{needs}
 use lib.ListN.{length, set, length-set}
 use Rattle.common.specs.Sums.{firstOf}
 use Rattle.common.proofs.Firsts.{first-here, first-nowhere}
-use Rattle.sheet_read.specs.Steps.{streamPlace}
+use Rattle.sheet_rules.specs.Ready.{streamPlace}
 use Rattle.pnet_rules.specs.Segment.{late}
 use Rattle.pnet_rules.proofs.Holds.{turn-at-most}
 use Rattle.pnet_plan.specs.Planned.{firstLate}

@@ -8,7 +8,7 @@ use borrow.Author.Tests.{ltb-true, ltb-false}
 use lib.ListN.{length, replicate}
 use Rattle.sheet_record.specs.declared.Record.{Record}
 use Rattle.sheet_record.specs.Kinds.{busOf}
-use Rattle.sheet_read.specs.Steps.{sheetIn}
+use Rattle.sheet_rules.specs.Ready.{sheetIn}
 use Rattle.sheet_read.proofs.Taken.{Taken, taken, not-taken}
 use Rattle.pnet_plan.proofs.Bytes.{sheeted, streams-few}
 use Rattle.pnet_plan.proofs.Cases.{planned-unread, planned-other, planned-short, returned-refused}

@@ -7,7 +7,7 @@ use native.Mathlib.Omega.{arith}
 use borrow.Author.Needs.{needs}
 use lib.ListN.{getD}
 use Rattle.common.proofs.Runs.{getD-tab}
-use Rattle.sheet_read.specs.Steps.{sheetIn, streamPlace}
+use Rattle.sheet_rules.specs.Ready.{sheetIn, streamPlace}
 use Rattle.profibus_rules.specs.Ring.{Ring, ringOf, count, rotation, Declared}
 use Rattle.profibus_plan.proofs.Passing.{Stepped, ready-declared, ready-number, stepped}
 use Rattle.profibus_rules.specs.Target.{Limited}

@@ -5,7 +5,7 @@ use lib.ListN.{getD}
 use Rattle.common.specs.Runs.{tab}
 use Rattle.common.specs.Sums.{upto}
 use Rattle.sheet_read.proofs.Taken.{Taken, taken, not-taken, taken-ready}
-use Rattle.sheet_read.specs.Steps.{sheetIn, Ready}
+use Rattle.sheet_rules.specs.Ready.{sheetIn, Ready}
 use Rattle.sheet_record.specs.declared.Record.{Record}
 use Rattle.sheet_record.specs.Kinds.{profibus, busOf}
 use Rattle.profibus_rules.specs.Ring.{ringOf, Declared}

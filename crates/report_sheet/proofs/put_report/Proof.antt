@@ -5,7 +5,7 @@ use Prim.Native.Nat.{ℕ}
 use borrow.Author.Needs.{needs}
 use borrow.Author.Tests.{eq-eqb, ne-eqb}
 use denote.Ref.{now}
-use Rattle.sheet_read.specs.Whole.{reading}
+use Rattle.sheet_rules.specs.Whole.{reading}
 use Rattle.pnet_plan.specs.Planned.{planned, planOf as segmentPlan}
 use Rattle.profibus_plan.specs.Planned.{planOf as ringPlan}
 use Rattle.worldfip_plan.specs.Answer.{planOf as tablePlan}

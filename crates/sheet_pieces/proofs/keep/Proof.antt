@@ -2,7 +2,7 @@
 use mathlib.Core.Path.{sym, _∙_}
 use native.Mathlib.Omega.{arith}
 use borrow.Author.Needs.{needs}
-use Rattle.sheet_read.proofs.Lengths.{enough-is}
+use Rattle.sheet_rules.proofs.Lengths.{enough-is}
 use Rattle.sheet_pieces.proofs.Kept.{keeps-none, keeps-by}
 use Rattle.sheet_pieces.proofs.keep.Statement.{statement}
 use Rattle.sheet_pieces.proofs.keep.Tie as tie

@@ -4,8 +4,8 @@ use borrow.Author.Needs.{needs}
 use Rattle.sheet_read.proofs.Taken.{Taken, taken, not-taken, taken-ready}
 use Rattle.sheet_record.specs.declared.Record.{Record}
 use Rattle.sheet_record.specs.Kinds.{worldfip, busOf}
-use Rattle.sheet_read.specs.Sheets.{busIn}
-use Rattle.sheet_read.specs.Steps.{sheetIn, Ready}
+use Rattle.sheet_rules.specs.Sheets.{busIn}
+use Rattle.sheet_rules.specs.Ready.{sheetIn, Ready}
 use Rattle.worldfip_figures.specs.Figures.{figuresOf}
 use Rattle.worldfip_figures.proofs.Passing.{sheeted, figures-are, other-bus}
 use Rattle.worldfip_figures.proofs.figures_of.Statement.{statement}

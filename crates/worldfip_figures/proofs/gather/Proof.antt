@@ -7,7 +7,7 @@ use native.Mathlib.Omega.{arith}
 use lib.Dec.{ltb}
 use lib.ListN.{length, getD, length-set}
 use Rattle.common.specs.Sums.{when}
-use Rattle.sheet_read.specs.Steps.{sheetIn, streamPlace}
+use Rattle.sheet_rules.specs.Ready.{sheetIn, streamPlace}
 use Rattle.worldfip_rules.specs.Traffic.{Variable}
 use Rattle.worldfip_figures.specs.Declares.{trafficOf}
 use Rattle.worldfip_figures.proofs.Turns.{front-none, front-more, front-all}

@@ -6,9 +6,9 @@ use Rattle.sheet_read.proofs.Taken.{Taken, taken, not-taken, taken-ready}
 use Rattle.common.proofs.Runs.{tab-places}
 use Rattle.sheet_record.specs.declared.Record.{Record}
 use Rattle.sheet_record.specs.Kinds.{worldfip, busOf}
-use Rattle.sheet_read.specs.Sheets.{busIn}
-use Rattle.sheet_read.specs.Whole.{Outcome, reading}
-use Rattle.sheet_read.specs.Steps.{sheetIn, Ready}
+use Rattle.sheet_rules.specs.Sheets.{busIn}
+use Rattle.sheet_rules.specs.Whole.{Outcome, reading}
+use Rattle.sheet_rules.specs.Ready.{sheetIn, Ready}
 use Rattle.worldfip_figures.specs.Figures.{identifierOf}
 use Rattle.worldfip_figures.proofs.Turns.{zero-run}
 use Rattle.worldfip_figures.proofs.Tied.{few, places-within}

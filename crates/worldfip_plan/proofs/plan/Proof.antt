@@ -2,8 +2,8 @@
 use mathlib.Core.Path.{refl, ap}
 use native.Mathlib.Omega.{arith}
 use borrow.Author.Needs.{needs}
-use Rattle.sheet_read.specs.Whole.{reading}
-use Rattle.sheet_read.proofs.Known.{reading-read}
+use Rattle.sheet_rules.specs.Whole.{reading}
+use Rattle.sheet_rules.proofs.Known.{reading-read}
 use Rattle.worldfip_rules.specs.Traffic.{Declared}
 use Rattle.worldfip_figures.specs.Declares.{trafficOf}
 use Rattle.worldfip_figures.proofs.Measured.{Measured, told-table, told-refusal}

@@ -9,7 +9,7 @@ use Rattle.sheet_record.specs.declared.Record.{Record}
 use Rattle.sheet_write.specs.declared.Put.the-variants as put
 use Rattle.sheet_record.specs.Kinds.{known, isStream, encode, inRange, nothing}
 use Rattle.sheet_write.specs.Writing.{putAnswer, putBytes}
-use Rattle.sheet_read.specs.Sheets.{Sheet, sheetOf, given, fits, lacking, repeated, overLimit, metBefore}
+use Rattle.sheet_rules.specs.Sheets.{Sheet, sheetOf, given, fits, lacking, repeated, overLimit, metBefore}
 
 -- the records of a sheet: the first one, its settings, its streams
 unfoldable pub recordsIn : Sheet → List Record

@@ -18,26 +18,26 @@ use Rattle.sheet_record.specs.Kinds.{kinds, lineOf, busOf, partOf, isFirst, isS
 use Rattle.sheet_record.proofs.Tables.{both-true, known-within, known-bounds}
 use Rattle.sheet_ranges.proofs.InPage.{in-page-in-range, in-range-exactly}
 use Rattle.sheet_record.proofs.Parts.{first-kinds, setting-kinds, pnet-stream-kinds, ring-streams, variables}
-use Rattle.sheet_read.specs.Sheets.{Sheet, sheetOf, given, messageOf, ofKind, fits, countOf, mostInAll, hasMasters, lacking, repeated, overLimit, metBefore}
-use Rattle.sheet_read.specs.Whole.{placeOf, recordsOf, before, firstStream, recordChecks, judge, ended, reading, Outcome}
-use Rattle.sheet_read.specs.Whole.Outcome.{Read, Not}
-use Rattle.sheet_read.specs.Refusals.{recordAt, streamsBefore, KnownKind, Begins, Matches, RightKind, Complete, Ranged, HasMessage, Missing, WrongMessages, InLimits, MetBefore, RefusedWith, Taken, Reached, NoStream, Given}
-use Rattle.sheet_read.specs.Refusals.Begins.{pnet-segment, ring, exchange, open-ring}
-use Rattle.sheet_read.specs.Refusals.Matches.{pnet-stream, pnet-jitter-stream, ring-stream, open-ring-stream, variable}
-use Rattle.sheet_read.specs.Refusals.RightKind.{at-first, edition, message, behind}
-use Rattle.sheet_read.specs.Refusals.WrongMessages.{again, missing}
-use Rattle.sheet_read.specs.Refusals.RefusedWith.{unknown, misplaced, cut, out-of-range, wrong-messages, one-too-many, met-before}
-use Rattle.sheet_read.specs.Refusals.Given.{empty, at-record, no-message, no-stream}
-use Rattle.sheet_read.proofs.Walk.{head-at}
-use Rattle.sheet_read.proofs.Cases.{PassesAt, Upto, Stops, neither, none-of-both, upto-none, upto-more, upto-front, reading-stops, stops-once, ended-empty, ended-no-message, ended-no-stream, ended-sheet}
-use Rattle.sheet_read.proofs.Cases.Stops.{by-record, at-end}
-use Rattle.sheet_read.proofs.Counts.{count-none, count-some}
-use Rattle.sheet_read.proofs.Order.{nth, Placed, fits-then, fits-first, stream-fits, first-only, first-passes, head-some, how-many, stream-at}
-use Rattle.sheet_read.proofs.Order.Placed.{as-first, as-setting, as-stream}
-use Rattle.sheet_read.proofs.Openings.{counted, Settled, settled, edition-right, message-right, edition-first, message-first, settings-none, all-streams, all-messages, none-lacking}
-use Rattle.sheet_read.proofs.Openings.Settled.{unset, set, own}
-use Rattle.sheet_read.proofs.Known.{both-fail}
-use Rattle.sheet_read.proofs.Missing.{head-kind, messages-no-stream, has-if, has-then, lacking-then, lacking-if, counts-own, counts-missing}
+use Rattle.sheet_rules.specs.Sheets.{Sheet, sheetOf, given, messageOf, ofKind, fits, countOf, mostInAll, hasMasters, lacking, repeated, overLimit, metBefore}
+use Rattle.sheet_rules.specs.Whole.{placeOf, recordsOf, before, firstStream, recordChecks, judge, ended, reading, Outcome}
+use Rattle.sheet_rules.specs.Whole.Outcome.{Read, Not}
+use Rattle.sheet_rules.specs.Refusals.{recordAt, streamsBefore, KnownKind, Begins, Matches, RightKind, Complete, Ranged, HasMessage, Missing, WrongMessages, InLimits, MetBefore, RefusedWith, Taken, Reached, NoStream, Given}
+use Rattle.sheet_rules.specs.Refusals.Begins.{pnet-segment, ring, exchange, open-ring}
+use Rattle.sheet_rules.specs.Refusals.Matches.{pnet-stream, pnet-jitter-stream, ring-stream, open-ring-stream, variable}
+use Rattle.sheet_rules.specs.Refusals.RightKind.{at-first, edition, message, behind}
+use Rattle.sheet_rules.specs.Refusals.WrongMessages.{again, missing}
+use Rattle.sheet_rules.specs.Refusals.RefusedWith.{unknown, misplaced, cut, out-of-range, wrong-messages, one-too-many, met-before}
+use Rattle.sheet_rules.specs.Refusals.Given.{empty, at-record, no-message, no-stream}
+use Rattle.sheet_rules.proofs.Walk.{head-at}
+use Rattle.sheet_rules.proofs.Cases.{PassesAt, Upto, Stops, neither, none-of-both, upto-none, upto-more, upto-front, reading-stops, stops-once, ended-empty, ended-no-message, ended-no-stream, ended-sheet}
+use Rattle.sheet_rules.proofs.Cases.Stops.{by-record, at-end}
+use Rattle.sheet_rules.proofs.Counts.{count-none, count-some}
+use Rattle.sheet_rules.proofs.Order.{nth, Placed, fits-then, fits-first, stream-fits, first-only, first-passes, head-some, how-many, stream-at}
+use Rattle.sheet_rules.proofs.Order.Placed.{as-first, as-setting, as-stream}
+use Rattle.sheet_rules.proofs.Openings.{counted, Settled, settled, edition-right, message-right, edition-first, message-first, settings-none, all-streams, all-messages, none-lacking}
+use Rattle.sheet_rules.proofs.Openings.Settled.{unset, set, own}
+use Rattle.sheet_rules.proofs.Known.{both-fail}
+use Rattle.sheet_rules.proofs.Missing.{head-kind, messages-no-stream, has-if, has-then, lacking-then, lacking-if, counts-own, counts-missing}
 
 -- ---- The lines, one by one, as tests
 

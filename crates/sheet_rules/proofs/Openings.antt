@@ -17,15 +17,15 @@ use Rattle.sheet_record.proofs.Tables.{both-true}
 use Rattle.sheet_record.proofs.Parts.{setting-kinds}
 use Rattle.sheet_ranges.specs.Ranges.{MessageRanges, OpenRingRanges}
 use Rattle.sheet_ranges.proofs.Ranges.{message-ranges, open-ring-ranges}
-use Rattle.sheet_read.specs.Sheets.{having, sheetOf, busIn, given, countOf, ofKind, fits, lacking, repeated}
-use Rattle.sheet_read.specs.Records.{recordsIn}
-use Rattle.sheet_read.specs.Whole.{placeOf, recordsOf, before}
-use Rattle.sheet_read.proofs.Walk.{head-at, record-at}
-use Rattle.sheet_read.proofs.Counts.{count-more}
-use Rattle.sheet_read.proofs.Cases.{PassesAt, Upto, upto-front}
-use Rattle.sheet_read.proofs.Order.{Placed, fits-then, edition-fits, message-fits, stream-of, nth, head-some, adds-stream, adds-setting, behind-first, in-order, how-many}
-use Rattle.sheet_read.proofs.Order.Placed.{as-first, as-setting, as-stream}
-use Rattle.sheet_read.proofs.Messages.{few-once, Short}
+use Rattle.sheet_rules.specs.Sheets.{having, sheetOf, busIn, given, countOf, ofKind, fits, lacking, repeated}
+use Rattle.sheet_rules.specs.Records.{recordsIn}
+use Rattle.sheet_rules.specs.Whole.{placeOf, recordsOf, before}
+use Rattle.sheet_rules.proofs.Walk.{head-at, record-at}
+use Rattle.sheet_rules.proofs.Counts.{count-more}
+use Rattle.sheet_rules.proofs.Cases.{PassesAt, Upto, upto-front}
+use Rattle.sheet_rules.proofs.Order.{Placed, fits-then, edition-fits, message-fits, stream-of, nth, head-some, adds-stream, adds-setting, behind-first, in-order, how-many}
+use Rattle.sheet_rules.proofs.Order.Placed.{as-first, as-setting, as-stream}
+use Rattle.sheet_rules.proofs.Messages.{few-once, Short}
 
 pub counted : (r : Record) → r .kind ≡ 8 → ofKind 8 (r ∷ []) ≡ 1
 unfolding ofKind

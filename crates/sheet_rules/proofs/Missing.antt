@@ -18,15 +18,15 @@ use Rattle.sheet_record.proofs.Tables.{both-true}
 use Rattle.sheet_record.proofs.Parts.{setting-kinds}
 use Rattle.sheet_ranges.proofs.Ranges.{message-ranges}
 use Rattle.sheet_messages.specs.Messages.{messageBy}
-use Rattle.sheet_read.specs.Sheets.{Sheet, given, countOf, longestOf, messageOf, lacksOf, lacking, having, headOf, sheetOf}
-use Rattle.sheet_read.specs.Whole.{placeOf, recordsOf, before}
-use Rattle.sheet_read.specs.Refusals.{recordAt, HasMessage, Missing}
-use Rattle.sheet_read.proofs.Walk.{not-having, head-at, before-none, settings-more}
-use Rattle.sheet_read.proofs.Counts.{count-append, count-more, longest-more}
-use Rattle.sheet_read.proofs.Cases.{PassesAt, Upto, upto-front}
-use Rattle.sheet_read.proofs.Order.{message-of-master, adds-setting, behind-first}
-use Rattle.sheet_read.proofs.Messages.{lacks-some}
-use Rattle.sheet_read.proofs.Openings.{edition-right, none-before}
+use Rattle.sheet_rules.specs.Sheets.{Sheet, given, countOf, longestOf, messageOf, lacksOf, lacking, having, headOf, sheetOf}
+use Rattle.sheet_rules.specs.Whole.{placeOf, recordsOf, before}
+use Rattle.sheet_rules.specs.Refusals.{recordAt, HasMessage, Missing}
+use Rattle.sheet_rules.proofs.Walk.{not-having, head-at, before-none, settings-more}
+use Rattle.sheet_rules.proofs.Counts.{count-append, count-more, longest-more}
+use Rattle.sheet_rules.proofs.Cases.{PassesAt, Upto, upto-front}
+use Rattle.sheet_rules.proofs.Order.{message-of-master, adds-setting, behind-first}
+use Rattle.sheet_rules.proofs.Messages.{lacks-some}
+use Rattle.sheet_rules.proofs.Openings.{edition-right, none-before}
 
 -- ---- Lists
 

@@ -3,7 +3,7 @@ use Prim.Native.Nat.{ℕ, _+_, _*_}
 use lib.ListN.{length}
 use Rattle.common.specs.Sums.{greatest}
 use Rattle.sheet_record.specs.Kinds.{kinds, sizeOf, pnet}
-use Rattle.sheet_read.specs.Sheets.{mostInAll}
+use Rattle.sheet_rules.specs.Sheets.{mostInAll}
 
 -- the longest record of the pages' table: 16 bytes
 unfoldable pub longest-record : ℕ

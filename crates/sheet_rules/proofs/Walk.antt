@@ -11,8 +11,8 @@ use lib.ListN.{length, getD, take, length-append, List·getD-append}
 use lib.Seq.{getD-at, take-append-le, take-all}
 use Rattle.sheet_record.specs.declared.Record.{Record}
 use Rattle.sheet_record.specs.Kinds.{sizeOf, decode, nothing, isSetting, isStream}
-use Rattle.sheet_read.specs.Sheets.{headOf, having, sheetOf}
-use Rattle.sheet_read.specs.Whole.{placeOf, recordsOf, before}
+use Rattle.sheet_rules.specs.Sheets.{headOf, having, sheetOf}
+use Rattle.sheet_rules.specs.Whole.{placeOf, recordsOf, before}
 
 -- ---- Records of such a kind
 

@@ -19,19 +19,19 @@ use Rattle.sheet_record.proofs.Tables.{both-true}
 use Rattle.sheet_record.proofs.Parts.{first-kinds, setting-kinds, variables, written-is}
 use Rattle.sheet_ranges.proofs.Ranges.{segment-ranges, ring-ranges, edition-ranges, open-ring-ranges, exchange-ranges, message-ranges, in-range-mono}
 use Rattle.sheet_write.proofs.Trips.{length-encode, decode-encode, encode-decode, whole-if}
-use Rattle.sheet_read.specs.Sheets.{Sheet, headOf, sheetOf, having, busIn, given, messageOf, longestOf, lacking}
-use Rattle.sheet_read.specs.Whole.{placeOf, recordsOf, before, ended, reading}
-use Rattle.sheet_read.specs.Whole.Outcome.{Read}
-use Rattle.sheet_read.specs.Records.{recordsIn, bytesOf, Follows, Right}
-use Rattle.sheet_read.proofs.Walk.{length-records, record-at, records-front}
-use Rattle.sheet_read.proofs.Cases.{PassesAt, Upto, upto-front, stops-once, ended-sheet}
-use Rattle.sheet_read.proofs.Cases.Stops.{at-end}
-use Rattle.sheet_judge.proofs.Own.{size-some}
-use Rattle.sheet_read.proofs.Order.{no-limits, given-none, message-of-ring, message-of-master, message-fits, Placed, fits-then, stream-of, fits-first, first-some, head-some, in-order}
-use Rattle.sheet_read.proofs.Order.Placed.{as-first, as-setting, as-stream}
-use Rattle.sheet_read.proofs.Messages.{message-in-range}
-use Rattle.sheet_read.proofs.Openings.{none-lacking}
-use Rattle.sheet_read.proofs.Known.{ReadsTo, reading-whole}
+use Rattle.sheet_rules.specs.Sheets.{Sheet, headOf, sheetOf, having, busIn, given, messageOf, longestOf, lacking}
+use Rattle.sheet_rules.specs.Whole.{placeOf, recordsOf, before, ended, reading}
+use Rattle.sheet_rules.specs.Whole.Outcome.{Read}
+use Rattle.sheet_rules.specs.Records.{recordsIn, bytesOf, Follows, Right}
+use Rattle.sheet_rules.proofs.Walk.{length-records, record-at, records-front}
+use Rattle.sheet_rules.proofs.Cases.{PassesAt, Upto, upto-front, stops-once, ended-sheet}
+use Rattle.sheet_rules.proofs.Cases.Stops.{at-end}
+use Rattle.sheet_record.proofs.Tables.{size-some}
+use Rattle.sheet_rules.proofs.Order.{no-limits, given-none, message-of-ring, message-of-master, message-fits, Placed, fits-then, stream-of, fits-first, first-some, head-some, in-order}
+use Rattle.sheet_rules.proofs.Order.Placed.{as-first, as-setting, as-stream}
+use Rattle.sheet_rules.proofs.Messages.{message-in-range}
+use Rattle.sheet_rules.proofs.Openings.{none-lacking}
+use Rattle.sheet_rules.proofs.Known.{ReadsTo, reading-whole}
 
 -- ---- Ranges at their greatest
 

@@ -18,12 +18,12 @@ use Rattle.sheet_write.specs.Writing.{greatest, writeChecks, putBy, pastedBy, p
 use Rattle.sheet_record.proofs.Numbers.{paste-next}
 use Rattle.sheet_write.proofs.Trips.{length-encode}
 use Rattle.sheet_write.proofs.Writing.{written-stands, room-written}
-use Rattle.sheet_read.specs.Sheets.{Sheet, sheetOf}
-use Rattle.sheet_read.specs.Whole.{reading}
-use Rattle.sheet_read.specs.Whole.Outcome.{Read}
-use Rattle.sheet_read.specs.Records.{recordsIn, bytesOf, Right, Writes}
-use Rattle.sheet_read.specs.Records.Writes.{none, next}
-use Rattle.sheet_read.proofs.Trips.{right-some, writable, written-reads, read-written, read-right}
+use Rattle.sheet_rules.specs.Sheets.{Sheet, sheetOf}
+use Rattle.sheet_rules.specs.Whole.{reading}
+use Rattle.sheet_rules.specs.Whole.Outcome.{Read}
+use Rattle.sheet_rules.specs.Records.{recordsIn, bytesOf, Right, Writes}
+use Rattle.sheet_rules.specs.Records.Writes.{none, next}
+use Rattle.sheet_rules.proofs.Trips.{right-some, writable, written-reads, read-written, read-right}
 
 -- ---- What writing leaves
 

@@ -8,8 +8,8 @@ use lib.ListN.{length}
 use Rattle.sheet_record.specs.declared.Record.{Record}
 use Rattle.sheet_record.specs.Kinds.{sizeOf, decode, busOf}
 use Rattle.sheet_ranges.specs.Ranges.{InPage}
-use Rattle.sheet_read.specs.Sheets.{given, countOf, mostInAll, hasMasters}
-use Rattle.sheet_read.specs.Whole.{placeOf, before}
+use Rattle.sheet_rules.specs.Sheets.{given, countOf, mostInAll, hasMasters}
+use Rattle.sheet_rules.specs.Whole.{placeOf, before}
 
 -- ---- What is asked of record i of the sheet s
 

@@ -13,16 +13,16 @@ use Rattle.common.specs.Sums.{greatest}
 use Rattle.sheet_record.specs.Kinds.{kinds, lineOf, fieldsOf, widths, sizeOf, busOf, isFirst, isSetting, isStreamOf, decode}
 use Rattle.sheet_record.proofs.Tables.{size-at-most}
 use Rattle.sheet_record.proofs.Parts.{first-kinds, first-bus, setting-kinds, ring-streams, variables}
-use Rattle.sheet_read.specs.Sheets.{Sheet, mostInAll}
-use Rattle.sheet_read.specs.Whole.{placeOf, before, reading, told, Outcome}
-use Rattle.sheet_read.specs.Whole.Outcome.{Read, Not}
-use Rattle.sheet_read.specs.Lengths.{longest-record, longest-sheet, enough}
-use Rattle.sheet_read.proofs.Cases.{Upto, Stops, reading-stops}
-use Rattle.sheet_read.proofs.Cases.Stops.{by-record, at-end}
-use Rattle.sheet_read.proofs.Order.{nth}
-use Rattle.sheet_read.proofs.Fronts.{SameFront, refused-by-record}
-use Rattle.sheet_read.proofs.Openings.{edition-here, one-setting, few-settings}
-use Rattle.sheet_read.proofs.Known.{place-bound, first-record, streams-few}
+use Rattle.sheet_rules.specs.Sheets.{Sheet, mostInAll}
+use Rattle.sheet_rules.specs.Whole.{placeOf, before, reading}
+use Rattle.sheet_rules.specs.Whole.Outcome.{Read, Not}
+use Rattle.sheet_rules.specs.Lengths.{longest-record, longest-sheet, enough}
+use Rattle.sheet_rules.proofs.Cases.{Upto, Stops, reading-stops}
+use Rattle.sheet_rules.proofs.Cases.Stops.{by-record, at-end}
+use Rattle.sheet_rules.proofs.Order.{nth}
+use Rattle.sheet_rules.proofs.Fronts.{SameFront, refused-by-record}
+use Rattle.sheet_rules.proofs.Openings.{edition-here, one-setting, few-settings}
+use Rattle.sheet_rules.proofs.Known.{place-bound, first-record, streams-few}
 
 -- ---- The constants
 
@@ -130,11 +130,3 @@ reading-prefix s = split (leb (length s) enough) refl
 -- an accepted sheet stands in them whole
 pub accepted-prefix : (s : List ℕ) (S : Sheet) → reading s ≡ Read S → take enough s ≡ s
 accepted-prefix s S e = take-all enough s (omega (arith, length-at-most s S e, enough-is, longest-sheet-is))
-
--- so the reader answers the same on them
-pub told-prefix : (s : List ℕ) → told s (reading s) ≡ told (take enough s) (reading (take enough s))
-told-prefix s = by (reading s) refl
-  where
-    by : (o : Outcome) → reading s ≡ o → told s (reading s) ≡ told (take enough s) (reading (take enough s))
-    by (Read S) e = ap (λ (t : List ℕ). told t (reading t)) (sym (accepted-prefix s S e))
-    by (Not n p) e = ap (told s) e ∙ ap (told (take enough s)) (sym e ∙ reading-prefix s)

@@ -7,12 +7,9 @@ use lib.ListN.{length, getD}
 use lib.Dec.{ltb, eqb}
 use Rattle.common.specs.Checks.{Check, check, Verdict, verdict}
 use Rattle.common.specs.Checks.Verdict.{Passed, Refused}
-use Rattle.common.specs.Runs.{tab}
 use Rattle.sheet_record.specs.declared.Record.{Record}
-use Rattle.sheet_record.specs.Kinds.{worldfip, known, isStream, sizeOf, decode, inRange}
-use Rattle.sheet_read.specs.Sheets.{Sheet, busIn, given, messageOf, countOf, longestOf, sheetOf, fits, lacking, repeated, overLimit, metBefore}
-use Rattle.sheet_read.specs.declared.Reading.{Reading}
-use Rattle.sheet_read.specs.declared.Reading.the-variants as answer
+use Rattle.sheet_record.specs.Kinds.{known, isStream, sizeOf, decode, inRange}
+use Rattle.sheet_rules.specs.Sheets.{Sheet, given, sheetOf, fits, lacking, repeated, overLimit, metBefore}
 
 -- ---- The walk, record after record
 
@@ -90,41 +87,6 @@ unfoldable pub reading : List ℕ → Outcome
 unfolding readFrom
 reading s = readFrom s (length s) 0
 
--- ---- The answer of the code
-
 -- the number of a sheet's first stream among its records, counted from 0
 abbrev pub firstStream : Sheet → ℕ
 firstStream S = suc (length (S .settings))
-
--- a sheet: its first record, how many streams it has, and where the first of them stands; a refusal: its number and place
-abbrev pub told : List ℕ → Outcome → Reading
-told s (Read S) = answer.Accepted (S .head) (length (S .streams)) (placeOf s (firstStream S))
-told s (Not n p) = answer.Refused n p
-
--- how many streams master k has, and the longest C of them
-unfoldable pub streamsOfMaster : Sheet → ℕ → ℕ
-unfolding countOf
-streamsOfMaster S k = countOf k (S .streams)
-
-unfoldable pub longestOfMaster : Sheet → ℕ → ℕ
-unfolding longestOf
-longestOfMaster S k = longestOf k (S .streams)
-
--- lent memory of 33 places: place k has a figure of master k. It keeps what it had on a refusal, and for WorldFIP, whose variables have no
--- master
-abbrev pub byMaster : (Sheet → ℕ → ℕ) → Outcome → List ℕ → List ℕ
-byMaster figure (Read S) old = cond (eqb (busIn S) worldfip) old (tab (figure S) 33)
-byMaster figure (Not n p) old = old
-
-unfoldable pub countsTold : Outcome → List ℕ → List ℕ
-unfolding streamsOfMaster tab
-countsTold o old = byMaster streamsOfMaster o old
-
-unfoldable pub longestsTold : Outcome → List ℕ → List ℕ
-unfolding longestOfMaster tab
-longestsTold o old = byMaster longestOfMaster o old
-
--- and its longest message, which on P-NET is 0
-unfoldable pub messagesTold : Outcome → List ℕ → List ℕ
-unfolding messageOf tab
-messagesTold o old = byMaster messageOf o old

@@ -13,7 +13,7 @@ use Rattle.common.specs.Sums.{when, upto, greatest}
 use Rattle.common.proofs.Sums.{upto-same, upto-first, greatest-most, greatest-least}
 use Rattle.sheet_record.specs.declared.Record.{Record}
 use Rattle.sheet_record.specs.Kinds.{nothing}
-use Rattle.sheet_read.specs.Sheets.{countOf, longestOf}
+use Rattle.sheet_rules.specs.Sheets.{countOf, longestOf}
 
 pub count-append : (x : ℕ) (rs qs : List Record) → countOf x (rs ++ qs) ≡ countOf x rs + countOf x qs
 unfolding countOf

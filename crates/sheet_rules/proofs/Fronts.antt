@@ -14,13 +14,13 @@ use Rattle.common.proofs.Checks.Applies.{here, later}
 use Rattle.sheet_record.specs.declared.Record.{Record}
 use Rattle.sheet_record.specs.Kinds.{known, sizeOf, decode}
 use Rattle.sheet_write.proofs.Trips.{decode-same}
-use Rattle.sheet_read.specs.Sheets.{Sheet, sheetOf, fits}
-use Rattle.sheet_read.specs.Whole.{placeOf, recordsOf, before, recordChecks, judge, reading}
-use Rattle.sheet_read.specs.Whole.Outcome.{Not}
-use Rattle.sheet_read.proofs.Walk.{place-next, place-order}
-use Rattle.sheet_read.proofs.Cases.{Upto, passes-if, passes-then, stops-once}
-use Rattle.sheet_read.proofs.Cases.Stops.{by-record}
-use Rattle.sheet_judge.proofs.Own.{size-some}
+use Rattle.sheet_rules.specs.Sheets.{Sheet, sheetOf, fits}
+use Rattle.sheet_rules.specs.Whole.{placeOf, recordsOf, before, recordChecks, judge, reading}
+use Rattle.sheet_rules.specs.Whole.Outcome.{Not}
+use Rattle.sheet_rules.proofs.Walk.{place-next, place-order}
+use Rattle.sheet_rules.proofs.Cases.{Upto, passes-if, passes-then, stops-once}
+use Rattle.sheet_rules.proofs.Cases.Stops.{by-record}
+use Rattle.sheet_record.proofs.Tables.{size-some}
 
 -- ---- The refusals of one record
 

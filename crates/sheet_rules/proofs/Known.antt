@@ -20,21 +20,21 @@ use Rattle.sheet_record.specs.declared.Met.{Met}
 use Rattle.sheet_record.specs.declared.Record.{Record}
 use Rattle.sheet_record.specs.Kinds.{known, sizeOf, decode, inRange, whole, metAt, metOf, nothing, widths, fieldsOf, lineOf, kinds, busOf, isFirst, isSetting, isStream, isStreamOf}
 use Rattle.sheet_record.proofs.Parts.{setting-is, first-kinds, pnet-first, setting-kinds}
-use Rattle.sheet_read.specs.Sheets.{Sheet, sheetOf, busIn, given, messageOf, editionOf, countOf, longestOf, mostInAll, hasMasters, lacksOf, lacking, overLimit, metBefore}
-use Rattle.sheet_read.specs.Steps.{editionMet, editionAt}
-use Rattle.sheet_read.specs.Whole.{placeOf, recordsOf, before, firstStream, endChecks, ended, reading}
-use Rattle.sheet_read.specs.Whole.Outcome.{Read, Not}
-use Rattle.sheet_read.proofs.Walk.{head-at, place-next}
-use Rattle.sheet_read.proofs.Cases.{PassesAt, Upto, Stops, upto-front, reading-stops}
-use Rattle.sheet_read.proofs.Cases.Stops.{by-record, at-end}
-use Rattle.sheet_read.proofs.Counts.{count-more, count-none}
+use Rattle.sheet_rules.specs.Sheets.{Sheet, sheetOf, busIn, given, messageOf, editionOf, countOf, longestOf, mostInAll, hasMasters, lacksOf, lacking, overLimit, metBefore}
+use Rattle.sheet_rules.specs.Ready.{editionMet, editionAt}
+use Rattle.sheet_rules.specs.Whole.{placeOf, recordsOf, before, firstStream, endChecks, ended, reading}
+use Rattle.sheet_rules.specs.Whole.Outcome.{Read, Not}
+use Rattle.sheet_rules.proofs.Walk.{head-at, place-next}
+use Rattle.sheet_rules.proofs.Cases.{PassesAt, Upto, Stops, upto-front, reading-stops}
+use Rattle.sheet_rules.proofs.Cases.Stops.{by-record, at-end}
+use Rattle.sheet_rules.proofs.Counts.{count-more, count-none}
 use Rattle.sheet_ranges.proofs.Ranges.{segment-ranges, ring-ranges, exchange-ranges, edition-ranges}
 use Rattle.sheet_record.proofs.Records.{met-same, met-other}
-use Rattle.sheet_read.proofs.Messages.{lacks-none, longest-short, message-in-range}
-use Rattle.sheet_read.proofs.Openings.{Settled, settled, setting-at, setting-there, its-length, one-message, few-settings, none-lacking}
-use Rattle.sheet_read.proofs.Openings.Settled.{unset, set, own}
-use Rattle.sheet_read.proofs.Order.{given-same, message-of-ring, message-of-master, stream-only, empty-list, Placed, fits-then, stream-of, nth, first-passes, head-some, adds-stream, adds-setting, behind-first, how-many, stream-at}
-use Rattle.sheet_read.proofs.Order.Placed.{as-first, as-setting, as-stream}
+use Rattle.sheet_rules.proofs.Messages.{lacks-none, longest-short, message-in-range}
+use Rattle.sheet_rules.proofs.Openings.{Settled, settled, setting-at, setting-there, its-length, one-message, few-settings, none-lacking}
+use Rattle.sheet_rules.proofs.Openings.Settled.{unset, set, own}
+use Rattle.sheet_rules.proofs.Order.{given-same, message-of-ring, message-of-master, stream-only, empty-list, Placed, fits-then, stream-of, nth, first-passes, head-some, adds-stream, adds-setting, behind-first, how-many, stream-at}
+use Rattle.sheet_rules.proofs.Order.Placed.{as-first, as-setting, as-stream}
 
 pub record Known (s : List ℕ) (S : Sheet) : Type 0 where
   -- a stream at least, and at most 800, or 64 variables

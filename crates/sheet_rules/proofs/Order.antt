@@ -17,11 +17,11 @@ use Rattle.sheet_record.specs.Kinds.Part.{no-part, first, setting, stream}
 use Rattle.sheet_record.proofs.Tables.{both-true}
 use Rattle.sheet_record.proofs.Parts.{setting-behind, stream-bus}
 use Rattle.sheet_messages.specs.Messages.{messageBy}
-use Rattle.sheet_read.specs.Sheets.{Sheet, having, headOf, sheetOf, busIn, given, messageOf, longestOf, ofKind, placed, again, fits}
-use Rattle.sheet_read.specs.Records.{recordsIn}
-use Rattle.sheet_read.specs.Whole.{placeOf, recordsOf, before, firstStream}
-use Rattle.sheet_read.proofs.Walk.{having-it, not-having, length-records, record-at, head-at, settings-more, streams-more}
-use Rattle.sheet_read.proofs.Cases.{PassesAt, Upto, upto-front}
+use Rattle.sheet_rules.specs.Sheets.{Sheet, having, headOf, sheetOf, busIn, given, messageOf, longestOf, ofKind, placed, again, fits}
+use Rattle.sheet_rules.specs.Records.{recordsIn}
+use Rattle.sheet_rules.specs.Whole.{placeOf, recordsOf, before, firstStream}
+use Rattle.sheet_rules.proofs.Walk.{having-it, not-having, length-records, record-at, head-at, settings-more, streams-more}
+use Rattle.sheet_rules.proofs.Cases.{PassesAt, Upto, upto-front}
 
 never : {A : Type 0} → false ≡ true → A
 never e = let z : _≡_ {A = ℕ} 0 1 = cc in absurd (omega arith)

@@ -13,7 +13,7 @@ use Rattle.common.proofs.Sums.{upto-same, upto-add, upto-even, upto-most, upto-
 use Rattle.sheet_record.specs.declared.Record.{Record}
 use Rattle.sheet_record.specs.Kinds.{nothing}
 use Rattle.sheet_messages.specs.Messages.{messageBy}
-use Rattle.sheet_read.specs.Sheets.{countOf, longestOf, lacksOf}
+use Rattle.sheet_rules.specs.Sheets.{countOf, longestOf, lacksOf}
 
 -- ---- One is missing, or none
 

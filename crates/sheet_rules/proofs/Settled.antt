@@ -8,13 +8,13 @@ use Prim.Native.Nat.{ℕ, suc, _+_, _≤_, _<_}
 use native.Mathlib.Omega.{arith}
 use lib.ListN.{length, getD, length-append, List·getD-append}
 use Rattle.sheet_record.specs.Kinds.{sizeOf}
-use Rattle.sheet_read.specs.Whole.{placeOf, reading}
-use Rattle.sheet_read.specs.Whole.Outcome.{Not}
-use Rattle.sheet_read.specs.Refusals.{Given}
-use Rattle.sheet_read.specs.Refusals.Given.{empty, at-record, no-message, no-stream}
-use Rattle.sheet_judge.proofs.Own.{size-some}
-use Rattle.sheet_read.proofs.Fronts.{SameFront, refused-by-record, refused-by-kind}
-use Rattle.sheet_read.proofs.Refusals.{given-then, refused-at}
+use Rattle.sheet_rules.specs.Whole.{placeOf, reading}
+use Rattle.sheet_rules.specs.Whole.Outcome.{Not}
+use Rattle.sheet_rules.specs.Refusals.{Given}
+use Rattle.sheet_rules.specs.Refusals.Given.{empty, at-record, no-message, no-stream}
+use Rattle.sheet_record.proofs.Tables.{size-some}
+use Rattle.sheet_rules.proofs.Fronts.{SameFront, refused-by-record, refused-by-kind}
+use Rattle.sheet_rules.proofs.Refusals.{given-then, refused-at}
 
 module _ (front behind other : List ℕ) where
   goes-on : SameFront (front ++ behind) (front ++ other) (length front)

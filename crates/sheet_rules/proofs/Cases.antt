@@ -15,10 +15,10 @@ use Rattle.common.proofs.Checks.{Clear, passed-if, passed-then}
 use Rattle.common.proofs.Checks.Clear.{none, and}
 use Rattle.sheet_record.specs.declared.Record.{Record}
 use Rattle.sheet_record.specs.Kinds.{known, isStream, sizeOf, decode, inRange}
-use Rattle.sheet_read.specs.Sheets.{Sheet, given, sheetOf, fits, lacking, repeated, overLimit, metBefore}
-use Rattle.sheet_read.specs.Whole.{placeOf, before, recordChecks, endChecks, judge, ended, readFrom, reading, Outcome, orElse}
-use Rattle.sheet_read.specs.Whole.Outcome.{Read, Not}
-use Rattle.sheet_read.proofs.Walk.{place-next, place-from}
+use Rattle.sheet_rules.specs.Sheets.{Sheet, given, sheetOf, fits, lacking, repeated, overLimit, metBefore}
+use Rattle.sheet_rules.specs.Whole.{placeOf, before, recordChecks, endChecks, judge, ended, readFrom, reading, Outcome, orElse}
+use Rattle.sheet_rules.specs.Whole.Outcome.{Read, Not}
+use Rattle.sheet_rules.proofs.Walk.{place-next, place-from}
 
 -- ---- A record
 

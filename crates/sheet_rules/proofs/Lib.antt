@@ -1,0 +1,15 @@
+pub mod Cases
+pub mod Counts
+pub mod Examples
+pub mod Fronts
+pub mod Known
+pub mod Lengths
+pub mod Messages
+pub mod Missing
+pub mod Openings
+pub mod Order
+pub mod Refusals
+pub mod Settled
+pub mod Trips
+pub mod Walk
+pub mod Writes
