@@ -12,7 +12,7 @@ use Rattle.pnet_rules.specs.Segment.{segment_of}
 use Rattle.pnet_rules.specs.Refined.{refined}
 use Rattle.pnet_rules.proofs.Figures.{refined_at_most_bound}
 use Rattle.pnet_plan.specs.Planned.{planned}
-use Rattle.pnet_run.specs.Run.{first_come, Moment, Run}
+use Rattle.pnet_run.specs.Run.{Request, Answer, Queues, Token, Run}
 use Rattle.pnet_run.specs.Promise.{Spaced, Answered}
 use Rattle.pnet_run.proofs.Demand.{each_request_is_answered_within_the_refined_figure}
 use Rattle.demands.proofs.Demand3.{accepted_as_demanded, written_for, written_for_is, written, written_is_bound}
@@ -31,8 +31,9 @@ module _ (s bounds refineds rounds : List ℕ) (H : Sheet) (accepts : planned s 
     written_refined_is_W = written_for_is s bounds refineds rounds H accepts k from to refined refineds
 
     -- 'for every accepted sheet whose masters all keep their spacing, .. every response is within the corrected figure'
-    pub each_request_is_answered_within_the_written_refined_figure : {x : Moment first_come} → Run (segment_of H) x
-        → ((y : ℕ) → Spaced (segment_of H) y x.came) → Answered (bp written_refined) (segment_of H) k x
+    pub each_request_is_answered_within_the_written_refined_figure : {now : ℕ} {token : Token} {queues : Queues} {came : List Request} {went : List Answer}
+        → Run (segment_of H) now token queues came went → ((y : ℕ) → Spaced (segment_of H) y came)
+        → Answered (bp written_refined) (segment_of H) k now token came went
     each_request_is_answered_within_the_written_refined_figure run spaced =
         rw written_refined_is_W
         (each_request_is_answered_within_the_refined_figure H (accepted_as_demanded s bounds refineds rounds H accepts) k run spaced)

@@ -1,10 +1,9 @@
 -- Demand 2. The accepted numbers are those of the published rules, a timing refusal is given exactly if the published condition is
 -- broken, and sheets read and written come back equal. Assumes nothing.
 use Prim.Native.Nat.{ℕ, suc, ◌+◌, ◌-◌, ◌*◌, ◌≤◌, ◌<◌}
-use mathlib.Core.Path.{◌≡◌, refl, subst}
+use mathlib.Core.Path.{◌≡◌, refl}
 use mathlib.Core.List.{List}
 use mathlib.Core.Logic.{◌↔◌}
-use native.Mathlib.Omega.{arith}
 use lib.ListN.{length, get_or}
 use lib.Seq.{slice}
 use Rattle.sheet_record.specs.declared.Record.{Record}
@@ -20,9 +19,8 @@ use Rattle.sheet_rules.proofs.Known.{reading_read}
 use Rattle.sheet_rules.proofs.Trips.{same_records_same_bytes}
 use Rattle.sheet_rules.proofs.Writes.{right_writes, old_ring_refused, writes_read, read_writes, read_writes_alone}
 use Rattle.pnet_rules.specs.Segment.{Segment, count, turn, bound}
-use Rattle.pnet_rules.specs.Search.{value_from, Settles}
-use Rattle.pnet_rules.specs.Formula.{formula15}
-use Rattle.pnet_rules.specs.Refined.{rounds, refined}
+use Rattle.pnet_rules.specs.Search.{value_from}
+use Rattle.pnet_rules.specs.Refined.{right, rounds, refined}
 use Rattle.pnet_rules.proofs.Figures as figures
 use Rattle.pnet_plan.specs.Planned.{planned}
 use Rattle.pnet_plan.specs.Refusals as late
@@ -33,18 +31,12 @@ use Rattle.profibus_rules.proofs.Answer as ring
 use Rattle.profibus_plan.specs.Planned.{plan_of, Answers}
 use Rattle.profibus_plan.specs.declared.answer.Plan.{Plan}
 use Rattle.profibus_plan.proofs.Answers as profibus
-use Rattle.units.specs.declared.Micros.{Micros}
 use Rattle.worldfip_rules.specs.Table.{Table}
 use Rattle.worldfip_rules.specs.Traffic.{Traffic, Declared, rows, asked_of, row_of, miss_of}
-use Rattle.worldfip_rules.specs.Service.{ObeysService}
 use Rattle.worldfip_rules.proofs.Promises as promises
-use Rattle.worldfip_rules.proofs.Service.{two_that_obey_are_the_same}
-use Rattle.worldfip_figures.specs.Declares.{traffic_of}
 use Rattle.worldfip_plan.specs.Answer as table
 use Rattle.worldfip_plan.specs.Refusals as fip
 use Rattle.worldfip_plan.specs.declared.answer.Plan as tablePlan
-use Rattle.worldfip_plan.specs.declared.answer.Plan.TheVariants as tableAnswer
-use Rattle.worldfip_plan.proofs.Promise as written
 use Rattle.worldfip_plan.proofs.Refusals as worldfip
 
 -- ---- 'P-NET bounds and the least refined solution'
@@ -55,20 +47,18 @@ unfolding bound turn
 bound_is_s_times_V S k = refl
 
 module _ (S : Segment) (k : ℕ) (from : 1 ≤ k) (to : k ≤ S.masters) where
-  pub refined_solves : refined S k ≡ formula15 S k (refined S k)
-  refined_solves = rw figures.right_is_formula_15 at (figures.refined_solves S k from to)
+  pub refined_solves : refined S k ≡ right S k (refined S k)
+  refined_solves = figures.refined_solves S k from to
 
-  pub no_smaller_number_solves : (w : ℕ) → w ≡ formula15 S k w → refined S k ≤ w
-  no_smaller_number_solves = rw figures.right_is_formula_15 at (figures.refined_least S k from to)
+  pub no_smaller_number_solves : (w : ℕ) → w ≡ right S k w → refined S k ≤ w
+  no_smaller_number_solves = figures.refined_least S k from to
 
   pub refined_at_most_bound : refined S k ≤ bound S k
   refined_at_most_bound = figures.refined_at_most_bound S k from to
 
-  pub rounds_first_to_stand : (value_from 0 (formula15 S k) (rounds S k) ≡ value_from 0 (formula15 S k) (suc (rounds S k)))
-      × ((j : ℕ) → j < rounds S k → value_from 0 (formula15 S k) j ≡ value_from 0 (formula15 S k) (suc j) → ⊥)
-  rounds_first_to_stand =
-      let first : Settles 0 (formula15 S k) (rounds S k) = subst (λ (f : ℕ → ℕ). Settles 0 f (rounds S k)) (figures.right_is_formula_15 S k) (figures.rounds_first S k from to) in
-      (first.still, first.first)
+  pub rounds_first_to_stand : (value_from 0 (right S k) (rounds S k) ≡ value_from 0 (right S k) (suc (rounds S k)))
+      × ((j : ℕ) → j < rounds S k → value_from 0 (right S k) j ≡ value_from 0 (right S k) (suc j) → ⊥)
+  rounds_first_to_stand = ((figures.rounds_first S k from to).still, (figures.rounds_first S k from to).first)
 
   pub rounds_at_most : rounds S k ≤ 1 + (S.masters - 1) * count S k
   rounds_at_most = figures.rounds_at_most S k from to
@@ -101,17 +91,6 @@ module _ (s : List ℕ) (S : Sheet) (reads : reading s ≡ Read S) (room : ℕ) 
 
   pub no_other_table : (p : tablePlan.Plan) → fip.Answers S room p → p ≡ table.plan_of (reading s) room
   no_other_table p a = rw reads (worldfip.answers_only s S (reading_read s S reads) room p a)
-
--- `ObeysService` is the page's two sentences of service over any rows: who asks in a row, and that each row serves what is pending by rank until its
--- slots are full. Where the planner accepts, the rows that it leaves in the lent run obey them, and no other rows do
-module _ (s : List ℕ) (S : Sheet) (reads : reading s ≡ Read S) (lent : List ℕ) (c : Micros) (k n : ℕ)
-    (accepts : table.plan_of (reading s) (length lent) ≡ tableAnswer.Accepted c k n) where
-  pub the_written_rows_obey_the_service_sentences : ObeysService (traffic_of S) (λ m. get_or (table.run_of (reading s) lent) m 0)
-  the_written_rows_obey_the_service_sentences = rw reads (written.accepted_obeys s S (reading_read s S reads) lent c k n (rw (← reads) accepts))
-
-  pub no_other_rows : (X : ℕ → ℕ) → ObeysService (traffic_of S) X → (m : ℕ) → m < rows (traffic_of S) → X m ≡ get_or (table.run_of (reading s) lent) m 0
-  no_other_rows X obeys m l =
-      two_that_obey_are_the_same (traffic_of S) X (λ j. get_or (table.run_of (reading s) lent) j 0) obeys the_written_rows_obey_the_service_sentences m (omega (arith, l))
 
 -- ---- 'A timing refusal is given exactly if the published condition is broken and no refusal earlier in that page's order applies.'
 

@@ -16,9 +16,8 @@ use Rattle.sheet_rules.specs.Sheets.{Sheet, masters_of}
 use Rattle.sheet_rules.specs.Whole.{Outcome}
 use Rattle.sheet_rules.specs.Whole.Outcome.{Read, Not}
 use Rattle.pnet_rules.specs.Segment.{Segment, segment_of, turn, bound}
-use Rattle.pnet_rules.specs.Search.{value_from, Settles}
-use Rattle.pnet_rules.specs.Formula.{formula15}
-use Rattle.pnet_rules.specs.Refined.{refined, rounds}
+use Rattle.pnet_rules.specs.Search.{value_from}
+use Rattle.pnet_rules.specs.Refined.{right, refined, rounds}
 use Rattle.pnet_rules.proofs.Figures as figures
 use Rattle.pnet_plan.specs.Planned.{planned, plan_of, at_place, run_of}
 use Rattle.pnet_plan.specs.declared.answer.Plan.{Plan}
@@ -33,16 +32,15 @@ module _ (S : Segment) (k : ℕ) where
   published : 1 ≤ k → k ≤ S.masters → Figures S k (bound S k) (refined S k) (rounds S k)
   unfolding bound turn refined
   published from to =
-      let page = figures.right_is_formula_15 S k in
-      let settled : Settles 0 (formula15 S k) (rounds S k) = subst (λ (f : ℕ → ℕ). Settles 0 f (rounds S k)) page (figures.rounds_first S k from to) in
+      let settled = figures.rounds_first S k from to in
       let most = figures.rounds_at_most S k from to in
       record {
         bound = refl;
-        solves = figures.refined_solves S k from to ∙ ap (λ (f : ℕ → ℕ). f (refined S k)) page;
-        least = λ w e. figures.refined_least S k from to w (e ∙ ap (λ (f : ℕ → ℕ). f w) (sym page));
-        reached = ap (λ (f : ℕ → ℕ). value_from 0 f (rounds S k)) page;
-        stands = settled.still ∙ ap (value_from 0 (formula15 S k)) (sym (add-one (rounds S k)));
-        first = λ m l e. settled.first m (omega (arith, l)) (e ∙ ap (value_from 0 (formula15 S k)) (add-one m));
+        solves = figures.refined_solves S k from to;
+        least = figures.refined_least S k from to;
+        reached = refl;
+        stands = settled.still ∙ ap (value_from 0 (right S k)) (sym (add-one (rounds S k)));
+        first = λ m l e. settled.first m (omega (arith, l)) (e ∙ ap (value_from 0 (right S k)) (add-one m));
         few = omega (arith, most);
         silent = figures.silent_zero S k;
       }

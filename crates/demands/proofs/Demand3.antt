@@ -21,9 +21,9 @@ use Rattle.pnet_rules.proofs.Declares.{declared}
 use Rattle.pnet_plan.specs.Planned.{planned, at_place, run_of}
 use Rattle.pnet_plan.specs.Refusals as refusals
 use Rattle.pnet_plan.proofs.Refusals.{accepted_exactly}
-use Rattle.pnet_run.specs.Run.{first_come, Moment, Run}
-use Rattle.pnet_run.specs.Promise.{Spaced, Answered, Safe, Reached, AllAnswered, Accepted, Even}
-use Rattle.pnet_run.proofs.Demand.{accepted_if_none_is_late, each_request_is_answered_within_the_bound, every_run_goes_on_until_all_is_answered, some_run_takes_exactly_the_bound, no_lower_figure_would_be_true}
+use Rattle.pnet_run.specs.Run.{Request, Answer, Queues, Token, Run}
+use Rattle.pnet_run.specs.Promise.{Spaced, Answered, Safe, Reached, Accepted, Even}
+use Rattle.pnet_run.proofs.Demand.{accepted_if_none_is_late, each_request_is_answered_within_the_bound, some_run_takes_exactly_the_bound, no_lower_figure_would_be_true}
 
 -- 'an accepted P-NET sheet': it is read, and each stream passes
 pub accepted_on_bus : (s : List ℕ) (H : Sheet) → OnBus s H → ((i : ℕ) → 1 ≤ i → i ≤ (segment_of H).number → refusals.Passes (segment_of H) i)
@@ -68,15 +68,10 @@ module _ (s bounds refined rounds : List ℕ) (H : Sheet) (accepts : planned s (
     written_is_bound = written_for_is bound bounds
 
     -- 'each of that master's requests is answered within its bound, however often the other masters ask'
-    pub each_request_is_answered_within_the_written_bound : {x : Moment first_come} → Run (segment_of H) x
-        → Spaced (segment_of H) k x.came → Answered (bp written) (segment_of H) k x
+    pub each_request_is_answered_within_the_written_bound : {now : ℕ} {token : Token} {queues : Queues} {came : List Request} {went : List Answer}
+        → Run (segment_of H) now token queues came went → Spaced (segment_of H) k came → Answered (bp written) (segment_of H) k now token came went
     each_request_is_answered_within_the_written_bound run spaced =
         rw written_is_bound (each_request_is_answered_within_the_bound H accepted_as_demanded k run spaced)
-
-    -- and each is answered in the end: no run is stuck, and every one in which the master keeps its spacing goes on until all of its requests are answered
-    pub every_run_of_the_sheet_goes_on_until_all_is_answered : {x : Moment first_come} → Run (segment_of H) x → Spaced (segment_of H) k x.came
-        → AllAnswered (segment_of H) k x
-    every_run_of_the_sheet_goes_on_until_all_is_answered = every_run_goes_on_until_all_is_answered H accepted_as_demanded k
 
     -- 'some such run takes exactly the bound': 'asked only for edition 1' (page 02, Ask 10), which `Even` asks for
     pub some_run_takes_exactly_the_written_bound : 1 ≤ count (segment_of H) k → Even (segment_of H) k → Reached (bp written) (segment_of H) k

@@ -14,7 +14,7 @@ use Rattle.units.specs.Units.{bp}
 use Rattle.pnet_rules.specs.Segment.{Segment, segment_of, bound}
 use Rattle.pnet_rules.specs.Refined.{rounds, refined}
 use Rattle.pnet_plan.specs.Planned.{planned, run_of}
-use Rattle.pnet_run.specs.Run.{first_come, Moment, Run}
+use Rattle.pnet_run.specs.Run.{Request, Answer, Queues, Token, Run}
 use Rattle.pnet_run.specs.Promise.{Spaced, Answered, Reached}
 use Rattle.pnet_run.proofs.Editions.{R-under-2, no_run_takes_R_under_2}
 use Rattle.demands.proofs.Demand3.{written, written_is_bound, each_request_is_answered_within_the_written_bound}
@@ -51,7 +51,8 @@ unfolding filled tab segment_of bound refined rounds
 written_runs = rw accepts (refl, refl, refl)
 
 -- 'Under edition 2, every response is still within the bound'
-pub each_request_is_answered_within_500 : {x : Moment first_come} → Run second x → Spaced second 1 x.came → Answered (bp 500) second 1 x
+pub each_request_is_answered_within_500 : {now : ℕ} {token : Token} {queues : Queues} {came : List Request} {went : List Answer}
+    → Run second now token queues came went → Spaced second 1 came → Answered (bp 500) second 1 now token came went
 each_request_is_answered_within_500 run spaced =
     rw is_500 at (each_request_is_answered_within_the_written_bound bytes lent lent lent sheet accepts 1 (omega arith) (omega arith) run spaced)
   where
@@ -59,7 +60,8 @@ each_request_is_answered_within_500 run spaced =
     is_500 = written_is_bound bytes lent lent lent sheet accepts 1 (omega arith) (omega arith) ∙ R-under-2
 
 -- and within the refined figure, where all masters keep their spacing
-pub each_request_is_answered_within_260 : {x : Moment first_come} → Run second x → ((y : ℕ) → Spaced second y x.came) → Answered (bp 260) second 1 x
+pub each_request_is_answered_within_260 : {now : ℕ} {token : Token} {queues : Queues} {came : List Request} {went : List Answer}
+    → Run second now token queues came went → ((y : ℕ) → Spaced second y came) → Answered (bp 260) second 1 now token came went
 unfolding segment_of refined
 each_request_is_answered_within_260 run spaced =
     rw is_260 at (each_request_is_answered_within_the_written_refined_figure bytes lent lent lent sheet accepts 1 (omega arith) (omega arith) run spaced)

@@ -3,7 +3,7 @@
 -- Corrected and Shown suppose is empty, and the figure is no higher than it must be. Without J in the count it would be 356 (crates/pnet_run: Jitter).
 -- The sheet names no edition, so edition 1 holds. Assumes nothing.
 use Prim.Native.Nat.{ℕ, ◌≤◌}
-use mathlib.Core.Path.{◌≡◌, refl, ap, ◌∙◌}
+use mathlib.Core.Path.{◌≡◌, refl, ◌∙◌}
 use mathlib.Core.List.{List, [], ◌∷◌, ◌++◌}
 use native.Mathlib.Omega.{arith}
 use lib.ListN.{length}
@@ -16,7 +16,7 @@ use Rattle.units.specs.declared.BitPeriods.{BitPeriods}
 use Rattle.pnet_rules.specs.Segment.{Segment, segment_of, count, bound}
 use Rattle.pnet_rules.specs.Refined.{rounds, refined}
 use Rattle.pnet_plan.specs.Planned.{planned}
-use Rattle.pnet_run.specs.Run.{first_come, Moment, Run}
+use Rattle.pnet_run.specs.Run.{Request, Answer, answer, Queues, Token, Run}
 use Rattle.pnet_run.specs.Promise.{Spaced, Answered, Reached}
 use Rattle.pnet_run.proofs.Jitter.{with_J_it_is_596, some_run_takes_W}
 use Rattle.text.specs.Text.{word, ◌·◌, places, holds, width_of, decimal, texts}
@@ -84,7 +84,8 @@ written_is_596 = written_refined_is_W bytes lent lent lent sheet accepts 1 (omeg
 
 -- 'every response is within the corrected figure', where all masters keep their spacing: 'each arrival is 0 to J after a nominal time of its own,
 -- and a stream's nominal times are at least T apart'
-pub each_request_is_answered_within_596 : {x : Moment first_come} → Run jittery x → ((y : ℕ) → Spaced jittery y x.came) → Answered (bp 596) jittery 1 x
+pub each_request_is_answered_within_596 : {now : ℕ} {token : Token} {queues : Queues} {came : List Request} {went : List Answer}
+    → Run jittery now token queues came went → ((y : ℕ) → Spaced jittery y came) → Answered (bp 596) jittery 1 now token came went
 each_request_is_answered_within_596 run spaced =
     rw written_is_596 at (each_request_is_answered_within_the_written_refined_figure bytes lent lent lent sheet accepts 1 (omega arith) (omega arith) run spaced)
 
@@ -94,10 +95,12 @@ some_run_takes_596 = rw with_J_it_is_596 at some_run_takes_W
 
 -- so no lower figure is true of all such runs
 pub no_lower_refined_figure_is_true : (figure : BitPeriods)
-    → ((x : Moment first_come) → Run jittery x → ((y : ℕ) → Spaced jittery y x.came) → Answered figure jittery 1 x) → 596 ≤ figure.0
+    → ((now : ℕ) (token : Token) (queues : Queues) (came : List Request) (went : List Answer) → Run jittery now token queues came went
+    → ((y : ℕ) → Spaced jittery y came) → Answered figure jittery 1 now token came went)
+    → 596 ≤ figure.0
 no_lower_refined_figure_is_true figure safe =
     let x = some_run_takes_596 in
-    omega (arith, ap (λ (b : BitPeriods). b.0) x.exact, (safe x.end x.run x.spaced).in_time x.slow x.answered x.own)
+    omega (arith, (safe _ _ _ _ _ x.run x.spaced).in_time (answer x.slow _) x.exact x.own)
 
 -- ---- What the report shows of it
 
@@ -118,8 +121,8 @@ unfolding segment_of count
 some = omega arith
 
 -- each response of master 1 is over within the ns shown, where all masters keep their spacing
-pub each_response_is_within_7760417_ns : {x : Moment first_come} → Run jittery x → ((y : ℕ) → Spaced jittery y x.came)
-    → AnsweredWithin (ns 7760417) jittery 1 x
+pub each_response_is_within_7760417_ns : {now : ℕ} {token : Token} {queues : Queues} {came : List Request} {went : List Answer}
+    → Run jittery now token queues came went → ((y : ℕ) → Spaced jittery y came) → AnsweredWithin (ns 7760417) jittery 1 now token came went
 each_response_is_within_7760417_ns run spaced =
     let shows = what_the_report_shows_is_kept bytes sheet accepts_32 1 (omega arith) (omega arith) some in
     rw shown_in_ns at (shows.refined_kept run spaced).1

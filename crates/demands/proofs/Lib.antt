@@ -5,6 +5,17 @@ pub mod Demand3
 pub mod Corrected
 pub mod Outcomes
 pub mod PageCase
+pub mod Matching
+pub mod FirstCome
+pub mod Passing
+pub mod Captured
+pub mod Clocked
+pub mod Beside
+pub mod CapturedBytes
+pub mod Watched
+pub mod WatchedBytes
+pub mod CaptureCase
+pub mod Relayed
 pub mod Rewritten
 pub mod OwnMessages
 pub mod Lines

@@ -22,9 +22,8 @@ use Rattle.pnet_rules.specs.Segment.{Segment, segment_of, count, bound}
 use Rattle.pnet_rules.specs.Refined.{refined, rounds}
 use Rattle.pnet_plan.specs.Planned.{planned}
 use Rattle.pnet_plan.proofs.Refusals.{accepted_exactly}
-use Rattle.pnet_run.specs.Run.{response, first_come, Moment}
-use Rattle.pnet_run.specs.Promise.{Answered, Accepted}
-use Rattle.pnet_run.proofs.Literal.{lasts_shorter}
+use Rattle.pnet_run.specs.Run.{Request, Answer, Queues, Token, Run}
+use Rattle.pnet_run.specs.Promise.{Spaced, Lasts, past, at_it, Answered, Accepted}
 use Rattle.pnet_run.proofs.Demand.{each_request_is_answered_within_the_bound, each_request_is_answered_within_the_refined_figure}
 use Rattle.text.specs.Text.{word, places, ◌·◌, texts}
 use Rattle.report_phrases.specs.Phrases.{in_bp, in_ns, in_both, two_counts, name_of}
@@ -38,14 +37,24 @@ use Rattle.demands.proofs.Lines.{Plain, plain_of, plain_if, plain_both, plain_pl
 
 -- ---- From bp to ns
 
+lasts_shorter : {t u v : ℕ} {y : Token} → v ≤ u → Lasts t y u → Lasts t y v
+lasts_shorter l (past b) = past (omega arith)
+lasts_shorter {t} {u} {v} {y} l (at_it e settled) = by (ℕ_discrete v t)
+  where
+    by : Dec (v ≡ t) → Lasts t y v
+    by (yes f) = at_it f settled
+    by (no f) = past (omega (arith, f))
+
 -- what is answered within b is answered within its ns, rounded up
-in_ns_law : {S : Segment} {k : ℕ} {x : Moment first_come} (b : BitPeriods) → Answered b S k x → AnsweredWithin (nanos_up b) S k x
+in_ns_law : {S : Segment} {k t : ℕ} {y : Token} {came : List Request} {went : List Answer} (b : BitPeriods) → Answered b S k t y came went
+    → AnsweredWithin (nanos_up b) S k t y came went
 in_ns_law b answered = record {
-  in_time = λ a j own. promise_kept_in_ns (response a) b (answered.in_time a j own);
+  in_time = λ a j own response e. promise_kept_in_ns (bp response) b (omega (arith, answered.in_time a j own, e));
   none_left = λ r j own span l lasts. answered.none_left r j own (lasts_shorter (omega (arith, l, (nanos_cover b).enough)) lasts);
 }
 
-both : {S : Segment} {k : ℕ} {x : Moment first_come} {b : BitPeriods} → Answered b S k x → Answered b S k x × AnsweredWithin (nanos_up b) S k x
+both : {S : Segment} {k t : ℕ} {y : Token} {came : List Request} {went : List Answer} {b : BitPeriods} → Answered b S k t y came went
+    → Answered b S k t y came went × AnsweredWithin (nanos_up b) S k t y came went
 both {b = b} answered = (answered, in_ns_law b answered)
 
 -- ---- From the segment to the text

@@ -1,2 +1,4 @@
+pub mod Logged
+pub mod Relayed
 pub mod Pnet
 pub mod Shown

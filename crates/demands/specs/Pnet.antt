@@ -1,11 +1,11 @@
 -- Page 01, 'P-NET bounds' and 'Numbered refusals', in the page's own words: what the P-NET planner answers to the bytes of a sheet, and what the
--- three lent runs hold then. s, H, V, R and formula 15 are those of crates/pnet_rules, with the count of page 02, Asks 2 and 7, and the
+-- three lent runs hold then. s, H, V, R and the right side for W are those of crates/pnet_rules, with the count of page 02, Asks 2 and 7, and the
 -- charge of the sheet's edition, Ask 10. Assumes nothing.
 use Rattle.std.specs.Prelude.{ℕ, ◌+◌, ◌-◌, ◌*◌, ◌≤◌, ◌<◌, ◌≡◌, List, length, get_or}
 use Rattle.sheet_rules.specs.Sheets.{Sheet, masters_of}
 use Rattle.pnet_rules.specs.Segment.{Segment, segment_of, count, turn}
 use Rattle.pnet_rules.specs.Search.{value_from}
-use Rattle.pnet_rules.specs.Formula.{formula15}
+use Rattle.pnet_rules.specs.Refined.{right}
 use Rattle.pnet_plan.specs.declared.answer.Plan.{Plan}
 use Rattle.pnet_plan.specs.declared.answer.Plan.TheVariants as plan
 use Rattle.pnet_plan.specs.Refusals.{Given, Accepted}
@@ -15,13 +15,13 @@ pub record Figures (S : Segment) (k R W rounds : ℕ) : Type 0 where
   -- 'For a master k with s streams the bound is R(k) = s times V.'
   pub bound : R ≡ count S k * turn S
   -- 'Refined figure for k: the least W with W = ..': it is what the right side gives for it, and no smaller number is
-  pub solves : W ≡ formula15 S k W
-  pub least : (w : ℕ) → w ≡ formula15 S k w → W ≤ w
+  pub solves : W ≡ right S k W
+  pub least : (w : ℕ) → w ≡ right S k w → W ≤ w
   -- 'It is reached from W = 0 by putting the right side for W again and again.': it is the value of the sequence at the round count
-  pub reached : W ≡ value_from 0 (formula15 S k) rounds
+  pub reached : W ≡ value_from 0 (right S k) rounds
   -- 'The round count is the first m whose m-th value equals the next one'
-  pub stands : value_from 0 (formula15 S k) rounds ≡ value_from 0 (formula15 S k) (rounds + 1)
-  pub first : (m : ℕ) → m < rounds → value_from 0 (formula15 S k) m ≡ value_from 0 (formula15 S k) (m + 1) → ⊥
+  pub stands : value_from 0 (right S k) rounds ≡ value_from 0 (right S k) (rounds + 1)
+  pub first : (m : ℕ) → m < rounds → value_from 0 (right S k) m ≡ value_from 0 (right S k) (m + 1) → ⊥
   -- 'it is at most 1 + (N - 1)·s'
   pub few : rounds ≤ 1 + (S.masters - 1) * count S k
   -- 'all zero for a master without streams'

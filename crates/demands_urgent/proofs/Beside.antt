@@ -1,7 +1,7 @@
 -- Page 02, 'Ask 1' beside 'Ask 11', from the bytes of a sheet and of a capture: where a capture is the log of a run of the model on a sheet that urgent requests first accept,
 -- whose masters hand down the most urgent request first and keep their spacing, and its successive records are less than 2^31 bp apart, what the code keeps of it counts no answer above x, no
 -- request as too soon or as open beyond x, and no two records as too far apart. So of such a capture no line of the report says any of these. And where the log of such a run is not refused
--- as a capture and counts no request as too soon, its masters keep their spacing. What is kept of a capture, and the runs of each stream, are those of crates/demands_captures: Beside, with x in place
+-- as a capture and counts no request as too soon, its masters keep their spacing. What is kept of a capture, and the runs of each stream, are those of crates/demands: Beside, with x in place
 -- of R. Assumes nothing.
 use Prim.Native.Nat.{ℕ, ◌+◌, ◌*◌, ◌/◌, ◌^◌, ◌≤◌, ◌<◌}
 use mathlib.Core.Path.{◌≡◌}
@@ -13,12 +13,12 @@ use Rattle.sheet_rules.specs.Sheets.{Sheet}
 use Rattle.sheet_rules.specs.Whole.Outcome.{Read}
 use Rattle.pnet_rules.specs.Segment.{Segment, segment_of}
 use Rattle.pnet_rules.specs.Limits.{Declared}
-use Rattle.pnet_run.specs.Run.{Belongs, Moment, RunBy}
+use Rattle.pnet_run.specs.Run.{Belongs, Request, Answer, Token, RunBy}
 use Rattle.pnet_urgent_rules.specs.Urgent.{figure}
 use Rattle.pnet_urgent_rules.specs.Planned.{urgently}
 use Rattle.pnet_urgent_rules.specs.Refusals.{Accepted}
 use Rattle.pnet_urgent_rules.proofs.Refusals.{accepted_exactly}
-use Rattle.pnet_urgent_run.specs.Stack.{Everyone, stacked}
+use Rattle.pnet_urgent_run.specs.Stack.{Held, Everyone, stacked}
 use Rattle.pnet_urgent_run.proofs.Kept.{stacked_keeps}
 use Rattle.capture_log.specs.Log.{fresh}
 use Rattle.capture_log.specs.Records.{size, events_in, heard}
@@ -28,10 +28,10 @@ use Rattle.capture_tally.specs.declared.Taken.TheVariants as answer
 use Rattle.capture_tally.specs.Pieces.{before, answer_to, run_by, left_after, largest_after, above_after}
 use Rattle.capture_ages.specs.Clock.{began}
 use Rattle.capture_watch.specs.Follow.{most, Seen, seen, followed, met_in, overdue_run}
-use Rattle.demands_captures.specs.Logged.{log_of, instants_of, Close}
-use Rattle.demands_captures.proofs.Matching.{Punctual, AllSpaced}
-use Rattle.demands_captures.proofs.Beside.{zeros}
-use Rattle.demands_captures.proofs.Beside as beside
+use Rattle.demands.specs.Logged.{log_of, instants_of, Close}
+use Rattle.demands.proofs.Matching.{Punctual, AllSpaced}
+use Rattle.demands.proofs.Beside.{zeros}
+use Rattle.demands.proofs.Beside as beside
 use Rattle.demands_urgent.specs.Written.{written_at}
 use Rattle.demands_urgent.proofs.Written.{in_range_law, all_met}
 use Rattle.demands_urgent.proofs.Captured.{stacked_counts, each_punctual}
@@ -39,9 +39,10 @@ use Rattle.demands_urgent.proofs.Captured.{stacked_counts, each_punctual}
 -- the bytes s; with a place for each of 800 streams, urgent requests first accept the sheet H that they say
 module _ (s : List ℕ) (H : Sheet) (accepts : urgently s most ≡ Read H)
     -- a run of its bus that found the tester's counter at z
-    {end : Moment (stacked (segment_of H) Everyone)} (run : RunBy (stacked (segment_of H) Everyone) (segment_of H) end) (z : ℕ)
+    {now : ℕ} {token : Token} {held : ℕ → Held} {came : List Request} {went : List Answer} (run : RunBy (stacked (segment_of H) Everyone) (segment_of H) now token held came went)
+    (z : ℕ)
     -- its successive records are less than 2^31 bp apart, and it lasts for less than 2^64 - 1 bp
-    (close : Close (instants_of run)) (lasts : end.now + 1 < 2 ^ 64)
+    (close : Close (instants_of run)) (lasts : now + 1 < 2 ^ 64)
     -- the bytes c, fewer than 2^64, have n records, those of the run's log
     (c : List ℕ) (n : ℕ) (few : length c < 2 ^ 64) (long : length c ≡ size * n) (logged : events_in c n ≡ log_of z run)
     -- the runs that are lent for each stream's x, spacing and jitter
@@ -90,12 +91,12 @@ module _ (s : List ℕ) (H : Sheet) (accepts : urgently s most ≡ Read H)
   -- ---- A capture that is not refused
 
   -- where it counts no request as too soon, every master keeps its spacing
-  pub none_counted_is_spacing_kept : heard c (length H.streams) fresh ≡ Passed → kept.watch.soon ≡ 0 → AllSpaced S end.came
+  pub none_counted_is_spacing_kept : heard c (length H.streams) fresh ≡ Passed → kept.watch.soon ≡ 0 → AllSpaced S came
   none_counted_is_spacing_kept = beside.none_counted_then_spaced (stacked_counts S Everyone) (urgently s most) H accepts declared figure each run z close lasts c n few long logged limits spacings jitters
 
   -- ---- Every master keeps its spacing
 
-  module _ (spaced : AllSpaced S end.came) where
+  module _ (spaced : AllSpaced S came) where
     -- all of its records are taken
     pub the_capture_is_taken : told ≡ answer.All
     the_capture_is_taken = beside.all_are_taken (stacked_counts S Everyone) (urgently s most) H accepts declared figure each run z close lasts c n few long logged limits spacings jitters spaced

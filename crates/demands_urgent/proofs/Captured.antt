@@ -1,6 +1,6 @@
 -- Page 02, 'Ask 1' beside 'Ask 11': in the log of a run in which a stream's master sends urgent requests first and in which the stream and those ahead of it keep their spacing, no answer
 -- of the stream is above its x; where all do, the capture passes. From segments, and from the bytes of a sheet and of a capture. The argument is that of
--- crates/demands_captures: x is at most D, and so a request is answered before the next one of its stream comes. Assumes nothing.
+-- crates/demands: x is at most D, and so a request is answered before the next one of its stream comes. Assumes nothing.
 use Prim.Native.Nat.{ℕ, ◌+◌, ◌*◌, ◌≤◌, ◌<◌}
 use mathlib.Core.Path.{◌≡◌, refl, ap, ◌∙◌}
 use mathlib.Core.Bool.{false}
@@ -20,7 +20,7 @@ use Rattle.pnet_urgent_rules.specs.Urgent.{blocked, ahead_in, right_by, right, f
 use Rattle.pnet_urgent_rules.specs.Planned.{urgently}
 use Rattle.pnet_urgent_rules.proofs.Right.{turn_some}
 use Rattle.pnet_urgent_rules.proofs.Figures.{figure_in_time, figure_solves}
-use Rattle.pnet_run.specs.Run.{Belongs, Request, Moment, RunBy}
+use Rattle.pnet_run.specs.Run.{Belongs, Request, Answer, Token, RunBy}
 use Rattle.pnet_run.proofs.Charges.{charged_covers_visits}
 use Rattle.pnet_run.proofs.Spacing.{spaced_before as spaced-earlier}
 use Rattle.pnet_urgent_run.specs.Stack.{Held, Taken, here, further, HandsDown, Sends, Everyone, stacked}
@@ -31,11 +31,11 @@ use Rattle.pnet_urgent_run.proofs.Busy.{spaced_before, waits_in_time}
 use Rattle.capture_log.specs.Log.{fresh}
 use Rattle.capture_log.specs.Records.{size, events_in, records, events, taken, heard}
 use Rattle.capture_ages.specs.Ages.{beyond}
-use Rattle.demands_captures.specs.Logged.{log_of, instants_of, Close}
-use Rattle.demands_captures.proofs.Matching.{Counts, Punctual, punctual_if, AllSpaced, above_none, largest_most}
-use Rattle.demands_captures.proofs.FirstCome.{many_of, many_of_none, many_of_behind, many_of_first, many_of_in, many_of_some}
-use Rattle.demands_captures.proofs.Passing.{none_refused, all_taken}
-use Rattle.demands_captures.proofs.Literal.{all_within, open_within, all_pass}
+use Rattle.demands.specs.Logged.{log_of, instants_of, Close}
+use Rattle.demands.proofs.Matching.{Counts, Punctual, punctual_if, AllSpaced, all_within, above_none, largest_most}
+use Rattle.demands.proofs.FirstCome.{many_of, many_of_none, many_of_behind, many_of_first, many_of_in, many_of_some}
+use Rattle.demands.proofs.Clocked.{open_within}
+use Rattle.demands.proofs.Passing.{all_pass, none_refused, all_taken}
 use Rattle.demands_urgent.specs.Written.{room_in}
 use Rattle.demands_urgent.specs.Captured.{Within, LoggedWithin}
 use Rattle.demands_urgent.proofs.Written.{in_range_law, all_met}
@@ -101,8 +101,8 @@ module _ (S : Segment) (declared : Declared S) (U : ℕ → Type 0) {k i : ℕ} 
         small = omega (arith, x_in_time, range.deadline_to, range.spacing_to);
         keeps = λ came spaced. spaced i (inl refl) own.from_one own.to_last;
         earlier = λ r came spaced. spaced_before S i spaced;
-        waits = λ t y q came went walk spaced r j e.
-            waits_in_time S declared (charged S) (charged_covers_visits declared) U k i (figure S i) urgent own x_covers x_in_time walk spaced r j (rw e (heeded_itself S i));
+        waits = λ t y q came went run spaced r j e.
+            waits_in_time S declared (charged S) (charged_covers_visits declared) U k i (figure S i) urgent own x_covers x_in_time run spaced r j (rw e (heeded_itself S i));
       }
 
 -- where every master keeps its spacing, so do stream i and those ahead of it
@@ -121,15 +121,15 @@ module _ (S : Segment) (declared : Declared S) where
     pub no_answer_above_x : LoggedWithin S i (figure S i)
     no_answer_above_x = record {
       ever = λ {Urgent = U} urgent run spaced z.
-          let within = all_within z run (stacked_counts S U) (punctual S declared U urgent its_own met) spaced in
+          let within = all_within (stacked_counts S U) (punctual S declared U urgent its_own met) z run spaced in
           record { none_above = above_none within; largest_within = largest_most within };
     }
 
     -- nor is a request open for longer, where successive records are less than 2^31 bp apart
-    pub no_request_open_beyond_x : {U : ℕ → Type 0} {end : Moment (stacked S U)} → U (S.stream i).master → (run : RunBy (stacked S U) S end) → Close (instants_of run)
-        → SpacedUpTo S i end.came → (z : ℕ)
+    pub no_request_open_beyond_x : {U : ℕ → Type 0} {t : ℕ} {y : Token} {q : ℕ → Held} {came : List Request} {went : List Answer}
+        → U (S.stream i).master → (run : RunBy (stacked S U) S t y q came went) → Close (instants_of run) → SpacedUpTo S i came → (z : ℕ)
         → beyond (figure S i) (log_of z run) i ≡ false
-    no_request_open_beyond_x {U} urgent run close spaced z = open_within z run (stacked_counts S U) (punctual S declared U urgent its_own met) spaced close
+    no_request_open_beyond_x {U} urgent run close spaced z = open_within (stacked_counts S U) (punctual S declared U urgent its_own met) z run close spaced
 
   -- every stream is accepted, and every master hands down the most urgent request first
   module _ (met : (i : ℕ) → 1 ≤ i → i ≤ S.number → unmet S i ≡ false) (U : ℕ → Type 0) (urgent : (m : ℕ) → U m) where
@@ -138,23 +138,23 @@ module _ (S : Segment) (declared : Declared S) where
         punctual_if (all_spaced_up_to S i) (λ r l s k. spaced-earlier (s k)) (punctual S declared U (urgent m) own (met i own.from_one own.to_last))
 
     -- a run in which all keep their spacing; the bytes c are a capture with n records, those of the log
-    module _ {end : Moment (stacked S U)} (run : RunBy (stacked S U) S end) (spaced : AllSpaced S end.came) (z : ℕ)
+    module _ {t : ℕ} {y : Token} {q : ℕ → Held} {came : List Request} {went : List Answer} (run : RunBy (stacked S U) S t y q came went) (spaced : AllSpaced S came) (z : ℕ)
         (c : List ℕ) (n : ℕ) (long : length c ≡ size * n) (logged : events_in c n ≡ log_of z run) where
       -- no record is refused
       pub the_capture_passes : heard c S.number fresh ≡ Passed
-      the_capture_passes = none_refused c S.number n long (rw logged (all_pass z run (stacked_counts S U) (figure S) each_punctual spaced))
+      the_capture_passes = none_refused c S.number n long (rw logged (all_pass (stacked_counts S U) (figure S) each_punctual z run spaced))
 
       -- and all are taken
       pub the_capture_is_taken : taken c S.number fresh ≡ n
-      the_capture_is_taken = all_taken c S.number n long (rw logged (all_pass z run (stacked_counts S U) (figure S) each_punctual spaced))
+      the_capture_is_taken = all_taken c S.number n long (rw logged (all_pass (stacked_counts S U) (figure S) each_punctual z run spaced))
 
 -- ---- From the bytes of a sheet and of a capture
 
 -- the bytes s, and the three lent runs before the call; the planner accepts the sheet H that the bytes say
 module _ (s lent-places lent-x lent-rounds : List ℕ) (H : Sheet) (accepts : urgently s (room_in lent-places lent-x lent-rounds) ≡ Read H)
     -- a run of its bus, in which each master hands down the most urgent request first and keeps its spacing
-    {end : Moment (stacked (segment_of H) Everyone)} (run : RunBy (stacked (segment_of H) Everyone) (segment_of H) end)
-    (spaced : AllSpaced (segment_of H) end.came)
+    {now : ℕ} {token : Token} {kept : ℕ → Held} {came : List Request} {went : List Answer} (run : RunBy (stacked (segment_of H) Everyone) (segment_of H) now token kept came went)
+    (spaced : AllSpaced (segment_of H) came)
     -- the bytes c have n records, those of the run's log, where the tester's counter was z at its start
     (z : ℕ) (c : List ℕ) (n : ℕ) (long : length c ≡ size * n) (logged : events_in c n ≡ log_of z run) where
   -- the capture passes beside the sheet
@@ -174,5 +174,5 @@ module _ (s lent-places lent-x lent-rounds : List ℕ) (H : Sheet) (accepts : ur
   unfolding segment_of
   no_answer_above_the_written_x i from to =
       let a = as_accepted s lent-places lent-x lent-rounds H accepts in
-      let within = (no_answer_above_x (segment_of H) (in_range_law s _ H a) i from to (all_met s _ H a i from to)).ever {Urgent = Everyone} tt run (all_spaced_up_to (segment_of H) i end.came spaced) z in
+      let within = (no_answer_above_x (segment_of H) (in_range_law s _ H a) i from to (all_met s _ H a i from to)).ever {Urgent = Everyone} tt run (all_spaced_up_to (segment_of H) i came spaced) z in
       rw (all_events, written_x_is_the_figure s lent-places lent-x lent-rounds H accepts i from to) within

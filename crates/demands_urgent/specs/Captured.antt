@@ -2,12 +2,12 @@
 -- a capture, for any bound. Assumes nothing.
 use Rattle.std.specs.Prelude.{ℕ, ◌≤◌, ◌≡◌, List}
 use Rattle.pnet_rules.specs.Segment.{Segment}
-use Rattle.pnet_run.specs.Run.{Moment, RunBy}
-use Rattle.pnet_urgent_run.specs.Stack.{stacked}
+use Rattle.pnet_run.specs.Run.{Request, Answer, Token, RunBy}
+use Rattle.pnet_urgent_run.specs.Stack.{Held, stacked}
 use Rattle.pnet_urgent_run.specs.Promise.{SpacedUpTo}
 use Rattle.capture_log.specs.declared.Event.{Event}
 use Rattle.capture_log.specs.Log.{fresh, largest, above}
-use Rattle.demands_captures.specs.Logged.{log_of}
+use Rattle.demands.specs.Logged.{log_of}
 
 -- of stream i these records show no answer above x, and none that took longer
 pub record Within (x i : ℕ) (es : List Event) : Type 0 where
@@ -17,5 +17,5 @@ pub record Within (x i : ℕ) (es : List Event) : Type 0 where
 -- so it is in the log of any run in which the stream's master hands down the most urgent request first and in which the stream and those ahead of it keep their spacing. The
 -- tester's counter was z at the run's start; it may run over to zero anywhere, and the run may be cut at any instant
 pub record LoggedWithin (S : Segment) (i x : ℕ) : Type 1 where
-  pub ever : {Urgent : ℕ → Type 0} {end : Moment (stacked S Urgent)}
-      → Urgent (S.stream i).master → (run : RunBy (stacked S Urgent) S end) → SpacedUpTo S i end.came → (z : ℕ) → Within x i (log_of z run)
+  pub ever : {Urgent : ℕ → Type 0} {t : ℕ} {y : Token} {q : ℕ → Held} {came : List Request} {went : List Answer}
+      → Urgent (S.stream i).master → (run : RunBy (stacked S Urgent) S t y q came went) → SpacedUpTo S i came → (z : ℕ) → Within x i (log_of z run)

@@ -1,12 +1,13 @@
-// A sheet as text, a text as a sheet, and a sheet as the writer puts it, on standard output. What is refused is said on standard error, so that nothing
-// but a whole text or a whole sheet ever stands in the file that it goes to.
+// A sheet as text, and a text as a sheet, on standard output. What is refused is said on standard error, so that nothing but a whole text or a whole
+// sheet ever stands in the file that it goes to.
 use planner_complaints::blame;
 use planner_io::input::read_sheet;
 use planner_output::{ACCEPTED, FAILED, REFUSED, complain};
+use sheet_read::Reading;
 use sheet_write::Put;
 
 // Says of an input how it is refused.
-fn refuse(name: &[u8], no: u8, place: usize) -> u8 {
+pub(crate) fn refuse(name: &[u8], no: u8, place: usize) -> u8 {
     blame(name);
     planner_output::put_refusal(libc::STDERR_FILENO, no, place);
     REFUSED
@@ -34,20 +35,21 @@ fn write_text(name: &[u8], s: &[u8]) -> u8 {
     }
 }
 
-// A ring of kind 3, which is no longer written, as kinds 9 and 10; any other sheet as it is, and so that of every text. What a sheet is read into has
-// room for any.
 fn write_sheet(name: &[u8], s: &[u8]) -> u8 {
-    let mut new = sheet_pieces::sheet_buffer();
-    match sheet_rewrite::rewrite(s, &mut new) {
-        Put::Next(n) => planner_output::report(&new, n, ACCEPTED),
-        Put::Refused { no, place } => refuse(name, no, place),
+    match sheet_read::read(s) {
+        Reading::Refused { no, place } => refuse(name, no, place),
+        Reading::Accepted {
+            head: _,
+            streams: _,
+            first: _,
+        } => planner_output::report(s, s.len(), ACCEPTED),
     }
 }
 
-// Writes a sheet as text or as bytes. It is given as either, or as text alone.
-pub(crate) fn exchange(fd: i32, name: &[u8], from_text: bool, to_text: bool) -> u8 {
+// Writes the text of a sheet, or the bytes of the sheet that a text stands for.
+pub(crate) fn exchange(fd: i32, name: &[u8], as_text: bool) -> u8 {
     let mut sheet = sheet_pieces::sheet_buffer();
-    let given = read_sheet(fd, name, &mut sheet, from_text);
+    let given = read_sheet(fd, name, &mut sheet, as_text);
     if given.failed {
         return FAILED;
     }
@@ -55,9 +57,9 @@ pub(crate) fn exchange(fd: i32, name: &[u8], from_text: bool, to_text: bool) -> 
         return refuse(name, 23, given.line);
     }
     let n = given.length;
-    if to_text {
-        write_text(name, &sheet[..n])
-    } else {
+    if as_text {
         write_sheet(name, &sheet[..n])
+    } else {
+        write_text(name, &sheet[..n])
     }
 }

@@ -3,6 +3,7 @@
 // says last, on descriptor 3.
 mod along;
 mod exchange;
+mod rewrite;
 
 use libc::STDIN_FILENO;
 use planner_io::input::{open, read_sheet};
@@ -42,9 +43,9 @@ fn plan(fd: i32, name: &[u8], urgent: bool) -> u8 {
 fn serve(number: usize, fd: i32, name: &[u8]) -> u8 {
     match number {
         2 => plan(fd, name, true),
-        3 => exchange::exchange(fd, name, false, true),
-        4 => exchange::exchange(fd, name, true, false),
-        5 => exchange::exchange(fd, name, false, false),
+        3 => exchange::exchange(fd, name, false),
+        4 => exchange::exchange(fd, name, true),
+        5 => rewrite::rewrite(fd, name),
         _ => plan(fd, name, false),
     }
 }

@@ -69,31 +69,3 @@ absent_sender = refl
 pub silent_sender : crossed (path 2 30 (sheet 3) 3 1) ≡ answer.Refused 18 2
 unfolding crossed sheet
 silent_sender = refl
-
--- ---- A sheet's own refusals
-
--- a WorldFIP sheet: an exchange of 100 us, and variable 7 every 5,000 us
-unfoldable pub exchange : List ℕ
-exchange =
-    5 ∷ 0 ∷ 0 ∷ 0 ∷ 100
-    ∷ 6 ∷ 0 ∷ 7 ∷ 0 ∷ 0 ∷ 19 ∷ 136
-    ∷ []
-
--- it isn't P-NET: 3 at 0
-pub worldfip_sheet : crossed (path 2 30 exchange 2 1060) ≡ answer.Refused 3 0
-unfolding crossed exchange sheet
-worldfip_sheet = refl
-
--- the sheet of two masters with D = 499 for each stream from the second on: R is 500 for master 1 and 1,000 for master 2
-unfoldable pub two_late : List ℕ
-two_late =
-    1 ∷ 2
-    ∷ 2 ∷ 1 ∷ 0 ∷ 203 ∷ 0 ∷ 0 ∷ 39 ∷ 15 ∷ 0 ∷ 0 ∷ 39 ∷ 15
-    ∷ 2 ∷ 2 ∷ 0 ∷ 203 ∷ 0 ∷ 0 ∷ 39 ∷ 15 ∷ 0 ∷ 0 ∷ 1 ∷ 243
-    ∷ 2 ∷ 2 ∷ 0 ∷ 203 ∷ 0 ∷ 0 ∷ 39 ∷ 15 ∷ 0 ∷ 0 ∷ 1 ∷ 243
-    ∷ []
-
--- 8 names the first of the two that are late
-pub late_sheet : crossed (path 2 30 two_late 2 1060) ≡ answer.Refused 8 2
-unfolding crossed two_late sheet
-late_sheet = refl

@@ -30,11 +30,9 @@ use Rattle.pnet_crossing.specs.declared.Crossing.{Crossing}
 use Rattle.pnet_crossing.specs.declared.Crossing.TheVariants as answer
 use Rattle.pnet_crossing.proofs.Laws.{Searched, searched_here, searched_end}
 use Rattle.pnet_path.specs.Path.{Path, gateways, sheet_at, bound_at, forwarding_at, absent_in, absent_from, absent_at, refused_or, crossed_from, crossed}
-use Rattle.pnet_path.specs.Refusals.{Between, Each, FirstBad, Sound, Taken, Untaken, Few, Short, Long, Dated, Present, Absent, Sender, total, Sheets, Times, Senders, Given, Accepted}
+use Rattle.pnet_path.specs.Refusals.{Between, Each, FirstBad, Taken, Untaken, Few, Short, Long, Dated, Present, Absent, Sender, total, Sheets, Times, Senders, Given, Accepted}
 use Rattle.pnet_path.specs.Refusals.Absent.{not_there, no_streams}
 use Rattle.pnet_path.specs.Refusals.Given.{own, not-few, too_long, undated, no-sender, too-late}
-use Rattle.pnet_path.proofs.Own.{Judged, judged, own_exactly, sound_exactly, thirteen_is_no_sheets_own}
-use Rattle.pnet_path.proofs.Own.Judged.{refuses, accepts}
 
 -- ---- Tests
 
@@ -141,25 +139,13 @@ module _ (S : Segment) (k : ℕ) where
       if_bad (not_there n) = ap (λ (b : Bool). b || silent) (there.if_bad n)
       if_bad (no_streams e) = simp (eq-eqb (count S k) 0 e, or-true)
 
--- ---- What a segment's sheet is
-
-module _ (P : Path) (i : ℕ) where
-  -- what the words say of its bytes is what is answered for it
-  pub sheet_reads : {H : Sheet} → Sound (P.hop i).sheet H → sheet_at P i ≡ Read H
-  unfolding sheet_at
-  sheet_reads {H} a = (sound_exactly (P.hop i).sheet H).1 a
-
-  pub sheet_refuses : {n p : ℕ} → Untaken n p P i → sheet_at P i ≡ Not n p
-  unfolding sheet_at
-  sheet_refuses {n} {p} a = (own_exactly (P.hop i).sheet n p).1 a
-
 -- on a segment whose sheet is accepted
 sender_tells : (P : Path) (i : ℕ) → Taken P i → Tells (absent_at P i) (Sender Present P i) (Sender Absent P i)
 unfolding absent_at
 sender_tells P i t =
     record {
-      good = λ e. record { sheet = t.sheet; sound = t.sound; is = (tells t.sheet).good (sym (same t) ∙ e) };
-      bad = λ e. record { sheet = t.sheet; sound = t.sound; is = (tells t.sheet).bad (sym (same t) ∙ e) };
+      good = λ e. record { sheet = t.sheet; reads = t.reads; is = (tells t.sheet).good (sym (same t) ∙ e) };
+      bad = λ e. record { sheet = t.sheet; reads = t.reads; is = (tells t.sheet).bad (sym (same t) ∙ e) };
       if_good = λ s. same (read s) ∙ (tells s.sheet).if_good s.is;
       if_bad = λ s. same (read s) ∙ (tells s.sheet).if_bad s.is;
     }
@@ -171,10 +157,10 @@ sender_tells P i t =
     tells H = absent_tells (segment_of H) k
 
     read : {What : Segment → ℕ → Type 0} → Sender What P i → Taken P i
-    read s = record { sheet = s.sheet; sound = s.sound }
+    read s = record { sheet = s.sheet; reads = s.reads }
 
     same : (u : Taken P i) → absent_from (sheet_at P i) k ≡ absent_in (segment_of u.sheet) k
-    same u = ap (λ (o : Outcome). absent_from o k) (sheet_reads P i u.sound)
+    same u = ap (λ (o : Outcome). absent_from o k) u.reads
 
 -- ---- The sheets
 
@@ -185,7 +171,7 @@ module _ (P : Path) where
   behind zero m e t = ap (λ (x : ℕ). crossed_from P x 1) (sym (sym (zero-add m) ∙ e))
   behind (suc n) m e t =
       behind n (suc m) (omega arith) (λ j lo hi. t j lo (omega arith))
-      ∙ ap (λ (o : Outcome). refused_or o (crossed_from P m (suc (suc n)))) (sheet_reads P (suc n) (t (suc n) (omega arith) (omega arith)).sound)
+      ∙ ap (λ (o : Outcome). refused_or o (crossed_from P m (suc (suc n)))) (t (suc n) (omega arith) (omega arith)).reads
 
   -- the first that is refused, for itself
   pub refused_own : {i n p : ℕ} → FirstBad (Taken P) (Untaken n p P) P.segments i → crossed P ≡ answer.Refused n p
@@ -194,7 +180,7 @@ module _ (P : Path) where
   refused_own {i = suc i} b =
       let rest = P.segments - suc i in
       behind i (suc rest) (omega (arith, b.to)) (λ j lo hi. b.before j lo (omega arith))
-      ∙ ap (λ (o : Outcome). refused_or o (crossed_from P rest (suc (suc i)))) (sheet_refuses P (suc i) b.itself)
+      ∙ ap (λ (o : Outcome). refused_or o (crossed_from P rest (suc (suc i)))) b.itself
 
   -- of the first n either all are accepted or one is the first that is not
   pub data Looked (n : ℕ) : Type 0 where
@@ -203,15 +189,15 @@ module _ (P : Path) where
 
   pub looked : (n : ℕ) → Looked n
   looked zero = all (λ j lo hi. absurd (omega arith))
-  looked (suc n) = more (looked n) (judged (P.hop (suc n)).sheet)
+  looked (suc n) = more (looked n) (sheet_at P (suc n)) refl
     where
-      more : {o : Outcome} → Looked n → Judged (P.hop (suc n)).sheet o → Looked (suc n)
-      more (up_to b) x = up_to (record { from = b.from; to = omega (arith, b.to); before = b.before; itself = b.itself })
-      more (all t) (refuses x) = up_to {i = suc n} (record { from = omega arith; to = omega arith; before = λ j lo hi. t j lo (omega arith); itself = x })
-      more (all t) (accepts {H} x) = all (λ j lo hi. last j lo hi (ℕ_discrete j (suc n)))
+      more : Looked n → (o : Outcome) → sheet_at P (suc n) ≡ o → Looked (suc n)
+      more (up_to b) o e = up_to (record { from = b.from; to = omega (arith, b.to); before = b.before; itself = b.itself })
+      more (all t) (Not x p) e = up_to {i = suc n} (record { from = omega arith; to = omega arith; before = λ j lo hi. t j lo (omega arith); itself = e })
+      more (all t) (Read H) e = all (λ j lo hi. last j lo hi (ℕ_discrete j (suc n)))
         where
           last : (j : ℕ) → 1 ≤ j → j ≤ suc n → Dec (j ≡ suc n) → Taken P j
-          last j lo hi (yes q) = rw q (record { sheet = H; sound = x })
+          last j lo hi (yes q) = record { sheet = H; reads = ap (sheet_at P) q ∙ e }
           last j lo hi (no q) = t j lo (omega (arith, q))
 
   -- ---- The list, where all are accepted
@@ -366,17 +352,3 @@ module _ (P : Path) where
   given_once n p m q a b =
       let e : answer.Refused n p ≡ answer.Refused m q = sym (given_if n p a) ∙ given_if m q b in
       (cc, cc)
-
-  -- ---- 13
-
-  -- 13 never comes: of a sheet it is no own refusal, and none of the path's
-  pub thirteen_never_comes : (p : ℕ) → crossed P ≡ answer.Refused 13 p → ⊥
-  thirteen_never_comes p e = line (given_then 13 p e) refl
-    where
-      line : {n q : ℕ} → Given P n q → n ≡ 13 → ⊥
-      line (own {i} b) q = thirteen_is_no_sheets_own (P.hop i).sheet b.itself q
-      line (not-few t f) q = omega arith
-      line (too_long t f b) q = omega arith
-      line (undated t f b c) q = omega arith
-      line (no-sender t f b c d) q = omega arith
-      line (too-late t f b c d x) q = omega arith

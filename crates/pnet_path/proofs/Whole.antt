@@ -32,7 +32,7 @@ use Rattle.pnet_path.specs.Ways.{one_more_of, further, stopped, over_by, answer_
 use Rattle.pnet_path.specs.Ways.HandedOver.{whole, up_to_refused}
 use Rattle.pnet_path.specs.declared.Way.{Way}
 use Rattle.pnet_path.proofs.Laws.{over_stays, over_goes, answer_of_refused, answer_of_others}
-use Rattle.pnet_path.proofs.Refusals.{sheet_reads, sheet_refuses, behind, refused_own, Looked, looked}
+use Rattle.pnet_path.proofs.Refusals.{behind, refused_own, Looked, looked}
 use Rattle.pnet_path.proofs.Refusals.Looked.{all, up_to}
 
 -- ---- Absent is who has no bound
@@ -141,7 +141,7 @@ module _ (P : Path) where
   kept_all zero few t = kept_none
   kept_all (suc n) few t =
       let last = t (suc n) (omega arith) (omega arith) in
-      kept_more n last.sheet (sheet_reads P (suc n) last.sound) few (kept_all n (omega arith) (λ j lo hi. t j lo (omega arith)))
+      kept_more n last.sheet last.reads few (kept_all n (omega arith) (λ j lo hi. t j lo (omega arith)))
 
   -- behind a refused sheet nothing changes
   way_still : (n : ℕ) → (way n).refused ≡ true → way (suc n) ≡ way n
@@ -169,7 +169,7 @@ module _ (P : Path) where
     ended {i = zero} b = absurd (omega (arith, b.from))
     ended {i = suc i} {n = n} {p = p} b =
         let k = kept_all i (omega (arith, b.to)) (λ j lo hi. b.before j lo (omega arith)) in
-        let stop : way (suc i) ≡ stopped (way i) n p = rw (sheet_refuses P (suc i) b.itself) at (way_more i k.none_refused) in
+        let stop : way (suc i) ≡ stopped (way i) n p = rw b.itself at (way_more i k.none_refused) in
         let last = way_stays P.segments (suc i) b.to (ap (λ (w : Way). w.refused) stop) ∙ stop in
         rw last (record { segments = omega (arith, k.segments, b.to); refused = refl; no = refl; place = refl })
 

@@ -1,16 +1,11 @@
 -- Page 02, 'Ask 4', the refusals of a path in the page's own words: when a number is given, and at which place. Segments are counted from 1,
 -- and gateway i lies between segments i and i + 1. Assumes nothing.
-use Rattle.std.specs.Prelude.{ℕ, ◌≤◌, ◌<◌, ◌≡◌, List}
-use Rattle.sheet_record.specs.Kinds.{pnet}
-use Rattle.sheet_rules.specs.Sheets.{Sheet, bus_in}
-use Rattle.sheet_rules.specs.Whole.{reading}
-use Rattle.sheet_rules.specs.Whole.Outcome.{Read}
-use Rattle.sheet_rules.specs.Refusals as reader
+use Rattle.std.specs.Prelude.{ℕ, ◌≤◌, ◌<◌, ◌≡◌}
+use Rattle.sheet_rules.specs.Sheets.{Sheet}
+use Rattle.sheet_rules.specs.Whole.Outcome.{Read, Not}
 use Rattle.pnet_rules.specs.Segment.{Segment, segment_of, count}
-use Rattle.pnet_rules.specs.Bus.{OnBus}
-use Rattle.pnet_plan.specs.Refusals.{Passes, FirstFails}
 use Rattle.pnet_crossing.specs.Cost.{cost_over}
-use Rattle.pnet_path.specs.Path.{Path, gateways, bound_at, forwarding_at}
+use Rattle.pnet_path.specs.Path.{Path, gateways, sheet_at, bound_at, forwarding_at}
 
 -- ---- Words
 
@@ -30,32 +25,16 @@ pub record FirstBad (Good Bad : ℕ → Type 0) (n i : ℕ) : Type 0 where
   pub before : (j : ℕ) → 1 ≤ j → j < i → Good j
   pub itself : Bad i
 
--- ---- What is asked of a sheet by itself
-
--- the bytes s are the P-NET sheet H, and each of its streams passes
-pub record Sound (s : List ℕ) (H : Sheet) : Type 0 where
-  pub on_bus : OnBus s H
-  pub passes : Each (Passes (segment_of H)) (segment_of H).number
-
--- 'each sheet's own': a number and its place are given for the bytes s. No run is lent for a segment, so there is no line for 13
-pub data OwnRefusal (s : List ℕ) : ℕ → ℕ → Type 0 where
-  -- they are not read: one of the reading's
-  unread : {n p : ℕ} → reader.Given s n p → OwnRefusal s n p
-  -- 'with 3 at 0 if it isn't P-NET'
-  another_bus : {H : Sheet} → reading s ≡ Read H → (bus_in H ≡ pnet → ⊥) → OwnRefusal s 3 0
-  -- 8 a bound above a deadline: the first such stream
-  late_stream : {H : Sheet} {i : ℕ} → OnBus s H → FirstFails (segment_of H) i → OwnRefusal s 8 i
-
 -- ---- What is asked of a path
 
 -- the sheet of segment i is accepted
 pub record Taken (P : Path) (i : ℕ) : Type 0 where
   pub sheet : Sheet
-  pub sound : Sound (P.hop i).sheet sheet
+  pub reads : sheet_at P i ≡ Read sheet
 
 -- it is refused for itself, with this number and place
 abbrev pub Untaken : ℕ → ℕ → Path → ℕ → Type 0
-Untaken n p P i = OwnRefusal (P.hop i).sheet n p
+Untaken n p P i = sheet_at P i ≡ Not n p
 
 -- there are 1 to 10 gateways
 abbrev pub Few : Path → Type 0
@@ -85,7 +64,7 @@ pub data Absent (S : Segment) (k : ℕ) : Type 0 where
 -- one or the other is so of the sender of segment i, in the segment that the accepted sheet there declares
 pub record Sender (What : Segment → ℕ → Type 0) (P : Path) (i : ℕ) : Type 0 where
   pub sheet : Sheet
-  pub sound : Sound (P.hop i).sheet sheet
+  pub reads : sheet_at P i ≡ Read sheet
   pub is : What (segment_of sheet) (P.hop i).sender
 
 -- the total: what the path costs

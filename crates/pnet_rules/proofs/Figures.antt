@@ -1,17 +1,16 @@
 -- Page 01, 'P-NET bounds', the refined figure: what W and its rounds are, for every segment and each of its masters. The first part
 -- holds for any charge h(y) of at least 10 and any count a(y) that never falls as W grows; the second puts the charge of the edition and the planner's a(y) in.
 -- Assumes nothing.
-use mathlib.Core.Path.{◌≡◌, refl, ap}
+use mathlib.Core.Path.{◌≡◌, ap}
 use mathlib.Core.Bool.{Bool, true, false}
 use Prim.Native.Nat.{ℕ, suc, ◌+◌, ◌-◌, ◌*◌, ◌≤◌, zero-le}
 use native.Mathlib.Nat.{zero-mul}
 use native.Mathlib.Omega.{arith}
 use Rattle.common.specs.Sums.{when, upto}
 use Rattle.common.proofs.Sums.{upto_mono, up_rises}
-use Rattle.pnet_rules.specs.Segment.{Segment, owns, count, charged, turn_by, turn, bound_by, bound}
+use Rattle.pnet_rules.specs.Segment.{Segment, owns, count, charged, turn_by, bound_by, bound}
 use Rattle.pnet_rules.specs.Search.{value_from, rounds_from, Settles}
-use Rattle.pnet_rules.specs.Formula.{asked, saved, formula15}
-use Rattle.pnet_rules.specs.Refined.{saving, right_by, most_rounds, asked_by, right, rounds, refined}
+use Rattle.pnet_rules.specs.Refined.{right_by, most_rounds, asked_by, right, rounds, refined}
 use Rattle.pnet_rules.proofs.Sequence.{Least, value_rises, still_at_once}
 use Rattle.pnet_rules.proofs.Right.{right_of, charge, right_is_charges, right_rises, right_at_most, right_least, right_rounds, right_rounds_at_most, right_value_at_most}
 use Rattle.pnet_rules.proofs.Holds.{charged_at_least, bound_silent_by}
@@ -79,11 +78,6 @@ asked_no_less h g S y v w r l = upto_mono _ _ S.number (λ i lo hi. split (owns 
 
 pub asked_rises : (h : ℕ → ℕ) (S : Segment) (y v w : ℕ) → v ≤ w → asked_by h S y v ≤ asked_by h S y w
 asked_rises h S y v w l = asked_no_less h h S y v w (omega arith) l
-
--- the right side is formula 15 as the page writes it
-pub right_is_formula_15 : (S : Segment) (k : ℕ) → right S k ≡ formula15 S k
-unfolding right right_by saving asked_by bound_by turn_by formula15 saved asked bound turn
-right_is_formula_15 S k = refl
 
 module _ (S : Segment) (k : ℕ) where
   module _ (lo : 1 ≤ k) (hi : k ≤ S.masters) where

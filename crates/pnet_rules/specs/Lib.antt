@@ -1,6 +1,5 @@
 pub mod Segment
 pub mod Search
-pub mod Formula
 pub mod Refined
 pub mod Limits
 pub mod Bus

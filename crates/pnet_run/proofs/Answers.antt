@@ -12,8 +12,24 @@ use borrow.Author.Tests.{eq-eqb, ne_eqb, eqb-true, leb-true, le-leb}
 use Rattle.common.specs.Sums.{when, upto}
 use Rattle.common.proofs.Sums.{upto_but_one}
 use Rattle.pnet_rules.specs.Segment.{Segment}
-use Rattle.pnet_run.specs.Run.{Belongs, Request, request, Answer, Queues, put, Token}
-use Rattle.pnet_run.proofs.Walks.{join, Walk, start, complete, arrive, travel, work, serve, skip}
+use Rattle.pnet_run.specs.Run.{
+  Belongs,
+  Request,
+  request,
+  Answer,
+  Queues,
+  put,
+  join,
+  Token,
+  Run,
+  start,
+  complete,
+  arrive,
+  travel,
+  work,
+  serve,
+  skip,
+}
 use Rattle.pnet_run.proofs.Counts.{came_since, answered_since, spent}
 use Rattle.pnet_run.proofs.Keeping.{put_same, put_other}
 use Rattle.pnet_run.proofs.Queues.{owned}
@@ -40,7 +56,7 @@ other_stream : {S : Segment} {m o i j : ℕ} → Belongs S m i → Belongs S o j
 other_stream {S} d f n e = n (sym d.own ∙ ap (λ (u : ℕ). (S.stream u).master) (sym e) ∙ f.own)
 
 -- a request that came waits with its master until it is answered, so none is lost and none is counted twice
-balance : {S : Segment} {t : ℕ} {y : Token} {q : Queues} {came : List Request} {went : List Answer} → Walk S t y q came went → (m i lo : ℕ)
+balance : {S : Segment} {t : ℕ} {y : Token} {q : Queues} {came : List Request} {went : List Answer} → Run S t y q came went → (m i lo : ℕ)
     → Belongs S m i → came_since i lo came ≡ came_since i lo (q m) + served_since i lo went
 unfolding came_since served_since
 balance (start a b c) m i lo d = refl
@@ -86,7 +102,7 @@ served_least i a lo (w ∷ went) late = go (served_least i a lo went (λ u j. la
     go ih false e y g = omega arith
 
 -- the answers of stream i since a, and its requests that wait, have all come since lo
-pub all_came : {S : Segment} {t : ℕ} {y : Token} {q : Queues} {came : List Request} {went : List Answer} → Walk S t y q came went
+pub all_came : {S : Segment} {t : ℕ} {y : Token} {q : Queues} {came : List Request} {went : List Answer} → Run S t y q came went
     → (m i a lo : ℕ) → Belongs S m i → ((w : Answer) → Memᴰ w went → w.to.of ≡ i → a ≤ w.at → lo ≤ w.to.since)
     → answered_since i a went + came_since i lo (q m) ≤ came_since i lo came
 all_came {went = went} z m i a lo d late = omega (arith, balance z m i lo d, served_least i a lo went late)

@@ -24,8 +24,31 @@ use borrow.Author.Tests.{le-leb}
 use Rattle.common.specs.Sums.{when}
 use Rattle.units.specs.Units.{bp}
 use Rattle.pnet_rules.specs.Segment.{Segment, turn_by, bound_by, count}
-use Rattle.pnet_run.specs.Run.{Belongs, Request, request, Answer, answer, Queues, put, Token, toward, serving, Settled, on_way, at_work, next, first_come}
-use Rattle.pnet_run.proofs.Walks.{join, Walk, stage, start, complete, arrive, travel, work, serve, skip}
+use Rattle.pnet_run.specs.Run.{
+  Belongs,
+  Request,
+  request,
+  Answer,
+  answer,
+  Queues,
+  put,
+  join,
+  Token,
+  toward,
+  serving,
+  Settled,
+  on_way,
+  at_work,
+  next,
+  Run,
+  start,
+  complete,
+  arrive,
+  travel,
+  work,
+  serve,
+  skip,
+}
 use Rattle.pnet_run.specs.Promise.{Apart, and, Answered}
 use Rattle.pnet_run.proofs.Charges.{Covers, free}
 use Rattle.pnet_run.proofs.Counts.{spent, under_way}
@@ -83,7 +106,7 @@ module _ (S : Segment) (k : ℕ) where
   Room i q = Absent i (q k) × (suc (length (q k)) ≤ count S k)
 
   -- each request of k found room when it arrived
-  unfoldable Roomy : {t : ℕ} {y : Token} {q : Queues} {came : List Request} {went : List Answer} → Walk S t y q came went → Type 0
+  unfoldable Roomy : {t : ℕ} {y : Token} {q : Queues} {came : List Request} {went : List Answer} → Run S t y q came went → Type 0
   Roomy (start a b c) = Unit {0}
   Roomy (complete z p) = Roomy z
   Roomy (arrive {m = m} {i = i} {q = q} z o d) = (m ≡ k → Room i q) × Roomy z
@@ -191,7 +214,7 @@ module _ (S : Segment) (h x : ℕ → ℕ) (k : ℕ) (1≤k : 1 ≤ k) (k≤n : 
 
     -- ---- Every run with room
 
-    inv : {t : ℕ} {y : Token} {q : Queues} {came : List Request} {went : List Answer} (z : Walk S t y q came went) → Roomy S k z → Inv t y q went
+    inv : {t : ℕ} {y : Token} {q : Queues} {came : List Request} {went : List Answer} (z : Run S t y q came went) → Roomy S k z → Inv t y q went
     unfolding Roomy
     inv (start a b c) s = record { token = omega arith; queue = none }
     inv (complete {m = m} {r = r} z p) s = inv_complete (inv z s) p (owned z m r (rw p (Memᴰ.head refl))) (queue_past z k) (omega arith)
@@ -225,10 +248,10 @@ module _ (S : Segment) (h : ℕ → ℕ) (k : ℕ) (1≤k : 1 ≤ k) (k≤n : k 
   KeptApart came = (i : ℕ) → Belongs S k i → Apart (least i) i came
 
   -- what holds with no surcharge
-  plain : {t : ℕ} {y : Token} {q : Queues} {came : List Request} {went : List Answer} (z : Walk S t y q came went) → Roomy S k z → Inv S h free k 1≤k k≤n t y q went
+  plain : {t : ℕ} {y : Token} {q : Queues} {came : List Request} {went : List Answer} (z : Run S t y q came went) → Roomy S k z → Inv S h free k 1≤k k≤n t y q went
   plain z s = inv S h free k 1≤k k≤n cover z s
 
-  not_late : {t : ℕ} {y : Token} {q : Queues} {came : List Request} {went : List Answer} (z : Walk S t y q came went) → Roomy S k z
+  not_late : {t : ℕ} {y : Token} {q : Queues} {came : List Request} {went : List Answer} (z : Run S t y q came went) → Roomy S k z
       → (r : Request) → Memᴰ r (q k) → NotLate (bound_by h S k) r.since t y
   not_late {y = y} {went = went} z s r j =
       let long : 40 < h k = omega (arith, cover.used k r.of (owned z k r j)) in
@@ -237,18 +260,18 @@ module _ (S : Segment) (h : ℕ → ℕ) (k : ℕ) (1≤k : 1 ≤ k) (k≤n : k 
       record { by_then = omega (arith, w.by_then); before = λ o. omega (arith, w.before o) }
 
   -- nothing of stream i waits when its next request arrives, so there is room
-  alone : {t i : ℕ} {y : Token} {q : Queues} {came : List Request} {went : List Answer} (z : Walk S t y q came went) → Roomy S k z → Settled y
+  alone : {t i : ℕ} {y : Token} {q : Queues} {came : List Request} {went : List Answer} (z : Run S t y q came went) → Roomy S k z → Settled y
       → Belongs S k i → KeptApart (request i t ∷ came) → (r : Request) → Memᴰ r (q k) → i ≢ r.of
   alone {i = i} z s o d apart r j e =
       omega (arith, fits i d, (not_late z s r j).before o, apart_latest (apart i d) refl r.since (rw e (queue_came z k r j)))
 
-  room : {t i : ℕ} {y : Token} {q : Queues} {came : List Request} {went : List Answer} (z : Walk S t y q came went) → Roomy S k z → Settled y
+  room : {t i : ℕ} {y : Token} {q : Queues} {came : List Request} {went : List Answer} (z : Run S t y q came went) → Roomy S k z → Settled y
       → Belongs S k i → KeptApart (request i t ∷ came) → Room S k i q
   room {i = i} {q = q} z s o d apart =
       let f = alone z s o d apart in
       (absent_if i (q k) f, room_for S k i d (plain z s).queue (owned z k) f)
 
-  roomy : {t : ℕ} {y : Token} {q : Queues} {came : List Request} {went : List Answer} (z : Walk S t y q came went) → KeptApart came → Roomy S k z
+  roomy : {t : ℕ} {y : Token} {q : Queues} {came : List Request} {went : List Answer} (z : Run S t y q came went) → KeptApart came → Roomy S k z
   unfolding Roomy
   roomy (start a b c) apart = tt
   roomy (complete z p) apart = roomy z apart
@@ -258,17 +281,17 @@ module _ (S : Segment) (h : ℕ → ℕ) (k : ℕ) (1≤k : 1 ≤ k) (k≤n : k 
   roomy (serve e u v z p a b c d f g) apart = roomy z apart
   roomy (skip e z p a b) apart = roomy z apart
 
-  pub waits_in_time : {t : ℕ} {y : Token} {q : Queues} {came : List Request} {went : List Answer} → Walk S t y q came went → KeptApart came
+  pub waits_in_time : {t : ℕ} {y : Token} {q : Queues} {came : List Request} {went : List Answer} → Run S t y q came went → KeptApart came
       → (r : Request) → Memᴰ r (q k) → NotLate (bound_by h S k) r.since t y
   waits_in_time z apart = not_late z (roomy z apart)
 
   pub answered_by : {t : ℕ} {y : Token} {q : Queues} {came : List Request} {went : List Answer}
-      → Walk S t y q came went → KeptApart came → Answered (bp (bound_by h S k)) S k (stage first_come t y q came went)
+      → Run S t y q came went → KeptApart came → Answered (bp (bound_by h S k)) S k t y came went
   answered_by = answered_in_time S k (bound_by h S k) KeptApart (λ r came apart i d. apart_before (apart i d)) (λ t y q came went. waits_in_time)
 
   -- ---- The bound by another charge, with a surcharge for each used visit
 
   pub credit_by : (g x : ℕ → ℕ) → Covers g x S → 40 < g k
-      → {t : ℕ} {y : Token} {q : Queues} {came : List Request} {went : List Answer} → Walk S t y q came went → KeptApart came → (r : Request) → Memᴰ r (q k)
+      → {t : ℕ} {y : Token} {q : Queues} {came : List Request} {went : List Answer} → Run S t y q came went → KeptApart came → (r : Request) → Memᴰ r (q k)
       → NotLate (bound_by g S k + (under_way x y + spent x S r.since went)) r.since t y
   credit_by g x c long z apart r j = waits S g x k 1≤k k≤n c long (inv S g x k 1≤k k≤n c z (roomy z apart)) r j

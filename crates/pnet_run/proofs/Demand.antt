@@ -1,7 +1,7 @@
 -- Demand 3, sentence by sentence, and what page 02's Asks 2, 7 and 10 add to it. The bus and its runs are in specs/Run, the words of the promise in
 -- specs/Promise, and the bound R and the refined figure W are the planner's, of crates/pnet_rules, by the charge of the sheet's edition. Assumes nothing.
-use Prim.Native.Nat.{ℕ, ◌+◌, ◌-◌, ◌≤◌}
-use mathlib.Core.Path.{◌≡◌, ap}
+use Prim.Native.Nat.{ℕ, ◌-◌, ◌≤◌}
+use mathlib.Core.Path.{◌≡◌}
 use mathlib.Core.Bool.{false}
 use mathlib.Core.List.{List}
 use native.Mathlib.Nat.{le_refl}
@@ -16,17 +16,15 @@ use Rattle.pnet_rules.specs.Refined.{right, refined}
 use Rattle.pnet_rules.proofs.Figures.{refined_solves}
 use Rattle.pnet_rules.proofs.Holds.{charged_covers}
 use Rattle.pnet_rules.proofs.Editions.{bound_no_less_by}
-use Rattle.pnet_run.specs.Run.{Belongs, first_come, Moment, Run}
-use Rattle.pnet_run.specs.Promise.{Spaced, Answered, Safe, Reached, GoesOn, AllAnswered, Accepted, Even}
-use Rattle.pnet_run.proofs.Literal.{came_by_now, lasts_shorter, answered_in_runs}
+use Rattle.pnet_run.specs.Run.{Belongs, Request, Answer, answer, Queues, Token, Run}
+use Rattle.pnet_run.specs.Promise.{Spaced, Answered, Safe, Reached, Accepted, Even}
 use Rattle.pnet_run.proofs.Charges.{belongs_count, count_belongs, in_ring, covers_if, charged_covers_visits, some_cycle}
 use Rattle.pnet_run.proofs.Answering.{answered_if_it_asks}
 use Rattle.pnet_run.proofs.Spacing.{spaced_apart}
 use Rattle.pnet_run.proofs.Bound.{answered_by}
 use Rattle.pnet_run.proofs.Refined.{answered_within}
 use Rattle.pnet_run.proofs.Exact.{exact}
-use Rattle.pnet_run.proofs.Progress.{runs_on, goes_on}
-use Rattle.pnet_run.proofs.Reactions.{first_come_is_lively}
+use Rattle.pnet_run.proofs.Progress.{Later, goes_on}
 
 -- ---- 'Take an accepted P-NET sheet'
 
@@ -54,15 +52,14 @@ module _ (S : Segment) (accepted : Accepted S) (h : ℕ → ℕ) (covers : (y : 
   unfolding bound
   fits k i d = omega (arith, bound_no_less_by h (charged S) S most k, fits_spacing accepted k i d)
 
-  answered_within_the_bound_by : (k : ℕ) → {x : Moment first_come} → Run S x → Spaced S k x.came → Answered (bp (bound_by h S k)) S k x
+  answered_within_the_bound_by : (k : ℕ) → {now : ℕ} {token : Token} {queues : Queues} {came : List Request} {went : List Answer}
+      → Run S now token queues came went → Spaced S k came → Answered (bp (bound_by h S k)) S k now token came went
   answered_within_the_bound_by k run spaced =
       answered_if_it_asks
       (λ i d.
       let own = in_ring accepted.declared d in
-      answered_in_runs run
-      (λ y walk.
-      answered_by S h k own.0 own.1 (covers_if accepted.declared covers) (λ j. (S.stream j).spacing - (S.stream j).jitter) (fits k) walk
-      (spaced_apart accepted.declared walk spaced)))
+      answered_by S h k own.0 own.1 (covers_if accepted.declared covers) (λ j. (S.stream j).spacing - (S.stream j).jitter) (fits k) run
+      (spaced_apart accepted.declared run spaced))
 
 -- ---- 'any fault-free run of the virtual token bus from empty queues, with one message a visit and first-come queues. If a master's
 -- requests keep their declared spacing and no message is longer than declared, each of that master's requests is answered within
@@ -74,8 +71,10 @@ module _ (S : Segment) (accepted : Accepted S) (h : ℕ → ℕ) (covers : (y : 
 -- nominal times are at least T apart'. Where J is 0, as in every kind 2 record, that is arrivals T apart (Spacing). `Answered` says that no
 -- request of the master was completed later than its arrival plus the bound, and that each was completed by then if the run lasts that long.
 
-pub each_request_is_answered_within_the_bound : (sheet : Sheet) → Accepted (segment_of sheet) → (k : ℕ) → {x : Moment first_come}
-    → Run (segment_of sheet) x → Spaced (segment_of sheet) k x.came → Answered (bp (bound (segment_of sheet) k)) (segment_of sheet) k x
+pub each_request_is_answered_within_the_bound : (sheet : Sheet) → Accepted (segment_of sheet) → (k : ℕ)
+    → {now : ℕ} {token : Token} {queues : Queues} {came : List Request} {went : List Answer}
+    → Run (segment_of sheet) now token queues came went → Spaced (segment_of sheet) k came
+    → Answered (bp (bound (segment_of sheet) k)) (segment_of sheet) k now token came went
 unfolding bound
 each_request_is_answered_within_the_bound sheet accepted =
     let S = segment_of sheet in
@@ -101,31 +100,17 @@ pub no_lower_figure_would_be_true : (sheet : Sheet) → Declared (segment_of she
     → Even (segment_of sheet) k → (figure : BitPeriods) → Safe figure (segment_of sheet) k → bound (segment_of sheet) k ≤ figure.0
 no_lower_figure_would_be_true sheet declared k some even figure safe =
     let x = some_run_takes_exactly_the_bound sheet declared k some even in
-    omega (arith, ap (λ (z : BitPeriods). z.0) x.exact, (safe.ever x.run (x.spaced k)).in_time x.slow x.answered x.own)
+    omega (arith, (safe.ever x.run (x.spaced k)).in_time (answer x.slow _) x.exact x.own)
 
 -- ---- What keeps the demand from being empty
 
--- No run is ever stuck: from every moment it goes on, with no further arrival, to one that lasts as long as one likes.
+-- A run never gets stuck: from every stage it goes on to a later instant, with no further arrival. So the runs of the demand last as
+-- long as one likes.
 
-pub every_run_lasts_as_long_as_one_likes : (sheet : Sheet) → Declared (segment_of sheet) → {x : Moment first_come} → Run (segment_of sheet) x
-    → (u : ℕ) → GoesOn (segment_of sheet) x u
-every_run_lasts_as_long_as_one_likes sheet declared run u =
-    goes_on first_come (segment_of sheet) (first_come_is_lively (segment_of sheet) (λ m i b. some_cycle declared b)) run u
-
--- And where the master keeps its spacing, to one in which all of its requests are answered.
-
-pub every_run_goes_on_until_all_is_answered : (sheet : Sheet) → Accepted (segment_of sheet) → (k : ℕ) → {x : Moment first_come}
-    → Run (segment_of sheet) x → Spaced (segment_of sheet) k x.came → AllAnswered (segment_of sheet) k x
-every_run_goes_on_until_all_is_answered sheet accepted k {x} run spaced =
-    let R = bound (segment_of sheet) k in
-    let on = every_run_lasts_as_long_as_one_likes sheet accepted.declared run (x.now + R) in
-    let answered = each_request_is_answered_within_the_bound sheet accepted k (runs_on run on.onward) (rw on.no_more spaced) in
-    record {
-      end = on.end;
-      onward = on.onward;
-      no_more = on.no_more;
-      each = λ r j own. answered.none_left r j own (lasts_shorter (omega (arith, came_by_now run r (rw on.no_more at j))) on.lasts);
-    }
+pub no_run_is_stuck : (sheet : Sheet) → Declared (segment_of sheet)
+    → {now : ℕ} {token : Token} {queues : Queues} {came : List Request} {went : List Answer}
+    → Run (segment_of sheet) now token queues came went → Later (segment_of sheet) now came
+no_run_is_stuck sheet declared {token = token} run = goes_on (segment_of sheet) (λ m i b. some_cycle declared b) token run
 
 -- ---- Page 02, Ask 2: 'Then show, for every accepted sheet whose masters all keep their spacing, that every response is within the corrected
 -- figure.'
@@ -133,8 +118,10 @@ every_run_goes_on_until_all_is_answered sheet accepted k {x} run spaced =
 -- The figure is W of crates/pnet_rules, the one that the planner writes. Here every master keeps its spacing: where another asks oftener
 -- than declared, W is not promised (TwoMasters has such a run), and R still is. Ask 7 adds J to the count; with less W would be false (Jitter).
 
-pub each_request_is_answered_within_the_refined_figure : (sheet : Sheet) → Accepted (segment_of sheet) → (k : ℕ) → {x : Moment first_come}
-    → Run (segment_of sheet) x → ((y : ℕ) → Spaced (segment_of sheet) y x.came) → Answered (bp (refined (segment_of sheet) k)) (segment_of sheet) k x
+pub each_request_is_answered_within_the_refined_figure : (sheet : Sheet) → Accepted (segment_of sheet) → (k : ℕ)
+    → {now : ℕ} {token : Token} {queues : Queues} {came : List Request} {went : List Answer}
+    → Run (segment_of sheet) now token queues came went → ((y : ℕ) → Spaced (segment_of sheet) y came)
+    → Answered (bp (refined (segment_of sheet) k)) (segment_of sheet) k now token came went
 unfolding bound right
 each_request_is_answered_within_the_refined_figure sheet accepted k run spaced =
     let S = segment_of sheet in
@@ -142,18 +129,18 @@ each_request_is_answered_within_the_refined_figure sheet accepted k run spaced =
     (λ i d.
     let own = in_ring accepted.declared d in
     let cover = charged_covers_visits accepted.declared in
-    answered_in_runs run
-    (λ y walk.
     answered_within S accepted.declared (charged S) cover (fits_spacing accepted) (refined S k) k own.0 own.1
-    (omega (arith, cover.used k i d)) (count_belongs d) (omega (arith, refined_solves S k own.0 own.1)) walk spaced))
+    (omega (arith, cover.used k i d)) (count_belongs d) (omega (arith, refined_solves S k own.0 own.1)) run spaced)
 
 -- ---- Page 02, Ask 10: 'Under edition 2, every response is still within the bound; the exactness part of demand 3 is asked only for edition 1.'
 
 -- The bound and the refined figure above are those of the sheet's edition, whichever it is. And since the bus is the same, the bound of edition 1,
 -- s times the sum of H, holds of every run of a sheet of any edition: the larger charge of edition 2 makes a larger promise, and no other bus.
 
-pub each_request_is_answered_within_the_bound_of_edition_1 : (sheet : Sheet) → Accepted (segment_of sheet) → (k : ℕ) → {x : Moment first_come}
-    → Run (segment_of sheet) x → Spaced (segment_of sheet) k x.came → Answered (bp (bound_by (hold (segment_of sheet)) (segment_of sheet) k)) (segment_of sheet) k x
+pub each_request_is_answered_within_the_bound_of_edition_1 : (sheet : Sheet) → Accepted (segment_of sheet) → (k : ℕ)
+    → {now : ℕ} {token : Token} {queues : Queues} {came : List Request} {went : List Answer}
+    → Run (segment_of sheet) now token queues came went → Spaced (segment_of sheet) k came
+    → Answered (bp (bound_by (hold (segment_of sheet)) (segment_of sheet) k)) (segment_of sheet) k now token came went
 each_request_is_answered_within_the_bound_of_edition_1 sheet accepted =
     let S = segment_of sheet in
     answered_within_the_bound_by S accepted (hold S) (λ y lo hi. le_refl _) (charged_covers S)

@@ -14,7 +14,7 @@ use Rattle.units.specs.Units.{bp}
 use Rattle.pnet_rules.specs.Segment.{Segment, stream_of, segment_of, count, hold, bound_by, bound, late}
 use Rattle.pnet_rules.specs.Limits.{Ranged, Declared}
 use Rattle.pnet_rules.proofs.Declares.{stream_ranged}
-use Rattle.units.specs.declared.BitPeriods.{BitPeriods}
+use Rattle.pnet_run.specs.Run.{answer}
 use Rattle.pnet_run.specs.Promise.{Safe, Reached, Accepted, Even}
 use Rattle.pnet_run.proofs.Few.{alone, limits, declared_if_few}
 use Rattle.pnet_run.proofs.Demand.{accepted_if_none_is_late, some_run_takes_exactly_the_bound, each_request_is_answered_within_the_bound_of_edition_1}
@@ -85,4 +85,4 @@ each_is_within_260_under_2 = record { ever = λ run spaced. rw sum_of_H at (each
 
 pub no_run_takes_R_under_2 : Reached (bp (bound (under 2) 1)) (under 2) 1 → ⊥
 no_run_takes_R_under_2 x =
-    omega (arith, R-under-2, ap (λ (z : BitPeriods). z.0) x.exact, (each_is_within_260_under_2.ever x.run (x.spaced 1)).in_time x.slow x.answered x.own)
+    omega (arith, R-under-2, (each_is_within_260_under_2.ever x.run (x.spaced 1)).in_time (answer x.slow _) x.exact x.own)

@@ -18,10 +18,22 @@ use Rattle.units.specs.Units.{bp}
 use Rattle.pnet_rules.specs.Segment.{Segment, owns, count, hold, charged, turn, turn_by, bound_by, bound}
 use Rattle.pnet_rules.specs.Limits.{Declared}
 use Rattle.pnet_rules.proofs.Holds.{hold_none, charged_first}
-use Rattle.pnet_run.specs.Run.{Belongs, Request, request, Answer, answer, Queues, put, Token, toward, next}
-use Rattle.pnet_run.proofs.Walks.{Walk, travel, skip}
+use Rattle.pnet_run.specs.Run.{
+  Belongs,
+  Request,
+  request,
+  Answer,
+  answer,
+  Queues,
+  put,
+  Token,
+  toward,
+  next,
+  Run,
+  travel,
+  skip,
+}
 use Rattle.pnet_run.specs.Promise.{Reached, Even}
-use Rattle.pnet_run.proofs.Literal.{reached_by}
 use Rattle.pnet_run.proofs.Keeping.{put_same, put_other}
 use Rattle.pnet_run.proofs.Queues.{put_rest, owned}
 use Rattle.pnet_run.proofs.Ring.{next_in_ring, gap, gap_own, gap_next, gap_lap, gap_most, gap_apart}
@@ -59,7 +71,7 @@ module _ (S : Segment) (k : ℕ) (1≤k : 1 ≤ k) (k≤n : k ≤ S.masters) (de
   -- a stage of the run: each master with streams has answered one request a visit
   record Stage (j m t : ℕ) (y : Token) (went : List Answer) : Type 0 where
     queues : Queues
-    run : Walk S t y queues (asked_to S.number) went
+    run : Run S t y queues (asked_to S.number) went
     left : (y : ℕ) → 1 ≤ y → y ≤ N → 1 ≤ count S y → length (queues y) + visits j m y ≡ count S y
     fresh : (y : ℕ) (r : Request) → Memᴰ r (queues y) → r.since ≡ 0
 
@@ -246,9 +258,19 @@ module _ (S : Segment) (k : ℕ) (1≤k : 1 ≤ k) (k≤n : k ≤ S.masters) (de
 
   reached : (j : ℕ) → suc j ≡ count S k → Turned (suc j) (j * turn S + turn S) → Reached (bp (bound S k)) S k
   unfolding bound bound_by turn
-  reached j e r =
-      reached_by r.stage.run (asked_spaced S) r.slow r.own
-      (rw (ap (request r.slow.of) r.since) (asked_each S.number r.slow.of r.own.from_one r.own.to_last)) (rw time (Memᴰ.head refl))
+  reached j e r = record {
+    now = j * turn S + turn S;
+    token = toward (after k) 40;
+    queues = r.stage.queues;
+    came = asked_to S.number;
+    went = answer r.slow (j * turn S + turn S) ∷ r.went;
+    run = r.stage.run;
+    spaced = asked_spaced S;
+    slow = r.slow;
+    arrived = rw (ap (request r.slow.of) r.since) (asked_each S.number r.slow.of r.own.from_one r.own.to_last);
+    own = r.own;
+    exact = rw time (Memᴰ.head refl);
+  }
     where
       time : r.slow.since + bound S k ≡ j * turn S + turn S
       time = omega (arith, r.since, ap (λ (x : ℕ). x * turn_by (charged S) S) e)

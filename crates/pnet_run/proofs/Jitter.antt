@@ -17,11 +17,9 @@ use Rattle.pnet_rules.specs.Segment.{Segment, stream_of, segment_of, bound, late
 use Rattle.pnet_rules.specs.Refined.{refined}
 use Rattle.pnet_rules.specs.Limits.{Ranged, Declared}
 use Rattle.pnet_rules.proofs.Declares.{stream_ranged}
-use Rattle.pnet_run.specs.Run.{Belongs, Request, request, Answer, answer, Queues, put, Token, toward, on_way, next, first_come, Moment, Run}
-use Rattle.pnet_run.proofs.Walks.{Walk, start, arrive, travel}
+use Rattle.pnet_run.specs.Run.{Belongs, Request, request, Answer, answer, Queues, put, Token, toward, on_way, next, Run, start, arrive, travel}
 use Rattle.pnet_run.specs.Promise.{Kept, quiet, other, asks, Spaced, Answered, Reached, Accepted}
 use Rattle.pnet_run.proofs.Few.{each, alone, limits, declared_if_few}
-use Rattle.pnet_run.proofs.Literal.{walk_is_run, reached_by}
 use Rattle.pnet_run.proofs.Slowest.{slowest}
 use Rattle.pnet_run.proofs.Demand.{accepted_if_none_is_late, each_request_is_answered_within_the_bound}
 
@@ -92,15 +90,15 @@ abbrev pub late_went : List Answer
 late_went = answer (request 2 0) 596 ∷ answer (request 3 298) 548 ∷ answer (request 1 0) 298 ∷ answer (request 3 0) 250 ∷ []
 
 -- the token is 40 bp away from master 2 at 0; every reaction is 7 bp, every message as long as declared
-late_run : (q : Queues) × Walk late_pair 596 (toward 2 40) q late_came late_went
+late_run : (q : Queues) × Run late_pair 596 (toward 2 40) q late_came late_went
 unfolding segment_of put next
 late_run =
-    let from : Walk late_pair 0 (toward 2 40) (λ y. []) [] [] = start {m = 2} {d = 40} (omega arith) (omega arith) (omega arith) in
-    let asking : Walk late_pair 0 (toward 2 40) _ _ [] = arrive (arrive (arrive from on_way stream_3) on_way stream_1) on_way stream_2 in
-    let at-250 : Walk late_pair 250 (toward 1 40) _ _ _ = slowest (travel {d = 0} 40 asking) refl (omega arith) in
-    let at-298 : Walk late_pair 298 (toward 2 40) _ _ _ = slowest (travel {d = 0} 40 at-250) refl (omega arith) in
-    let again : Walk late_pair 298 (toward 2 40) _ late_came _ = arrive at-298 on_way stream_3 in
-    let at-548 : Walk late_pair 548 (toward 1 40) _ late_came _ = slowest (travel {d = 0} 40 again) refl (omega arith) in
+    let from : Run late_pair 0 (toward 2 40) (λ y. []) [] [] = start {m = 2} {d = 40} (omega arith) (omega arith) (omega arith) in
+    let asking : Run late_pair 0 (toward 2 40) _ _ [] = arrive (arrive (arrive from on_way stream_3) on_way stream_1) on_way stream_2 in
+    let at-250 : Run late_pair 250 (toward 1 40) _ _ _ = slowest (travel {d = 0} 40 asking) refl (omega arith) in
+    let at-298 : Run late_pair 298 (toward 2 40) _ _ _ = slowest (travel {d = 0} 40 at-250) refl (omega arith) in
+    let again : Run late_pair 298 (toward 2 40) _ late_came _ = arrive at-298 on_way stream_3 in
+    let at-548 : Run late_pair 548 (toward 1 40) _ late_came _ = slowest (travel {d = 0} 40 again) refl (omega arith) in
     (_, slowest (travel {d = 0} 40 at-548) refl (omega arith))
 
 -- master 1's streams ask once each
@@ -135,15 +133,28 @@ every_master_keeps_its_spacing y i b =
 
 -- W is taken, so it is no larger than it must be
 pub some_run_takes_W : Reached (bp (refined late_pair 1)) late_pair 1
-some_run_takes_W =
-    reached_by late_run.1 every_master_keeps_its_spacing (request 2 0) stream_2 (Memᴰ.tail (Memᴰ.head refl)) (rw with_J_it_is_596 (Memᴰ.head refl))
+some_run_takes_W = record {
+  now = 596;
+  token = toward 2 40;
+  queues = late_run.0;
+  came = late_came;
+  went = late_went;
+  run = late_run.1;
+  spaced = every_master_keeps_its_spacing;
+  slow = request 2 0;
+  arrived = Memᴰ.tail (Memᴰ.head refl);
+  own = stream_2;
+  exact = rw with_J_it_is_596 (Memᴰ.head refl);
+}
 
 -- and the figure of the same sheet without J is not safe, though every master keeps its spacing
 pub not_with_the_count_without_J :
-    ((x : Moment first_come) → Run late_pair x → ((k : ℕ) → Spaced late_pair k x.came) → Answered (bp (refined (pair 0) 1)) late_pair 1 x) → ⊥
+    ((t : ℕ) (y : Token) (q : Queues) (came : List Request) (went : List Answer) → Run late_pair t y q came went → ((k : ℕ) → Spaced late_pair k came)
+    → Answered (bp (refined (pair 0) 1)) late_pair 1 t y came went)
+    → ⊥
 not_with_the_count_without_J safe =
-    let answered = safe _ (walk_is_run first_come late_pair late_run.1) every_master_keeps_its_spacing in
-    let l : 596 ≤ refined (pair 0) 1 = answered.in_time (answer (request 2 0) 596) (Memᴰ.head refl) stream_2 in
+    let answered = safe 596 (toward 2 40) late_run.0 late_came late_went late_run.1 every_master_keeps_its_spacing in
+    let l : 596 ≤ 0 + refined (pair 0) 1 = answered.in_time (answer (request 2 0) 596) (Memᴰ.head refl) stream_2 in
     omega (arith, without_J_it_is_356)
 
 -- ---- Two requests behind one nominal time
@@ -185,13 +196,13 @@ crowded_came = request 1 1 ∷ request 1 0 ∷ []
 abbrev pub crowded_went : List Answer
 crowded_went = answer (request 1 1) 96 ∷ answer (request 1 0) 48 ∷ []
 
-crowded_run : (q : Queues) × Walk crowded 96 (toward 1 40) q crowded_came crowded_went
+crowded_run : (q : Queues) × Run crowded 96 (toward 1 40) q crowded_came crowded_went
 unfolding segment_of put next
 crowded_run =
-    let from : Walk crowded 0 (toward 1 40) (λ y. []) [] [] = start {m = 1} {d = 40} (omega arith) (omega arith) (omega arith) in
-    let first : Walk crowded 0 (toward 1 40) _ _ [] = arrive from on_way only in
-    let second : Walk crowded 1 (toward 1 39) _ crowded_came [] = arrive (travel {d = 39} 1 first) on_way only in
-    let at-48 : Walk crowded 48 (toward 1 40) _ crowded_came _ = slowest (travel {d = 0} 39 second) refl (omega arith) in
+    let from : Run crowded 0 (toward 1 40) (λ y. []) [] [] = start {m = 1} {d = 40} (omega arith) (omega arith) (omega arith) in
+    let first : Run crowded 0 (toward 1 40) _ _ [] = arrive from on_way only in
+    let second : Run crowded 1 (toward 1 39) _ crowded_came [] = arrive (travel {d = 39} 1 first) on_way only in
+    let at-48 : Run crowded 48 (toward 1 40) _ crowded_came _ = slowest (travel {d = 0} 39 second) refl (omega arith) in
     (_, slowest (travel {d = 0} 40 at-48) refl (omega arith))
 
 -- all requests are 0 to J behind the nominal time J before u
@@ -208,16 +219,19 @@ both_behind_0 r j =
 
 -- so the bound is not safe where requests may share a nominal time: the second takes 95 bp
 pub not_with_a_shared_nominal_time :
-    ((x : Moment first_come) → Run crowded x → (u : ℕ) × Behind (crowded.stream 1).jitter u x.came → Answered (bp (bound crowded 1)) crowded 1 x) → ⊥
+    ((t : ℕ) (y : Token) (q : Queues) (came : List Request) (went : List Answer) → Run crowded t y q came went
+    → (u : ℕ) × Behind (crowded.stream 1).jitter u came
+    → Answered (bp (bound crowded 1)) crowded 1 t y came went)
+    → ⊥
 unfolding segment_of
 not_with_a_shared_nominal_time safe =
-    let answered = safe _ (walk_is_run first_come crowded crowded_run.1) (10, both_behind_0) in
-    let l : 95 ≤ bound crowded 1 = answered.in_time (answer (request 1 1) 96) (Memᴰ.head refl) only in
+    let answered = safe 96 (toward 1 40) crowded_run.0 crowded_came crowded_went crowded_run.1 (10, both_behind_0) in
+    let l : 96 ≤ 1 + bound crowded 1 = answered.in_time (answer (request 1 1) 96) (Memᴰ.head refl) only in
     omega (arith, bound_is_48)
 
 -- nor does such a master keep its spacing, since the bound would hold
 pub crowding_keeps_no_spacing : Spaced crowded 1 crowded_came → ⊥
 crowding_keeps_no_spacing spaced =
-    let answered = each_request_is_answered_within_the_bound crowded_sheet crowded_is_accepted 1 (walk_is_run first_come crowded crowded_run.1) spaced in
-    let l : 95 ≤ bound crowded 1 = answered.in_time (answer (request 1 1) 96) (Memᴰ.head refl) only in
+    let answered = each_request_is_answered_within_the_bound crowded_sheet crowded_is_accepted 1 crowded_run.1 spaced in
+    let l : 96 ≤ 1 + bound crowded 1 = answered.in_time (answer (request 1 1) 96) (Memᴰ.head refl) only in
     omega (arith, bound_is_48)

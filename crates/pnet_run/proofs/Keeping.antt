@@ -9,8 +9,25 @@ use native.Mathlib.Decide.{ℕ_discrete}
 use native.Mathlib.Omega.{arith}
 use borrow.Author.Tests.{eq-eqb, ne_eqb}
 use Rattle.pnet_rules.specs.Segment.{Segment}
-use Rattle.pnet_run.specs.Run.{Belongs, Request, request, Answer, answer, put, Token, Discipline}
-use Rattle.pnet_run.proofs.Walks.{WalkBy, start, complete, arrive, move, travel, work, serve, skip}
+use Rattle.pnet_run.specs.Run.{
+  Belongs,
+  Request,
+  request,
+  Answer,
+  answer,
+  put,
+  Token,
+  Discipline,
+  RunBy,
+  start,
+  complete,
+  arrive,
+  move,
+  travel,
+  work,
+  serve,
+  skip,
+}
 
 -- ---- What a master keeps after a step
 
@@ -42,7 +59,7 @@ pub record Keeps (D : Discipline) : Type 1 where
 
 -- ---- Nothing comes from later than now
 
-pub came_past : {D : Discipline} {S : Segment} {t : ℕ} {y : Token} {q : ℕ → D.State} {came : List Request} {went : List Answer} → WalkBy D S t y q came went
+pub came_past : {D : Discipline} {S : Segment} {t : ℕ} {y : Token} {q : ℕ → D.State} {came : List Request} {went : List Answer} → RunBy D S t y q came went
     → (r : Request) → Memᴰ r came → r.since ≤ t
 came_past (start a b c) r j = absurd (Memᴰ.not-nil j)
 came_past (complete z p) r j = came_past z r j
@@ -83,7 +100,7 @@ module _ {D : Discipline} (K : Keeps D) where
 
   -- ---- Whose requests a master keeps
 
-  pub owned_by : {S : Segment} {t : ℕ} {y : Token} {q : ℕ → D.State} {came : List Request} {went : List Answer} → WalkBy D S t y q came went
+  pub owned_by : {S : Segment} {t : ℕ} {y : Token} {q : ℕ → D.State} {came : List Request} {went : List Answer} → RunBy D S t y q came went
       → (m : ℕ) (r : Request) → K.In (q m) r → Belongs S m r.of
   owned_by (start a b c) m r j = absurd (K.none r j)
   owned_by (complete {m = o} {q = q} {r = s} {rest = rest} z p) m r j = owned_by z m r (rest_kept q o m rest s r p j)
@@ -96,7 +113,7 @@ module _ {D : Discipline} (K : Keeps D) where
   owned_by (serve e x c z p a b d f g o) m r j = owned_by z m r j
   owned_by (skip e z p a b) m r j = owned_by z m r j
 
-  pub kept_came : {S : Segment} {t : ℕ} {y : Token} {q : ℕ → D.State} {came : List Request} {went : List Answer} → WalkBy D S t y q came went
+  pub kept_came : {S : Segment} {t : ℕ} {y : Token} {q : ℕ → D.State} {came : List Request} {went : List Answer} → RunBy D S t y q came went
       → (m : ℕ) (r : Request) → K.In (q m) r → Memᴰ r came
   kept_came (start a b c) m r j = absurd (K.none r j)
   kept_came (complete {m = o} {q = q} {r = s} {rest = rest} z p) m r j = kept_came z m r (rest_kept q o m rest s r p j)
@@ -112,7 +129,7 @@ module _ {D : Discipline} (K : Keeps D) where
 
   -- ---- What was answered
 
-  pub answered_own : {S : Segment} {t : ℕ} {y : Token} {q : ℕ → D.State} {came : List Request} {went : List Answer} → WalkBy D S t y q came went
+  pub answered_own : {S : Segment} {t : ℕ} {y : Token} {q : ℕ → D.State} {came : List Request} {went : List Answer} → RunBy D S t y q came went
       → (a : Answer) → Memᴰ a went → (m : ℕ) × Belongs S m a.to.of
   answered_own (start a b c) w j = absurd (Memᴰ.not-nil j)
   answered_own (complete {t = t} {m = m} {q = q} {r = r} {rest = rest} {went = went} z p) w j =
@@ -126,7 +143,7 @@ module _ {D : Discipline} (K : Keeps D) where
 
   -- ---- Nothing is lost
 
-  pub kept_or_answered : {S : Segment} {t : ℕ} {y : Token} {q : ℕ → D.State} {came : List Request} {went : List Answer} → WalkBy D S t y q came went
+  pub kept_or_answered : {S : Segment} {t : ℕ} {y : Token} {q : ℕ → D.State} {came : List Request} {went : List Answer} → RunBy D S t y q came went
       → (m : ℕ) (r : Request) → Memᴰ r came → Belongs S m r.of → K.In (q m) r ⊎ ((u : ℕ) × Memᴰ (answer r u) went)
   kept_or_answered (start a b c) m r j w = absurd (Memᴰ.not-nil j)
   kept_or_answered (complete {t = t} {m = o} {q = q} {r = s} {rest = rest} {went = went} z p) m r j w =

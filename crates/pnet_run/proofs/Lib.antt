@@ -1,5 +1,3 @@
-pub mod Walks
-pub mod Literal
 pub mod Keeping
 pub mod Queues
 pub mod Answering
@@ -16,8 +14,8 @@ pub mod Picked
 pub mod Slowest
 pub mod Exact
 pub mod Progress
-pub mod Reactions
 pub mod Refined
+pub mod Literal
 pub mod Demand
 pub mod Few
 pub mod TwoMasters

@@ -10,8 +10,7 @@ use mathlib.Core.List.{
   Memᴰ,
 }
 use Rattle.pnet_rules.specs.Segment.{Segment}
-use Rattle.pnet_run.specs.Run.{Belongs, Request, Answer, Queues, put, Token, first_come}
-use Rattle.pnet_run.proofs.Walks.{join, Walk}
+use Rattle.pnet_run.specs.Run.{Belongs, Request, Answer, Queues, put, join, Token, first_come, Run}
 use Rattle.pnet_run.proofs.Keeping.{Keeps, came_past, joined_cases, rest_kept, owned_by, kept_came, answered_own}
 
 -- behind the last of l waits r, and what waited before
@@ -44,7 +43,7 @@ join_cases q m y r {s} j = joined_cases first_come_keeps q m y r s j
 
 -- ---- Whose requests a queue holds, and whose were answered
 
-module _ {S : Segment} {t : ℕ} {y : Token} {q : Queues} {came : List Request} {went : List Answer} (z : Walk S t y q came went) where
+module _ {S : Segment} {t : ℕ} {y : Token} {q : Queues} {came : List Request} {went : List Answer} (z : Run S t y q came went) where
   pub owned : (m : ℕ) (r : Request) → Memᴰ r (q m) → Belongs S m r.of
   owned = owned_by first_come_keeps z
 

@@ -28,8 +28,29 @@ use Rattle.units.specs.Units.{bp}
 use Rattle.pnet_rules.specs.Segment.{Segment, count, turn_by, bound_by}
 use Rattle.pnet_rules.specs.Refined.{right_by, asked_by}
 use Rattle.pnet_rules.specs.Limits.{Ranged, Declared}
-use Rattle.pnet_run.specs.Run.{Belongs, Request, request, Answer, answer, Queues, put, Token, toward, serving, on_way, next, first_come}
-use Rattle.pnet_run.proofs.Walks.{join, Walk, stage, start, complete, arrive, travel, work, serve, skip}
+use Rattle.pnet_run.specs.Run.{
+  Belongs,
+  Request,
+  request,
+  Answer,
+  answer,
+  Queues,
+  put,
+  join,
+  Token,
+  toward,
+  serving,
+  on_way,
+  next,
+  Run,
+  start,
+  complete,
+  arrive,
+  travel,
+  work,
+  serve,
+  skip,
+}
 use Rattle.pnet_run.specs.Promise.{Spaced, Apart, Answered}
 use Rattle.pnet_run.proofs.Charges.{Covers, free, in_ring}
 use Rattle.pnet_run.proofs.Counts.{came_since, answered_since, spent, under_way}
@@ -41,7 +62,7 @@ use Rattle.pnet_run.proofs.Bound.{waits_in_time, answered_by, credit_by}
 use Rattle.pnet_run.proofs.Window.{window_with_jitter}
 use Rattle.pnet_run.proofs.Answers.{all_came, spent_counted}
 use Rattle.pnet_run.proofs.Shares.{requests, requests_cover, share, extra, share_own, shares_cover, shares_are_the_right_side}
-use Rattle.pnet_run.proofs.Reactions.{serves}
+use Rattle.pnet_run.proofs.Progress.{serves}
 
 module _ (S : Segment) (declared : Declared S) (h : ℕ → ℕ) (cover : Covers h free S)
     (fits : (m i : ℕ) → Belongs S m i → bound_by h S m ≤ (S.stream i).spacing - (S.stream i).jitter) where
@@ -53,7 +74,7 @@ module _ (S : Segment) (declared : Declared S) (h : ℕ → ℕ) (cover : Covers
   abbrev least : ℕ → ℕ
   least i = (S.stream i).spacing - (S.stream i).jitter
 
-  apart : {t : ℕ} {y : Token} {q : Queues} {came : List Request} {went : List Answer} → Walk S t y q came went → AllSpaced came
+  apart : {t : ℕ} {y : Token} {q : Queues} {came : List Request} {went : List Answer} → Run S t y q came went → AllSpaced came
       → (m i : ℕ) → Belongs S m i → Apart (least i) i came
   apart z s m = spaced_apart declared z (s m)
 
@@ -64,7 +85,7 @@ module _ (S : Segment) (declared : Declared S) (h : ℕ → ℕ) (cover : Covers
   -- ---- How many requests of a stream are answered in the window
 
   -- each of them came R(y) before the window at the earliest
-  came_late : {t : ℕ} {y : Token} {q : Queues} {came : List Request} {went : List Answer} → Walk S t y q came went → AllSpaced came → (m i a : ℕ)
+  came_late : {t : ℕ} {y : Token} {q : Queues} {came : List Request} {went : List Answer} → Run S t y q came went → AllSpaced came → (m i a : ℕ)
       → Belongs S m i → (w : Answer) → Memᴰ w went → w.to.of ≡ i → a ≤ w.at → a - bound_by h S m ≤ w.to.since
   came_late z s m i a b w j e l =
       let ring = in_ring declared b in
@@ -72,7 +93,7 @@ module _ (S : Segment) (declared : Declared S) (h : ℕ → ℕ) (cover : Covers
 
   module _ (W : ℕ) where
     -- and so did those that wait: all of them fit the window
-    in_window : {t : ℕ} {y : Token} {q : Queues} {came : List Request} {went : List Answer} → Walk S t y q came went → AllSpaced came → (a : ℕ)
+    in_window : {t : ℕ} {y : Token} {q : Queues} {came : List Request} {went : List Answer} → Run S t y q came went → AllSpaced came → (a : ℕ)
         → t < a + W → (m i : ℕ) → Belongs S m i → answered_since i a went + came_since i (a - bound_by h S m) (q m) ≤ requests h S W i
     in_window {came = came} z s a l m i b =
         omega (
@@ -107,12 +128,12 @@ module _ (S : Segment) (declared : Declared S) (h : ℕ → ℕ) (cover : Covers
           )
 
       -- with the token on its way
-      spent_enough : {t : ℕ} {y : Token} {q : Queues} {came : List Request} {went : List Answer} → Walk S t y q came went → AllSpaced came
+      spent_enough : {t : ℕ} {y : Token} {q : Queues} {came : List Request} {went : List Answer} → Run S t y q came went → AllSpaced came
           → (a : ℕ) → t < a + W → spent more S a went ≤ most
       spent_enough {went = went} z s a l = spent_most a went (went_own z) (λ m i b. omega (arith, in_window z s a l m i b))
 
       -- with the one that master m serves, as if it were answered now
-      served_enough : {t m : ℕ} {y : Token} {q : Queues} {r : Request} {rest came : List Request} {went : List Answer} → Walk S t y q came went
+      served_enough : {t m : ℕ} {y : Token} {q : Queues} {r : Request} {rest came : List Request} {went : List Answer} → Run S t y q came went
           → AllSpaced came → q m ≡ r ∷ rest → (a : ℕ) → a ≤ t → t < a + W → more m + spent more S a went ≤ most
       unfolding spent answered_since came_since
       served_enough {t} {m} {q = q} {r = r} {rest = rest} {went = went} z s p a b l =
@@ -162,7 +183,7 @@ module _ (S : Segment) (declared : Declared S) (h : ℕ → ℕ) (cover : Covers
         abbrev Calm : Token → Queues → List Answer → Type 0
         Calm y q went = (r : Request) → Memᴰ r (q k) → under_way more y + spent more S r.since went ≤ most
 
-        waits : {t : ℕ} {y : Token} {q : Queues} {came : List Request} {went : List Answer} → Walk S t y q came went → AllSpaced came → Calm y q went
+        waits : {t : ℕ} {y : Token} {q : Queues} {came : List Request} {went : List Answer} → Run S t y q came went → AllSpaced came → Calm y q went
             → (r : Request) → Memᴰ r (q k) → NotLate W r.since t y
         waits z s c r j =
             let b = credit_by S h k 1≤k k≤n cover least (fits k) (share h S W k) more (shares_cover h S W k cover) (omega (arith, share_own h S W k)) z (apart z s k) r j in
@@ -171,11 +192,11 @@ module _ (S : Segment) (declared : Declared S) (h : ℕ → ℕ) (cover : Covers
 
         -- ---- Each step keeps that
 
-        calm_serve : {t m : ℕ} {q : Queues} {r : Request} {rest came : List Request} {went : List Answer} (left : ℕ) → Walk S t (toward m 0) q came went
+        calm_serve : {t m : ℕ} {q : Queues} {r : Request} {rest came : List Request} {went : List Answer} (left : ℕ) → Run S t (toward m 0) q came went
             → AllSpaced came → q m ≡ r ∷ rest → Calm (toward m 0) q went → Calm (serving m left) q went
         calm_serve left z s p c u j = served_enough z s p u.since (queue_past z k u j) ((waits z s c u j).before on_way)
 
-        calm_complete : {t m : ℕ} {q : Queues} {r : Request} {rest came : List Request} {went : List Answer} → Walk S t (serving m 0) q came went
+        calm_complete : {t m : ℕ} {q : Queues} {r : Request} {rest came : List Request} {went : List Answer} → Run S t (serving m 0) q came went
             → q m ≡ r ∷ rest → Calm (serving m 0) q went → Calm (toward (next S.masters m) 40) (put q m rest) (answer r t ∷ went)
         unfolding spent
         calm_complete {t} {m} {q} {r} z p c u j =
@@ -183,12 +204,12 @@ module _ (S : Segment) (declared : Declared S) (h : ℕ → ℕ) (cover : Covers
             rw (le-leb u.since t (queue_past z k u i), (owned z m r (rw p (Memᴰ.head refl))).own) (omega (arith, c u i))
 
         -- at its arrival nothing that ended before counts for it
-        calm_new : {t : ℕ} (y : Token) {q : Queues} {came : List Request} {went : List Answer} → Walk S t y q came went → AllSpaced came
+        calm_new : {t : ℕ} (y : Token) {q : Queues} {came : List Request} {went : List Answer} → Run S t y q came went → AllSpaced came
             → under_way more y + spent more S t went ≤ most
         calm_new {t} (toward m d) z s = omega (arith, spent_enough z s t (omega (arith, not_zero)))
         calm_new {t} (serving m c) z s = served_enough z s (serves z).is t (le_refl t) (omega (arith, not_zero))
 
-        calm_arrive : {t : ℕ} {y : Token} {q : Queues} {came : List Request} {went : List Answer} (m i : ℕ) → Walk S t y q came went → AllSpaced came
+        calm_arrive : {t : ℕ} {y : Token} {q : Queues} {came : List Request} {went : List Answer} (m i : ℕ) → Run S t y q came went → AllSpaced came
             → Calm y q went → Calm y (join q m (request i t)) went
         calm_arrive {t} {y} {q} m i z s c u j =
             ⊎_elim (λ (e : (k ≡ m) × (u ≡ request i t)). rw e.1 (calm_new y z s)) (λ (e : Memᴰ u (q k)). c u e) (join_cases q m k (request i t) j)
@@ -196,7 +217,7 @@ module _ (S : Segment) (declared : Declared S) (h : ℕ → ℕ) (cover : Covers
         earlier : (r : Request) (came : List Request) → AllSpaced (r ∷ came) → AllSpaced came
         earlier r came s m = spaced_before (s m)
 
-        calm : {t : ℕ} {y : Token} {q : Queues} {came : List Request} {went : List Answer} → Walk S t y q came went → AllSpaced came → Calm y q went
+        calm : {t : ℕ} {y : Token} {q : Queues} {came : List Request} {went : List Answer} → Run S t y q came went → AllSpaced came → Calm y q went
         calm (start a b c) s = λ r j. absurd (Memᴰ.not-nil j)
         calm (complete z p) s = calm_complete z p (calm z s)
         calm (arrive {t = t} {m = m} {i = i} {came = came} z o d) s = let e = earlier (request i t) came s in calm_arrive m i z e (calm z e)
@@ -206,5 +227,5 @@ module _ (S : Segment) (declared : Declared S) (h : ℕ → ℕ) (cover : Covers
         calm (skip e z p a b) s = calm z s
 
         pub answered_within : {t : ℕ} {y : Token} {q : Queues} {came : List Request} {went : List Answer}
-            → Walk S t y q came went → AllSpaced came → Answered (bp W) S k (stage first_come t y q came went)
+            → Run S t y q came went → AllSpaced came → Answered (bp W) S k t y came went
         answered_within = answered_in_time S k W AllSpaced earlier (λ t y q came went z s. waits z s (calm z s))

@@ -18,8 +18,7 @@ use native.Mathlib.Decide.{ℕ_discrete}
 use native.Mathlib.Omega.{arith}
 use borrow.Author.Tests.{eq-eqb, ne_eqb}
 use Rattle.pnet_rules.specs.Segment.{Segment, owns}
-use Rattle.pnet_run.specs.Run.{Request, request, Answer, answer, Queues, put, Token, toward, Settled, on_way, next, Discipline}
-use Rattle.pnet_run.proofs.Walks.{join, WalkBy, Walk, start, complete, arrive, serve}
+use Rattle.pnet_run.specs.Run.{Request, request, Answer, answer, Queues, put, join, Token, toward, Settled, on_way, next, Discipline, RunBy, Run, start, complete, arrive, serve}
 use Rattle.pnet_run.specs.Promise.{Apart, none, and, Spaced}
 use Rattle.pnet_run.proofs.Keeping.{put_same, put_other}
 use Rattle.pnet_run.proofs.Picked.{picked}
@@ -50,19 +49,19 @@ queues_to_more S n = fun_ext λ y. at y (ℕ_discrete y m)
     at y (yes e) = rw (e, put_same (queues_to S n) m (queues_to S n m ++ (asked (suc n) ∷ [])), eq-eqb m m refl) (sym (map-append asked (picked (owns S m) n) (suc n ∷ [])))
     at y (no z) = rw (put_other (queues_to S n) m (queues_to S n m ++ (asked (suc n) ∷ [])) y z, ne_eqb m y (λ e. z (sym e)))
 
-asked_more : {S : Segment} {n : ℕ} {y : Token} → Settled y → suc n ≤ S.number → Walk S 0 y (queues_to S n) (asked_to n) []
-    → Walk S 0 y (queues_to S (suc n)) (asked_to (suc n)) []
+asked_more : {S : Segment} {n : ℕ} {y : Token} → Settled y → suc n ≤ S.number → Run S 0 y (queues_to S n) (asked_to n) []
+    → Run S 0 y (queues_to S (suc n)) (asked_to (suc n)) []
 unfolding asked_to
 asked_more {S} {n} {y} s l z =
-    subst (λ (q : Queues). Walk S 0 y q (asked (suc n) ∷ asked_to n) []) (queues_to_more S n) (arrive z s (record { from_one = omega arith; to_last = l; own = omega arith }))
+    subst (λ (q : Queues). Run S 0 y q (asked (suc n) ∷ asked_to n) []) (queues_to_more S n) (arrive z s (record { from_one = omega arith; to_last = l; own = omega arith }))
 
-asked_upto : (S : Segment) {m d : ℕ} → 1 ≤ m → m ≤ S.masters → d ≤ 40 → (n : ℕ) → n ≤ S.number → Walk S 0 (toward m d) (queues_to S n) (asked_to n) []
+asked_upto : (S : Segment) {m d : ℕ} → 1 ≤ m → m ≤ S.masters → d ≤ 40 → (n : ℕ) → n ≤ S.number → Run S 0 (toward m d) (queues_to S n) (asked_to n) []
 unfolding picked asked_to
 asked_upto S {d = d} a b c zero l = start {d = d} a b (omega arith)
 asked_upto S {d = d} a b c (suc n) l = asked_more on_way l (asked_upto S a b c n (omega arith))
 
 -- the token being anywhere a run can start
-pub all_asked : (S : Segment) {m d : ℕ} → 1 ≤ m → m ≤ S.masters → d ≤ 40 → Walk S 0 (toward m d) (queues_to S S.number) (asked_to S.number) []
+pub all_asked : (S : Segment) {m d : ℕ} → 1 ≤ m → m ≤ S.masters → d ≤ 40 → Run S 0 (toward m d) (queues_to S S.number) (asked_to S.number) []
 all_asked S a b c = asked_upto S a b c S.number (le_refl S.number)
 
 -- ---- Each is there, and its spacing is kept
@@ -98,8 +97,8 @@ asked_spaced S k = apart_spaced {S = S} (λ i d. asked_apart (S.stream i).spacin
 
 -- by any discipline
 pub slowest : {D : Discipline} {S : Segment} {t m : ℕ} {q : ℕ → D.State} {r : Request} {rest : D.State} {came : List Request} {went : List Answer}
-    → WalkBy D S t (toward m 0) q came went → D.Serves (q m) r rest → 1 ≤ (S.stream r.of).cycle
-    → WalkBy D S (t + (7 + (S.stream r.of).cycle)) (toward (next S.masters m) 40) (put q m rest) came (answer r (t + (7 + (S.stream r.of).cycle)) ∷ went)
+    → RunBy D S t (toward m 0) q came went → D.Serves (q m) r rest → 1 ≤ (S.stream r.of).cycle
+    → RunBy D S (t + (7 + (S.stream r.of).cycle)) (toward (next S.masters m) 40) (put q m rest) came (answer r (t + (7 + (S.stream r.of).cycle)) ∷ went)
 slowest {S} {r = r} z p some =
     let C = (S.stream r.of).cycle in
     complete (serve {c = 0} (7 + C) 7 C z p (omega arith) (omega arith) (omega arith) (omega arith) (omega arith) (omega arith)) p

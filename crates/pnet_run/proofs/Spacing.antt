@@ -16,10 +16,8 @@ use native.Mathlib.Decide.{ℕ_discrete}
 use native.Mathlib.Omega.{arith}
 use Rattle.pnet_rules.specs.Segment.{Segment}
 use Rattle.pnet_rules.specs.Limits.{Declared}
-use Rattle.pnet_run.specs.Run.{Belongs, Request, request, Answer, Queues, Token, Discipline, first_come, Moment, Run}
-use Rattle.pnet_run.proofs.Walks.{WalkBy, Walk, start, complete, arrive, move, travel, work, serve, skip}
+use Rattle.pnet_run.specs.Run.{Belongs, Request, request, Answer, Queues, Token, Discipline, RunBy, Run, start, complete, arrive, move, travel, work, serve, skip}
 use Rattle.pnet_run.specs.Promise.{Kept, quiet, other, asks, Spaced, Apart, none, and}
-use Rattle.pnet_run.proofs.Literal.{walked}
 use Rattle.pnet_run.proofs.Keeping.{came_past}
 
 -- ---- Each request and the instant J behind its nominal time
@@ -73,7 +71,7 @@ pub data InOrder : List Request → Type 0 where
   later : {r : Request} {came : List Request} → ((s : Request) → Memᴰ s came → s.since ≤ r.since) → InOrder came → InOrder (r ∷ came)
 
 pub came_in_order : {D : Discipline} {S : Segment} {t : ℕ} {y : Token} {q : ℕ → D.State} {came : List Request} {went : List Answer}
-    → WalkBy D S t y q came went → InOrder came
+    → RunBy D S t y q came went → InOrder came
 came_in_order (start a b c) = nothing
 came_in_order (complete z p) = came_in_order z
 came_in_order (arrive z o d) = later (came_past z) (came_in_order z)
@@ -103,7 +101,7 @@ kept_apart short (later o order) (asks {r = r} u own from to far kept) =
 
 -- so it is for each stream of a master that keeps its spacing
 pub spaced_apart : {S : Segment} {k t : ℕ} {y : Token} {q : Queues} {came : List Request} {went : List Answer}
-    → Declared S → Walk S t y q came went → Spaced S k came → (i : ℕ) → Belongs S k i → Apart ((S.stream i).spacing - (S.stream i).jitter) i came
+    → Declared S → Run S t y q came went → Spaced S k came → (i : ℕ) → Belongs S k i → Apart ((S.stream i).spacing - (S.stream i).jitter) i came
 spaced_apart declared run spaced i b =
     kept_apart (declared.ranges i b.from_one b.to_last).jitter_to (came_in_order run) (spaced i b).1
 
@@ -145,12 +143,11 @@ pub apart_spaced : {S : Segment} {k : ℕ} {came : List Request} → ((i : ℕ) 
 apart_spaced {S} apart i b = apart_kept (S.stream i).jitter (apart i b)
 
 -- in a run the one is the other
-pub without_jitter_it_is_apart : {S : Segment} {T i : ℕ} {x : Moment first_come} → Run S x → 1 ≤ T
-    → ((due : List ℕ) × Kept T 0 i x.came due → Apart T i x.came) × (Apart T i x.came → (due : List ℕ) × Kept T 0 i x.came due)
-without_jitter_it_is_apart {S} {T} {i} {x} run some = (
-  λ kept. subst (λ (d : ℕ). Apart d i x.came) (omega arith) (kept_apart (omega arith) (came_in_order (walked first_come S run).walk) kept.1),
-  apart_kept 0,
-)
+pub without_jitter_it_is_apart : {S : Segment} {T i t : ℕ} {y : Token} {q : Queues} {came : List Request} {went : List Answer}
+    → Run S t y q came went → 1 ≤ T
+    → ((due : List ℕ) × Kept T 0 i came due → Apart T i came) × (Apart T i came → (due : List ℕ) × Kept T 0 i came due)
+without_jitter_it_is_apart {T = T} {i = i} {came = came} run some =
+    (λ kept. subst (λ (d : ℕ). Apart d i came) (omega arith) (kept_apart (omega arith) (came_in_order run) kept.1), apart_kept 0)
 
 -- ---- A stream that asks every d bp
 

@@ -15,13 +15,11 @@ use Rattle.pnet_rules.specs.Segment.{Segment, stream_of, segment_of, owns, late}
 use Rattle.pnet_rules.specs.Refined.{refined}
 use Rattle.pnet_rules.specs.Limits.{Ranged, Declared}
 use Rattle.pnet_rules.proofs.Declares.{stream_ranged}
-use Rattle.pnet_run.specs.Run.{Belongs, Request, request, Answer, answer, Queues, put, Token, toward, on_way, next, first_come, Moment, Run}
-use Rattle.pnet_run.proofs.Walks.{Walk, start, arrive, travel, skip}
+use Rattle.pnet_run.specs.Run.{Belongs, Request, request, Answer, answer, Queues, put, Token, toward, on_way, next, Run, start, arrive, travel, skip}
 use Rattle.pnet_run.specs.Promise.{none, and, Spaced, Answered, Reached, Accepted}
 use Rattle.pnet_run.proofs.Few.{each, limits, declared_if_few}
 use Rattle.pnet_run.proofs.Picked.{picked}
 use Rattle.pnet_run.proofs.Spacing.{apart_spaced}
-use Rattle.pnet_run.proofs.Literal.{walk_is_run, reached_by}
 use Rattle.pnet_run.proofs.Slowest.{slowest, asked, queues_to, asked_to, all_asked, asked_each, asked_spaced}
 use Rattle.pnet_run.proofs.Demand.{accepted_if_none_is_late}
 
@@ -71,18 +69,30 @@ stream_3 = record { from_one = omega arith; to_last = omega arith; own = refl }
 
 -- the token is 40 bp away from master 2 when all ask; then every reaction is 7 bp and every message 203. Master 2 has nothing left
 -- to send when the token comes for the second time
-once : (q : Queues) × (went : List Answer) × Walk two 760 (toward 2 40) q (asked_to 3) (answer (asked 2) 760 ∷ went)
+once : (q : Queues) × (went : List Answer) × Run two 760 (toward 2 40) q (asked_to 3) (answer (asked 2) 760 ∷ went)
 unfolding segment_of put next picked owns asked_to
 once =
-    let asking : Walk two 0 (toward 2 40) (queues_to two 3) (asked_to 3) [] = all_asked two (omega arith) (omega arith) (omega arith) in
-    let at-250 : Walk two 250 (toward 1 40) _ (asked_to 3) _ = slowest (travel {d = 0} 40 asking) refl (omega arith) in
-    let at-500 : Walk two 500 (toward 2 40) _ (asked_to 3) _ = slowest (travel {d = 0} 40 at-250) refl (omega arith) in
-    let at-550 : Walk two 550 (toward 1 0) _ (asked_to 3) _ = skip {d = 0} 10 (travel {d = 0} 40 at-500) refl (omega arith) refl in
+    let asking : Run two 0 (toward 2 40) (queues_to two 3) (asked_to 3) [] = all_asked two (omega arith) (omega arith) (omega arith) in
+    let at-250 : Run two 250 (toward 1 40) _ (asked_to 3) _ = slowest (travel {d = 0} 40 asking) refl (omega arith) in
+    let at-500 : Run two 500 (toward 2 40) _ (asked_to 3) _ = slowest (travel {d = 0} 40 at-250) refl (omega arith) in
+    let at-550 : Run two 550 (toward 1 0) _ (asked_to 3) _ = skip {d = 0} 10 (travel {d = 0} 40 at-500) refl (omega arith) refl in
     (_, _, slowest at-550 refl (omega arith))
 
 pub some_run_takes_760 : Reached (bp 760) two 1
 unfolding segment_of
-some_run_takes_760 = reached_by once.2 (asked_spaced two) (asked 2) stream_2 (asked_each 3 2 (omega arith) (omega arith)) (Memᴰ.head refl)
+some_run_takes_760 = record {
+  now = 760;
+  token = toward 2 40;
+  queues = once.0;
+  came = asked_to 3;
+  went = answer (asked 2) 760 ∷ once.1;
+  run = once.2;
+  spaced = asked_spaced two;
+  slow = asked 2;
+  arrived = asked_each 3 2 (omega arith) (omega arith);
+  own = stream_2;
+  exact = Memᴰ.head refl;
+}
 
 -- ---- Master 2 asks twice at once
 
@@ -94,14 +104,14 @@ came = request 2 0 ∷ request 1 0 ∷ request 3 0 ∷ request 3 0 ∷ []
 abbrev pub went : List Answer
 went = answer (request 2 0) 1000 ∷ answer (request 3 0) 750 ∷ answer (request 1 0) 500 ∷ answer (request 3 0) 250 ∷ []
 
-pub twice : (q : Queues) × Walk two 1000 (toward 2 40) q came went
+pub twice : (q : Queues) × Run two 1000 (toward 2 40) q came went
 unfolding segment_of put next
 twice =
-    let from : Walk two 0 (toward 2 40) (λ y. []) [] [] = start {m = 2} {d = 40} (omega arith) (omega arith) (omega arith) in
-    let asking : Walk two 0 (toward 2 40) _ came [] = arrive (arrive (arrive (arrive from on_way stream_3) on_way stream_3) on_way stream_1) on_way stream_2 in
-    let at-250 : Walk two 250 (toward 1 40) _ came _ = slowest (travel {d = 0} 40 asking) refl (omega arith) in
-    let at-500 : Walk two 500 (toward 2 40) _ came _ = slowest (travel {d = 0} 40 at-250) refl (omega arith) in
-    let at-750 : Walk two 750 (toward 1 40) _ came _ = slowest (travel {d = 0} 40 at-500) refl (omega arith) in
+    let from : Run two 0 (toward 2 40) (λ y. []) [] [] = start {m = 2} {d = 40} (omega arith) (omega arith) (omega arith) in
+    let asking : Run two 0 (toward 2 40) _ came [] = arrive (arrive (arrive (arrive from on_way stream_3) on_way stream_3) on_way stream_1) on_way stream_2 in
+    let at-250 : Run two 250 (toward 1 40) _ came _ = slowest (travel {d = 0} 40 asking) refl (omega arith) in
+    let at-500 : Run two 500 (toward 2 40) _ came _ = slowest (travel {d = 0} 40 at-250) refl (omega arith) in
+    let at-750 : Run two 750 (toward 1 40) _ came _ = slowest (travel {d = 0} 40 at-500) refl (omega arith) in
     (_, slowest (travel {d = 0} 40 at-750) refl (omega arith))
 
 -- ---- Master 1 keeps its spacing
@@ -130,8 +140,10 @@ master_1_keeps_its_spacing =
 -- ---- The refined figure is not safe where master 1 alone keeps its spacing
 
 pub not_without_the_others :
-    ((x : Moment first_come) → Run two x → Spaced two 1 x.came → Answered (bp (refined two 1)) two 1 x) → ⊥
+    ((t : ℕ) (y : Token) (q : Queues) (came : List Request) (went : List Answer) → Run two t y q came went → Spaced two 1 came
+    → Answered (bp (refined two 1)) two 1 t y came went)
+    → ⊥
 not_without_the_others safe =
-    let answered = safe _ (walk_is_run first_come two twice.1) master_1_keeps_its_spacing in
-    let l : 1000 ≤ refined two 1 = answered.in_time (answer (request 2 0) 1000) (Memᴰ.head refl) stream_2 in
+    let answered = safe 1000 (toward 2 40) twice.0 came went twice.1 master_1_keeps_its_spacing in
+    let l : 1000 ≤ 0 + refined two 1 = answered.in_time (answer (request 2 0) 1000) (Memᴰ.head refl) stream_2 in
     omega (arith, refined_is_760)

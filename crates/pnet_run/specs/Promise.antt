@@ -5,7 +5,7 @@ use mathlib.Core.List.{List, [], ◌∷◌, Memᴰ}
 use Rattle.units.specs.declared.BitPeriods.{BitPeriods}
 use Rattle.pnet_rules.specs.Segment.{Segment, count, bound}
 use Rattle.pnet_rules.specs.Limits.{Declared}
-use Rattle.pnet_run.specs.Run.{Belongs, Request, request, Answer, answer, response, Settled, Discipline, first_come, Moment, Onward, Run}
+use Rattle.pnet_run.specs.Run.{Belongs, Request, request, Answer, answer, Queues, Token, Settled, Run}
 
 -- ---- Spacing
 
@@ -31,48 +31,36 @@ pub data Apart (d i : ℕ) : List Request → Type 0 where
 
 -- ---- Answered within a figure
 
--- a run that has come to the moment x lasts up to the instant u: it is past u, or at u with no completion due any more
-pub data Lasts {D : Discipline} (x : Moment D) (u : ℕ) : Type 0 where
-  past : u < x.now → Lasts x u
-  at_it : u ≡ x.now → Settled x.token → Lasts x u
+-- a run that has come to t lasts up to the instant u: it is past u, or at u with no completion due any more
+pub data Lasts (t : ℕ) (y : Token) (u : ℕ) : Type 0 where
+  past : u < t → Lasts t y u
+  at_it : u ≡ t → Settled y → Lasts t y u
 
 -- every request of master k is answered within R, a count of bp: 'completed by arrival plus bound, if the run lasts that long'. An instant
 -- of a run is a plain number, so many bp from its start
-pub record Answered {D : Discipline} (R : BitPeriods) (S : Segment) (k : ℕ) (x : Moment D) : Type 0 where
-  pub in_time : (a : Answer) → Memᴰ a x.went → Belongs S k a.to.of → (response a).0 ≤ R.0
-  pub none_left : (r : Request) → Memᴰ r x.came → Belongs S k r.of → Lasts x (r.since + R.0)
-      → (u : ℕ) × Memᴰ (answer r u) x.went
+pub record Answered (R : BitPeriods) (S : Segment) (k t : ℕ) (y : Token) (came : List Request) (went : List Answer) : Type 0 where
+  pub in_time : (a : Answer) → Memᴰ a went → Belongs S k a.to.of → a.at ≤ a.to.since + R.0
+  pub none_left : (r : Request) → Memᴰ r came → Belongs S k r.of → Lasts t y (r.since + R.0)
+      → (u : ℕ) × Memᴰ (answer r u) went
 
 -- no request of master k, in any run in which k keeps its spacing, takes longer than R
 pub record Safe (R : BitPeriods) (S : Segment) (k : ℕ) : Type 0 where
-  pub ever : {x : Moment first_come} → Run S x → Spaced S k x.came → Answered R S k x
+  pub ever : {t : ℕ} {y : Token} {q : Queues} {came : List Request} {went : List Answer}
+      → Run S t y q came went → Spaced S k came → Answered R S k t y came went
 
--- some run in which every master keeps its spacing answers a request of master k after exactly R
+-- some run in which every master keeps its spacing answers a request of master k at its arrival plus R
 pub record Reached (R : BitPeriods) (S : Segment) (k : ℕ) : Type 0 where
-  pub end : Moment first_come
-  pub run : Run S end
-  pub spaced : (y : ℕ) → Spaced S y end.came
-  pub slow : Answer
-  pub own : Belongs S k slow.to.of
-  pub arrived : Memᴰ slow.to end.came
-  pub answered : Memᴰ slow end.went
-  pub exact : response slow ≡ R
-
--- ---- Runs that go on
-
--- from the moment x a run goes on, with no further arrival, and lasts up to the instant u
-pub record GoesOn {D : Discipline} (S : Segment) (x : Moment D) (u : ℕ) : Type 0 where
-  pub end : Moment D
-  pub onward : Onward D S x end
-  pub no_more : end.came ≡ x.came
-  pub lasts : Lasts end u
-
--- from the moment x a run goes on, with no further arrival, until every request of master k is answered
-pub record AllAnswered {D : Discipline} (S : Segment) (k : ℕ) (x : Moment D) : Type 0 where
-  pub end : Moment D
-  pub onward : Onward D S x end
-  pub no_more : end.came ≡ x.came
-  pub each : (r : Request) → Memᴰ r end.came → Belongs S k r.of → (u : ℕ) × Memᴰ (answer r u) end.went
+  pub now : ℕ
+  pub token : Token
+  pub queues : Queues
+  pub came : List Request
+  pub went : List Answer
+  pub run : Run S now token queues came went
+  pub spaced : (y : ℕ) → Spaced S y came
+  pub slow : Request
+  pub arrived : Memᴰ slow came
+  pub own : Belongs S k slow.of
+  pub exact : Memᴰ (answer slow (slow.since + R.0)) went
 
 -- ---- Segments
 

@@ -48,7 +48,7 @@ module _ {s : List ℕ} {N n first : ℕ} {counts longests : List ℕ} (h : Shee
 
     pub sender_bound : (late : ℕ) → late ≡ first_late (segment_in s) → n < late → answer.Bound (bp (own * v)) ≡ sender_of (sound s) k
     sender_bound late q l =
-        ap (λ (b : ℕ). answer.Bound (bp b)) own_bound ∙ ap (λ (o : Outcome). sender_of o k) (sym (sheeted_read h _ (omega (arith, streams_few h.ready)) late q l))
+        ap (λ (b : ℕ). answer.Bound (bp b)) own_bound ∙ ap (λ (o : Outcome). sender_of o k) (sym (sheeted_read h 800 (streams_few h.ready) late q l))
 
   pub sender_late : (late : ℕ) → late ≡ first_late (segment_in s) → late ≤ n → answer.Refused 8 late ≡ sender_of (sound s) k
-  sender_late late q l = sender_refused s k 8 late (sheeted_late h _ (omega (arith, streams_few h.ready)) late q l)
+  sender_late late q l = sender_refused s k 8 late (sheeted_late h 800 (streams_few h.ready) late q l)

@@ -16,9 +16,7 @@ use Rattle.common.specs.Runs.{filled}
 use Rattle.common.proofs.Firsts.{First, first_is}
 use Rattle.common.proofs.Runs.{filled_at, length_filled}
 use Rattle.pnet_rules.specs.Segment.{Segment, owns}
-use Rattle.pnet_run.specs.Run.{Answer, answer, Queues, put, toward, next, first_come}
-use Rattle.pnet_run.proofs.Walks.{Walk, travel, skip}
-use Rattle.pnet_run.proofs.Literal.{walk_is_run}
+use Rattle.pnet_run.specs.Run.{Answer, answer, Queues, put, toward, next, Run, travel, skip}
 use Rattle.pnet_run.proofs.Keeping.{put_same, put_other}
 use Rattle.pnet_run.proofs.Ring.{next_in_ring}
 use Rattle.pnet_run.proofs.Picked.{picked, picked_same, picked_none, picked_first}
@@ -43,7 +41,7 @@ module _ (n : ℕ) (owner cycle : List ℕ) (some : (p : ℕ) → p < length own
 
   record Holds (b : Bus) : Type 0 where
     went : List Answer
-    run : Walk S b.now (toward b.master 0) (left b.answered) (asked_to (length owner)) went
+    run : Run S b.now (toward b.master 0) (left b.answered) (asked_to (length owner)) went
     long : length owner ≤ length b.answered
     recorded : (i : ℕ) → 1 ≤ i → i ≤ length owner → 1 ≤ get_or b.answered (i - 1) 0 → Memᴰ (answer (asked i) (get_or b.answered (i - 1) 0)) went
     completed : (a : Answer) → Memᴰ a went → (get_or b.answered (a.to.of - 1) 0 ≡ a.at) × (1 ≤ a.at)
@@ -54,7 +52,7 @@ module _ (n : ℕ) (owner cycle : List ℕ) (some : (p : ℕ) → p < length own
   unfolding begun waits owns
   holds_begun k old a b c = record {
     went = [];
-    run = travel {d = 0} 40 (subst (λ (q : Queues). Walk S 0 (toward (next n k) 40) q (asked_to (length owner)) []) (fun_ext λ y. ap (map asked) (picked_same _ _ (length owner) (λ i lo hi. all y i lo hi))) (all_asked S ring.0 ring.1 (omega arith)));
+    run = travel {d = 0} 40 (subst (λ (q : Queues). Run S 0 (toward (next n k) 40) q (asked_to (length owner)) []) (fun_ext λ y. ap (map asked) (picked_same _ _ (length owner) (λ i lo hi. all y i lo hi))) (all_asked S ring.0 ring.1 (omega arith)));
     long = omega (arith, length_filled (λ p. 0) (length owner) old c);
     recorded = λ i lo hi l. absurd (omega (arith, zero_at (i - 1) (omega arith)));
     completed = λ w j. absurd (Memᴰ.not-nil j);
@@ -134,10 +132,10 @@ module _ (n : ℕ) (owner cycle : List ℕ) (some : (p : ℕ) → p < length own
           at y (yes e) = rw e (put_same (left old) m (left new m))
           at y (no z) = put_other (left old) m (left new m) y z ∙ others y z
 
-      served : Walk S end (toward (next n m) 40) (left new) (asked_to (length owner)) (answer (asked (suc p)) end ∷ h.went)
+      served : Run S end (toward (next n m) 40) (left new) (asked_to (length owner)) (answer (asked (suc p)) end ∷ h.went)
       served =
-          subst (λ (q : Queues). Walk S end (toward (next n m) 40) q (asked_to (length owner)) (answer (asked (suc p)) end ∷ h.went)) queues
-          (subst (λ (u : ℕ). Walk S u (toward (next n m) 40) (put (left old) m (left new m)) (asked_to (length owner)) (answer (asked (suc p)) u ∷ h.went)) time
+          subst (λ (q : Queues). Run S end (toward (next n m) 40) q (asked_to (length owner)) (answer (asked (suc p)) end ∷ h.went)) queues
+          (subst (λ (u : ℕ). Run S u (toward (next n m) 40) (put (left old) m (left new m)) (asked_to (length owner)) (answer (asked (suc p)) u ∷ h.went)) time
           (slowest h.run first (rw (place p) (some p l))))
         where
           time : b.now + (7 + get_or cycle (suc p - 1) 0) ≡ end
@@ -186,7 +184,7 @@ module _ (n : ℕ) (owner cycle : List ℕ) (some : (p : ℕ) → p < length own
     queues = left b.answered;
     came = asked_to (length owner);
     went = h.went;
-    run = walk_is_run first_come S h.run;
+    run = h.run;
     each_asks = λ i lo hi. asked_each (length owner) i lo hi;
     at_0 = asked_at_0 (length owner);
     once = λ d i. asked_apart d i (length owner);

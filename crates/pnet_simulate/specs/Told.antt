@@ -2,7 +2,7 @@
 use Rattle.std.specs.Prelude.{ℕ, ◌-◌, ◌≤◌, ◌≡◌, length, get_or}
 use mathlib.Core.List.{List, Memᴰ}
 use Rattle.pnet_rules.specs.Segment.{Segment}
-use Rattle.pnet_run.specs.Run.{Request, request, Answer, answer, Queues, toward, arriving, moment, Run}
+use Rattle.pnet_run.specs.Run.{Request, request, Answer, answer, Queues, toward, Run}
 use Rattle.pnet_run.specs.Promise.{Apart}
 use Rattle.pnet_simulate.specs.Simulated.{Bus}
 
@@ -22,7 +22,7 @@ pub record Told (S : Segment) (b : Bus) : Type 0 where
   pub queues : Queues
   pub came : List Request
   pub went : List Answer
-  pub run : Run S (moment b.now arriving (toward b.master 0) queues came went)
+  pub run : Run S b.now (toward b.master 0) queues came went
   pub each_asks : (i : ℕ) → 1 ≤ i → i ≤ S.number → Memᴰ (request i 0) came
   pub at_0 : (r : Request) → Memᴰ r came → r.since ≡ 0
   pub once : (d i : ℕ) → Apart d i came

@@ -25,8 +25,27 @@ use Rattle.common.proofs.Sums.{upto_term}
 use Rattle.pnet_rules.specs.Segment.{Segment, turn_by}
 use Rattle.pnet_rules.specs.Limits.{Declared}
 use Rattle.pnet_urgent_rules.specs.Urgent.{blocked, ahead_in}
-use Rattle.pnet_run.specs.Run.{Belongs, Request, request, Answer, put, Token, toward, serving, Settled, next}
-use Rattle.pnet_run.proofs.Walks.{WalkBy, start, complete, arrive, move, travel, work, serve, skip}
+use Rattle.pnet_run.specs.Run.{
+  Belongs,
+  Request,
+  request,
+  Answer,
+  put,
+  Token,
+  toward,
+  serving,
+  Settled,
+  next,
+  RunBy,
+  start,
+  complete,
+  arrive,
+  move,
+  travel,
+  work,
+  serve,
+  skip,
+}
 use Rattle.pnet_run.proofs.Charges.{Covers, free, in_ring}
 use Rattle.pnet_run.proofs.Keeping.{put_same, put_other, came_past, owned_by, sent_kept}
 use Rattle.pnet_run.proofs.Ring.{gap_next, gap_lap}
@@ -232,7 +251,7 @@ module _ (S : Segment) (declared : Declared S) (h : ℕ → ℕ) (cover : Covers
 
   -- ---- An arrival
 
-  module _ {t m j : ℕ} {y : Token} {q : ℕ → Held} {came : List Request} {went : List Answer} (z : WalkBy (stacked S U) S t y q came went) (settled : Settled y)
+  module _ {t m j : ℕ} {y : Token} {q : ℕ → Held} {came : List Request} {went : List Answer} (z : RunBy (stacked S U) S t y q came went) (settled : Settled y)
       (own : Belongs S m j) (spaced : SpacedUpTo S i (request j t ∷ came)) (I : Inv t y (q k) came) where
     abbrev new : Request
     new = request j t
@@ -344,11 +363,11 @@ module _ (S : Segment) (declared : Declared S) (h : ℕ → ℕ) (cover : Covers
 
   -- ---- Every run
 
-  inv : {t : ℕ} {y : Token} {q : ℕ → Held} {came : List Request} {went : List Answer} (z : WalkBy (stacked S U) S t y q came went) → SpacedUpTo S i came → Inv t y (q k) came
+  inv : {t : ℕ} {y : Token} {q : ℕ → Held} {came : List Request} {went : List Answer} (z : RunBy (stacked S U) S t y q came went) → SpacedUpTo S i came → Inv t y (q k) came
   inv (start a b c) s = record { token = omega arith; busy = λ some. absurd (omega (arith, tally_none counts)) }
   inv (complete {q = q} z p) s = inv_complete q (inv z s) p
   inv (arrive z o d) s = inv_arrive z o d s (inv z (spaced_before S i s))
-  inv (move {m = m} {q = q} {left = left} z o p) s = inv_move q {m = m} {left = left} (inv z s) (omega (arith, p.0), p.1) (owned_by (stacked_keeps S U) z k)
+  inv (move {q = q} z o p) s = inv_move q (inv z s) p (owned_by (stacked_keeps S U) z k)
   inv (travel e z) s = let I = inv z s in inv_on (omega arith) (omega arith) (omega arith) I
   inv (work e z) s = let I = inv z s in inv_on (omega arith) (omega arith) (omega arith) I
   inv (serve {m = m} {q = q} {r = r} {rest = rest} e u v z p a b c d f g) s =
@@ -357,7 +376,7 @@ module _ (S : Segment) (declared : Declared S) (h : ℕ → ℕ) (cover : Covers
 
   -- ---- What waits is not late
 
-  pub waits_in_time : {t : ℕ} {y : Token} {q : ℕ → Held} {came : List Request} {went : List Answer} → WalkBy (stacked S U) S t y q came went → SpacedUpTo S i came
+  pub waits_in_time : {t : ℕ} {y : Token} {q : ℕ → Held} {came : List Request} {went : List Answer} → RunBy (stacked S U) S t y q came went → SpacedUpTo S i came
       → (r : Request) → InHeld (q k) r → heeded S i r.of ≡ true → NotLate x r.since t y
   waits_in_time {t} {y} {q} z s r j e =
       let I = inv z s in

@@ -1,7 +1,7 @@
 -- When the stack has none, step by step on one sheet (Three). Streams 2 and 3 ask at 0, and stream 1 at 1, when stream 2's request is under way. By a stack that takes
 -- stream 3's request meanwhile, stream 1 waits for both, 709 bp: so its figure, 500, is no promise there. By one that takes its next when the answer is complete, it
 -- waits for one: 459 bp. Assumes nothing.
-use Prim.Native.Nat.{ℕ, ◌-◌, ◌≤◌}
+use Prim.Native.Nat.{ℕ, ◌+◌, ◌≤◌}
 use mathlib.Core.Path.{◌≡◌, refl}
 use mathlib.Core.List.Memᴰ
 use mathlib.Core.List.{List, [], ◌∷◌}
@@ -9,12 +9,10 @@ use native.Mathlib.Omega.{arith}
 use Rattle.units.specs.Units.{bp}
 use Rattle.pnet_rules.specs.Segment.{segment_of}
 use Rattle.pnet_urgent_rules.specs.Urgent.{ahead, figure}
-use Rattle.pnet_run.specs.Run.{Request, request, Answer, answer, put, Token, toward, serving, on_way, at_work, next, arriving, Moment, moment, RunBy}
+use Rattle.pnet_run.specs.Run.{Request, request, Answer, answer, put, Token, toward, serving, on_way, at_work, next, RunBy, complete, arrive, work, serve}
 use Rattle.pnet_run.specs.Promise.{Kept, quiet, other, asks, Spaced}
-use Rattle.pnet_run.proofs.Walks.{complete, arrive, work, serve}
-use Rattle.pnet_run.proofs.Literal.{walk_is_run}
 use Rattle.pnet_run.proofs.Few.{each}
-use Rattle.pnet_urgent_run.specs.Stack.{Held, held, here, further, MostUrgent, Sends, besides, one, stacked, early, Everyone}
+use Rattle.pnet_urgent_run.specs.Stack.{Held, held, here, further, MostUrgent, Sends, besides, one, early, Everyone}
 use Rattle.pnet_urgent_run.specs.Promise.{AnsweredOf}
 use Rattle.pnet_urgent_run.proofs.Three.{three, figures_are, stream_1, stream_2, stream_3}
 use Rattle.pnet_urgent_run.proofs.Progress.{most_none, most_and, alone}
@@ -60,9 +58,9 @@ a_second_under_way = (refl, refl, refl)
 abbrev pub went_early : List Answer
 went_early = answer (request 1 1) 710 ∷ answer (request 3 0) 460 ∷ answer (request 2 0) 210 ∷ []
 
-early_walk : (q : ℕ → Held) × By besides 500 0 710 (toward 1 40) q came went_early
+early_run : (q : ℕ → Held) × By besides 500 0 710 (toward 1 40) q came went_early
 unfolding segment_of put next besides
-early_walk =
+early_run =
     let at_1 : By besides 500 0 1 (serving 1 209) kept_at_1 _ [] = under_way besides (omega arith) in
     let third : By besides 500 0 1 (serving 1 209) _ _ [] =
     down besides 500 0 (request 2 0 ∷ []) (request 3 0) [] at_1 at_work (omega arith) refl here (alone three (request 3 0)) in
@@ -77,17 +75,14 @@ early_walk =
 abbrev pub went_stacked : List Answer
 went_stacked = answer (request 1 1) 460 ∷ answer (request 2 0) 210 ∷ []
 
-stacked_walk : (q : ℕ → Held) × By one 500 0 460 (toward 1 40) q came went_stacked
+pub stacked_run : (q : ℕ → Held) × By one 500 0 460 (toward 1 40) q came went_stacked
 unfolding segment_of put next
-stacked_walk =
+stacked_run =
     let at_1 : By one 500 0 1 (serving 1 209) kept_at_1 _ [] = under_way one (omega arith) in
     let asked : By one 500 0 1 (serving 1 209) _ came [] = arrive at_1 at_work (stream_1 500 0) in
     let sent : Sends (held (request 2 0 ∷ []) (request 3 0 ∷ request 1 1 ∷ [])) (request 2 0) (held [] (request 3 0 ∷ request 1 1 ∷ [])) = record { sent = refl; others = refl } in
     let at-210 : By one 500 0 210 (toward 1 40) _ came _ = complete (work {c = 0} 209 asked) sent in
     (_, served one 500 0 (request 1 1) (request 3 0 ∷ []) at-210 (omega arith) refl (further here) first_first refl)
-
-pub stacked_run : (q : ℕ → Held) × RunBy (stacked three Everyone) three (moment 460 arriving (toward 1 40) q came went_stacked)
-stacked_run = (stacked_walk.0, walk_is_run (stacked three Everyone) three stacked_walk.1)
 
 -- ---- Every stream keeps its spacing: each asks once
 
@@ -115,8 +110,10 @@ every_stream_keeps_its_spacing k i b =
 -- ---- So the figure is not safe for a stack that takes its next request early
 
 pub not_by_an_early_stack :
-    ((x : Moment (early three Everyone)) → RunBy (early three Everyone) three x → ((k : ℕ) → Spaced three k x.came) → AnsweredOf (bp (figure three 1)) 1 x) → ⊥
+    ((t : ℕ) (y : Token) (q : ℕ → Held) (came : List Request) (went : List Answer) → RunBy (early three Everyone) three t y q came went
+    → ((k : ℕ) → Spaced three k came) → AnsweredOf (bp (figure three 1)) 1 t y came went)
+    → ⊥
 not_by_an_early_stack safe =
-    let answered = safe _ (walk_is_run (early three Everyone) three early_walk.1) every_stream_keeps_its_spacing in
-    let l : 710 - 1 ≤ figure three 1 = answered.in_time (answer (request 1 1) 710) (Memᴰ.head refl) refl in
+    let answered = safe 710 (toward 1 40) early_run.0 came went_early early_run.1 every_stream_keeps_its_spacing in
+    let l : 710 ≤ 1 + figure three 1 = answered.in_time (answer (request 1 1) 710) (Memᴰ.head refl) refl in
     omega (arith, figures_are.0)

@@ -9,13 +9,12 @@ use mathlib.Core.List.{List, [], ◌∷◌, Memᴰ}
 use native.Mathlib.Omega.{arith}
 use Rattle.units.specs.Units.{bp}
 use Rattle.pnet_rules.specs.Segment.{segment_of}
-use Rattle.pnet_run.specs.Run.{request}
+use Rattle.pnet_run.specs.Run.{request, toward}
 use Rattle.pnet_run.specs.Promise.{Kept, quiet, other, asks, Spaced}
 use Rattle.pnet_run.proofs.Few.{each}
 use Rattle.pnet_urgent_run.specs.Promise.{ReachedFor}
 use Rattle.pnet_urgent_run.proofs.Three.{three, stream_1, stream_2, stream_3}
-use Rattle.pnet_urgent_run.proofs.Laps.{blocked_came, blocked_run, last_came, last_run, second_keeps, third_keeps}
-use Rattle.pnet_urgent_run.proofs.Literal.{reached_for_by}
+use Rattle.pnet_urgent_run.proofs.Laps.{blocked_came, blocked_went, blocked_run, last_came, last_went, last_run, second_keeps, third_keeps}
 use Rattle.pnet_urgent_run.proofs.Figures.{spaced_up_to}
 
 -- ---- Every stream keeps its spacing
@@ -65,16 +64,46 @@ last_spaced k i b =
 -- ---- Each figure is taken
 
 pub some_run_takes_x_of_stream_1 : ReachedFor (bp 500) three 1
-some_run_takes_x_of_stream_1 =
-    reached_for_by (blocked_run 500 0).1 (spaced_up_to three (stream_1 500 0) (blocked_spaced 1)) (request 1 0) refl
-    (Memᴰ.tail (Memᴰ.tail (Memᴰ.head refl))) (Memᴰ.tail (Memᴰ.tail (Memᴰ.head refl)))
+some_run_takes_x_of_stream_1 = record {
+  now = 1000;
+  token = toward 1 40;
+  kept = (blocked_run 500 0).0;
+  came = blocked_came;
+  went = blocked_went;
+  run = (blocked_run 500 0).1;
+  spaced = spaced_up_to three (stream_1 500 0) (blocked_spaced 1);
+  slow = request 1 0;
+  own = refl;
+  arrived = Memᴰ.tail (Memᴰ.tail (Memᴰ.head refl));
+  exact = Memᴰ.tail (Memᴰ.tail (Memᴰ.head refl));
+}
 
 pub some_run_takes_x_of_stream_2 : ReachedFor (bp 1000) three 2
-some_run_takes_x_of_stream_2 =
-    reached_for_by (blocked_run 500 0).1 (spaced_up_to three (stream_2 500 0) (blocked_spaced 1)) (request 2 0) refl (Memᴰ.tail (Memᴰ.head refl))
-    (Memᴰ.head refl)
+some_run_takes_x_of_stream_2 = record {
+  now = 1000;
+  token = toward 1 40;
+  kept = (blocked_run 500 0).0;
+  came = blocked_came;
+  went = blocked_went;
+  run = (blocked_run 500 0).1;
+  spaced = spaced_up_to three (stream_2 500 0) (blocked_spaced 1);
+  slow = request 2 0;
+  own = refl;
+  arrived = Memᴰ.tail (Memᴰ.head refl);
+  exact = Memᴰ.head refl;
+}
 
 pub some_run_takes_x_of_stream_3 : ReachedFor (bp 1000) three 3
-some_run_takes_x_of_stream_3 =
-    reached_for_by (last_run 500 0).1 (spaced_up_to three (stream_3 500 0) (last_spaced 1)) (request 3 0) refl (Memᴰ.tail (Memᴰ.head refl))
-    (Memᴰ.head refl)
+some_run_takes_x_of_stream_3 = record {
+  now = 1000;
+  token = toward 1 40;
+  kept = (last_run 500 0).0;
+  came = last_came;
+  went = last_went;
+  run = (last_run 500 0).1;
+  spaced = spaced_up_to three (stream_3 500 0) (last_spaced 1);
+  slow = request 3 0;
+  own = refl;
+  arrived = Memᴰ.tail (Memᴰ.head refl);
+  exact = Memᴰ.head refl;
+}

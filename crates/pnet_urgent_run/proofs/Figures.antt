@@ -6,6 +6,7 @@ use mathlib.Core.Path.{◌≡◌, refl, ap, ◌∙◌}
 use mathlib.Core.Bool.{true, false}
 use mathlib.Core.Logic.{⊎_elim}
 use mathlib.Core.List.{List, ◌∷◌}
+use native.Mathlib.Decide.{ℕ_discrete}
 use native.Mathlib.Omega.{arith}
 use Rattle.sheet_rules.specs.Sheets.{Sheet}
 use Rattle.sheet_rules.specs.Whole.Outcome.{Read}
@@ -20,20 +21,15 @@ use Rattle.pnet_urgent_rules.proofs.Figures.{declared_met, met_is_figure}
 use Rattle.pnet_urgent_rules.proofs.Right.{turn_some}
 use Rattle.pnet_urgent_rules.proofs.Cases.{urgently_declared}
 use Rattle.pnet_urgent_rules.proofs.Refusals.{accepted_exactly}
-use Rattle.pnet_run.specs.Run.{Belongs, Request, Answer, Token, Discipline, Moment, RunBy}
-use Rattle.pnet_run.specs.Promise.{Spaced, GoesOn}
-use Rattle.pnet_run.proofs.Walks.{WalkBy}
-use Rattle.pnet_run.proofs.Literal.{came_by_now, lasts_shorter}
-use Rattle.pnet_run.proofs.Progress.{runs_on, goes_on}
-use Rattle.pnet_run.proofs.Charges.{Covers, free, some_cycle, charged_covers_visits}
+use Rattle.pnet_run.specs.Run.{Belongs, Request, Answer, Token, RunBy}
+use Rattle.pnet_run.specs.Promise.{Spaced, Lasts, past, at_it}
+use Rattle.pnet_run.proofs.Charges.{Covers, free, charged_covers_visits}
 use Rattle.pnet_run.proofs.Answering.{NotLate, answers_in_time, none_is_left}
 use Rattle.pnet_urgent_run.specs.Stack.{Held, stacked}
-use Rattle.pnet_urgent_run.specs.Promise.{SpacedUpTo, AnsweredOf, SafeFor, AllAnsweredOf}
-use Rattle.pnet_urgent_run.proofs.Literal.{answered_of_in_runs}
+use Rattle.pnet_urgent_run.specs.Promise.{SpacedUpTo, AnsweredOf, SafeFor}
 use Rattle.pnet_urgent_run.proofs.Kept.{InHeld, stacked_keeps}
 use Rattle.pnet_urgent_run.proofs.Heeded.{heeded_itself}
 use Rattle.pnet_urgent_run.proofs.Busy.{spaced_before, waits_in_time}
-use Rattle.pnet_urgent_run.proofs.Progress.{stacked_is_lively}
 
 -- ---- Any x that covers its right side
 
@@ -50,7 +46,7 @@ module _ (S : Segment) (declared : Declared S) (h : ℕ → ℕ) (cover : Covers
   its : (j : ℕ) → j ≡ i → Belongs S own_master j
   its j e = rw e mine
 
-  waits : (U : ℕ → Type 0) → U own_master → (t : ℕ) (y : Token) (q : ℕ → Held) (came : List Request) (went : List Answer) → WalkBy (stacked S U) S t y q came went
+  waits : (U : ℕ → Type 0) → U own_master → (t : ℕ) (y : Token) (q : ℕ → Held) (came : List Request) (went : List Answer) → RunBy (stacked S U) S t y q came went
       → SpacedUpTo S i came → (r : Request) → InHeld (q own_master) r → r.of ≡ i → NotLate x r.since t y
   waits U urgent t y q came went z s r j e =
       waits_in_time S declared h cover U own_master i x urgent mine enough in-time z s r j (rw e (heeded_itself S i))
@@ -61,13 +57,10 @@ module _ (S : Segment) (declared : Declared S) (h : ℕ → ℕ) (cover : Covers
   pub answered_within_x : SafeFor (bp x) S i
   answered_within_x = record {
     ever = λ {Urgent = U} urgent run spaced.
-        answered_of_in_runs run
-        (λ y walk.
         record {
-          in_time = λ a j own.
-              omega (arith, answers_in_time (stacked_keeps S U) S own_master x (λ n. n ≡ i) its (SpacedUpTo S i) earlier (waits U urgent) walk spaced a j own);
-          none_left = none_is_left (stacked_keeps S U) S own_master x (λ n. n ≡ i) its (SpacedUpTo S i) earlier (waits U urgent) walk spaced;
-        });
+          in_time = answers_in_time (stacked_keeps S U) S own_master x (λ j. j ≡ i) its (SpacedUpTo S i) earlier (waits U urgent) run spaced;
+          none_left = none_is_left (stacked_keeps S U) S own_master x (λ j. j ≡ i) its (SpacedUpTo S i) earlier (waits U urgent) run spaced;
+        };
   }
 
 -- ---- 'A stream is accepted exactly if the least solution exists and is at most D'
@@ -100,9 +93,9 @@ spaced_up_to S {i = i} own spaced j u a b =
 
 pub all_requests_are_answered_within_their_figures : (sheet : Sheet) → Declared (segment_of sheet)
     → ((i : ℕ) → 1 ≤ i → i ≤ (segment_of sheet).number → unmet (segment_of sheet) i ≡ false)
-    → (Urgent : ℕ → Type 0) (k : ℕ) → Urgent k → {x : Moment (stacked (segment_of sheet) Urgent)}
-    → RunBy (stacked (segment_of sheet) Urgent) (segment_of sheet) x → Spaced (segment_of sheet) k x.came
-    → (i : ℕ) → Belongs (segment_of sheet) k i → AnsweredOf (bp (figure (segment_of sheet) i)) i x
+    → (Urgent : ℕ → Type 0) (k : ℕ) → Urgent k → {t : ℕ} {y : Token} {q : ℕ → Held} {came : List Request} {went : List Answer}
+    → RunBy (stacked (segment_of sheet) Urgent) (segment_of sheet) t y q came went → Spaced (segment_of sheet) k came
+    → (i : ℕ) → Belongs (segment_of sheet) k i → AnsweredOf (bp (figure (segment_of sheet) i)) i t y came went
 all_requests_are_answered_within_their_figures sheet declared accepted Urgent k urgent run spaced i own =
     (each_request_is_answered_within_its_figure sheet declared i own.from_one own.to_last (accepted i own.from_one own.to_last)).ever (rw own.own urgent)
     run (spaced_up_to (segment_of sheet) own spaced)
@@ -110,41 +103,22 @@ all_requests_are_answered_within_their_figures sheet declared accepted Urgent k 
 -- ---- And so by its deadline
 
 -- what is answered within R is answered within more
-pub within_more : {D : Discipline} {i R Q : ℕ} {x : Moment D} → R ≤ Q → AnsweredOf (bp R) i x → AnsweredOf (bp Q) i x
-within_more l a = record {
+pub within_more : {i t R Q : ℕ} {y : Token} {came : List Request} {went : List Answer} → R ≤ Q → AnsweredOf (bp R) i t y came went → AnsweredOf (bp Q) i t y came went
+within_more {t = t} {R = R} {Q = Q} {y = y} l a = record {
   in_time = λ w j own. omega (arith, a.in_time w j own);
-  none_left = λ r j own lasts. a.none_left r j own (lasts_shorter (omega arith) lasts);
+  none_left = λ r j own lasts. a.none_left r j own (sooner r.since lasts);
 }
+  where
+    sooner : (u : ℕ) → Lasts t y (u + Q) → Lasts t y (u + R)
+    sooner u (past b) = past (omega arith)
+    sooner u (at_it e s) = go (ℕ_discrete R Q)
+      where
+        go : Dec (R ≡ Q) → Lasts t y (u + R)
+        go (yes z) = at_it (omega arith) s
+        go (no z) = past (omega (arith, z))
 
 pub safe_within_more : {S : Segment} {i : ℕ} (R Q : ℕ) → R ≤ Q → SafeFor (bp R) S i → SafeFor (bp Q) S i
 safe_within_more R Q l safe = record { ever = λ urgent run spaced. within_more l (safe.ever urgent run spaced) }
-
--- ---- What keeps the promise from being empty
-
--- No run is ever stuck: from every moment it goes on, with no further arrival, to one that lasts as long as one likes
-
-pub every_run_lasts_as_long_as_one_likes : (sheet : Sheet) → Declared (segment_of sheet) → {Urgent : ℕ → Type 0} {x : Moment (stacked (segment_of sheet) Urgent)}
-    → RunBy (stacked (segment_of sheet) Urgent) (segment_of sheet) x → (u : ℕ) → GoesOn (segment_of sheet) x u
-every_run_lasts_as_long_as_one_likes sheet declared {Urgent} run u =
-    let S = segment_of sheet in
-    goes_on (stacked S Urgent) S (stacked_is_lively S Urgent (λ m i b. some_cycle declared b)) run u
-
--- And where stream i is accepted and it and the streams ahead of it keep their spacing, to one in which all of its requests are answered
-
-pub every_run_goes_on_until_all_of_the_stream_is_answered : (sheet : Sheet) → Declared (segment_of sheet) → (i : ℕ) → 1 ≤ i → i ≤ (segment_of sheet).number
-    → unmet (segment_of sheet) i ≡ false → {Urgent : ℕ → Type 0} {x : Moment (stacked (segment_of sheet) Urgent)}
-    → Urgent ((segment_of sheet).stream i).master → RunBy (stacked (segment_of sheet) Urgent) (segment_of sheet) x → SpacedUpTo (segment_of sheet) i x.came
-    → AllAnsweredOf (segment_of sheet) i x
-every_run_goes_on_until_all_of_the_stream_is_answered sheet declared i from to accepted {x = x} urgent run spaced =
-    let on = every_run_lasts_as_long_as_one_likes sheet declared run (x.now + figure (segment_of sheet) i) in
-    let safe = each_request_is_answered_within_its_figure sheet declared i from to accepted in
-    let answered = safe.ever urgent (runs_on run on.onward) (rw on.no_more spaced) in
-    record {
-      end = on.end;
-      onward = on.onward;
-      no_more = on.no_more;
-      each = λ r j own. answered.none_left r j own (lasts_shorter (omega (arith, came_by_now run r (rw on.no_more at j))) on.lasts);
-    }
 
 -- ---- What the planner accepts
 

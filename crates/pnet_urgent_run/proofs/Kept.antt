@@ -7,8 +7,7 @@ use mathlib.Core.List.{List, [], ◌∷◌, ◌++◌, Memᴰ}
 use native.Mathlib.Omega.{arith}
 use lib.ListN.{length, length-append}
 use Rattle.pnet_rules.specs.Segment.{Segment}
-use Rattle.pnet_run.specs.Run.{Request, Answer, Token}
-use Rattle.pnet_run.proofs.Walks.{WalkBy, start, complete, arrive, move, travel, work, serve, skip}
+use Rattle.pnet_run.specs.Run.{Request, Answer, Token, RunBy, start, complete, arrive, move, travel, work, serve, skip}
 use Rattle.pnet_run.proofs.Keeping.{Keeps, put_relates}
 use Rattle.pnet_run.proofs.Queues.{behind_last, behind_last_too}
 use Rattle.pnet_urgent_run.specs.Stack.{Held, held, Taken, here, further, HandsDown, Sends, stack_of, one, stacked}
@@ -92,7 +91,7 @@ pub length_snoc : (l : List Request) (r : Request) → length (l ++ (r ∷ [])) 
 length_snoc l r = omega (arith, length-append l (r ∷ []))
 
 pub one_in_stack : {S : Segment} {U : ℕ → Type 0} {t : ℕ} {y : Token} {q : ℕ → Held} {came : List Request} {went : List Answer}
-    → WalkBy (stacked S U) S t y q came went → (m : ℕ) → length (q m).stack ≤ 1
+    → RunBy (stacked S U) S t y q came went → (m : ℕ) → length (q m).stack ≤ 1
 one_in_stack (start a b c) m = omega arith
 one_in_stack (complete {m = o} {q = q} {rest = rest} z p) m =
     put_relates (λ w a b. length a.stack ≤ 1 → length b.stack ≤ 1) q o rest (λ l. omega (arith, ap length p.sent)) (λ w a l. l) m (one_in_stack z m)

@@ -9,9 +9,8 @@ use mathlib.Core.List.{List, [], ◌∷◌}
 use native.Mathlib.Omega.{arith}
 use Rattle.pnet_rules.specs.Segment.{Segment, segment_of}
 use Rattle.pnet_urgent_rules.specs.Urgent.{ahead}
-use Rattle.pnet_run.specs.Run.{Request, request, Answer, answer, put, toward, on_way}
+use Rattle.pnet_run.specs.Run.{Request, request, Answer, answer, put, toward, on_way, RunBy, arrive}
 use Rattle.pnet_run.specs.Promise.{Kept, quiet, other, asks}
-use Rattle.pnet_run.proofs.Walks.{WalkBy, arrive}
 use Rattle.pnet_urgent_run.specs.Stack.{Held, held, Taken, here, further, MostUrgent, Everyone, one, stacked}
 use Rattle.pnet_urgent_run.proofs.Three.{three_of, stream_1, stream_2, stream_3}
 use Rattle.pnet_urgent_run.proofs.Progress.{most_none, most_and, alone}
@@ -57,7 +56,7 @@ module _ (T J : ℕ) where
   -- ---- Stream 3's request is in the stack when the others ask
 
   abbrev By : ℕ → (ℕ → Held) → List Request → List Answer → Type 0
-  By t q came went = WalkBy (stacked S Everyone) S t (toward 1 40) q came went
+  By t q came went = RunBy (stacked S Everyone) S t (toward 1 40) q came went
 
   from : By 0 (λ y. held [] []) [] []
   from = starts one T J (omega arith)

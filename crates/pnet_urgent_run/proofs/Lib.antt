@@ -1,10 +1,8 @@
 pub mod Kept
-pub mod Literal
-pub mod Reactions
-pub mod Progress
 pub mod Heeded
 pub mod Busy
 pub mod Figures
+pub mod Progress
 pub mod Oldest
 pub mod Three
 pub mod Steps

@@ -1,7 +1,7 @@
 -- What the figure needs, by one run on the sheet of Three with T 1,000 for stream 1: it asks at 0 and at 500, and stream 3's request takes 1,000 bp (Laps). With J 500 every stream
 -- keeps its spacing, and the figure of stream 3 is 1,000; without the J in the count it would be 750. With J 0 stream 1 asks too early, and the figure, 750, does
 -- not hold, though the other two keep their spacing. Assumes nothing.
-use Prim.Native.Nat.{ℕ, ◌+◌, ◌-◌, ◌≤◌}
+use Prim.Native.Nat.{ℕ, ◌+◌, ◌≤◌}
 use mathlib.Core.Path.{◌≡◌, refl}
 use mathlib.Core.Logic.{◌⊎◌, inr, ⊎_elim}
 use mathlib.Core.List.Memᴰ
@@ -10,14 +10,13 @@ use native.Mathlib.Omega.{arith}
 use Rattle.units.specs.Units.{bp}
 use Rattle.pnet_rules.specs.Segment.{Segment, segment_of}
 use Rattle.pnet_urgent_rules.specs.Urgent.{figure}
-use Rattle.pnet_run.specs.Run.{Request, request, answer, Moment, RunBy}
+use Rattle.pnet_run.specs.Run.{Request, request, Answer, answer, Token, toward, RunBy}
 use Rattle.pnet_run.specs.Promise.{Kept, quiet, other, asks, Spaced}
-use Rattle.pnet_run.proofs.Literal.{walk_is_run}
 use Rattle.pnet_run.proofs.Few.{each}
-use Rattle.pnet_urgent_run.specs.Stack.{Everyone, stacked}
+use Rattle.pnet_urgent_run.specs.Stack.{Held, Everyone, stacked}
 use Rattle.pnet_urgent_run.specs.Promise.{AnsweredOf}
 use Rattle.pnet_urgent_run.proofs.Three.{three_of}
-use Rattle.pnet_urgent_run.proofs.Laps.{last_came, last_run, second_keeps, third_keeps}
+use Rattle.pnet_urgent_run.proofs.Laps.{last_came, last_went, last_run, second_keeps, third_keeps}
 
 -- ---- The figures
 
@@ -66,17 +65,23 @@ others_keep i a b =
 -- ---- The count without J is not enough
 
 pub not_with_the_count_without_J :
-    ((x : Moment (stacked jittery Everyone)) → RunBy (stacked jittery Everyone) jittery x → ((k : ℕ) → Spaced jittery k x.came) → AnsweredOf (bp (figure punctual 3)) 3 x) → ⊥
+    ((t : ℕ) (y : Token) (q : ℕ → Held) (came : List Request) (went : List Answer) → RunBy (stacked jittery Everyone) jittery t y q came went
+    → ((k : ℕ) → Spaced jittery k came) → AnsweredOf (bp (figure punctual 3)) 3 t y came went)
+    → ⊥
 not_with_the_count_without_J safe =
-    let answered = safe _ (walk_is_run (stacked jittery Everyone) jittery (last_run 1000 500).1) all_keep in
-    let l : 1000 - 0 ≤ figure punctual 3 = answered.in_time (answer (request 3 0) 1000) (Memᴰ.head refl) refl in
+    let run = last_run 1000 500 in
+    let answered = safe 1000 (toward 1 40) run.0 last_came last_went run.1 all_keep in
+    let l : 1000 ≤ 0 + figure punctual 3 = answered.in_time (answer (request 3 0) 1000) (Memᴰ.head refl) refl in
     omega (arith, without_J_it_is_750)
 
 -- ---- Nor is the spacing of the less urgent streams
 
 pub not_without_the_spacing_ahead :
-    ((x : Moment (stacked punctual Everyone)) → RunBy (stacked punctual Everyone) punctual x → OthersSpaced punctual x.came → AnsweredOf (bp (figure punctual 3)) 3 x) → ⊥
+    ((t : ℕ) (y : Token) (q : ℕ → Held) (came : List Request) (went : List Answer) → RunBy (stacked punctual Everyone) punctual t y q came went
+    → OthersSpaced punctual came → AnsweredOf (bp (figure punctual 3)) 3 t y came went)
+    → ⊥
 not_without_the_spacing_ahead safe =
-    let answered = safe _ (walk_is_run (stacked punctual Everyone) punctual (last_run 1000 0).1) others_keep in
-    let l : 1000 - 0 ≤ figure punctual 3 = answered.in_time (answer (request 3 0) 1000) (Memᴰ.head refl) refl in
+    let run = last_run 1000 0 in
+    let answered = safe 1000 (toward 1 40) run.0 last_came last_went run.1 others_keep in
+    let l : 1000 ≤ 0 + figure punctual 3 = answered.in_time (answer (request 3 0) 1000) (Memᴰ.head refl) refl in
     omega (arith, without_J_it_is_750)

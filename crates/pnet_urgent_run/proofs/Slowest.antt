@@ -24,9 +24,8 @@ use Rattle.pnet_urgent_rules.specs.Urgent.{ahead, rank, behind, blocked, ahead_i
 use Rattle.pnet_urgent_rules.proofs.Order.{ahead_then, ahead_itself, ahead_one_way}
 use Rattle.pnet_urgent_rules.proofs.Right.{turn_some}
 use Rattle.pnet_urgent_rules.proofs.Figures.{declared_met, met_is_figure}
-use Rattle.pnet_run.specs.Run.{Belongs, Request, request, Answer, answer, put, toward, on_way, next}
+use Rattle.pnet_run.specs.Run.{Belongs, Request, request, Answer, answer, put, toward, on_way, next, RunBy, start, arrive, move}
 use Rattle.pnet_run.specs.Promise.{Kept, quiet, other, asks}
-use Rattle.pnet_run.proofs.Walks.{WalkBy, start, arrive, move}
 use Rattle.pnet_run.proofs.Charges.{in_ring}
 use Rattle.pnet_run.proofs.Keeping.{put_same, put_other}
 use Rattle.pnet_run.proofs.Queues.{behind_last}
@@ -34,7 +33,6 @@ use Rattle.pnet_run.proofs.Ring.{next_in_ring}
 use Rattle.pnet_run.proofs.Spacing.{came_of}
 use Rattle.pnet_urgent_run.specs.Stack.{Held, held, here, Everyone, stacked}
 use Rattle.pnet_urgent_run.specs.Promise.{UpTo, SpacedUpTo, SafeFor, ReachedFor}
-use Rattle.pnet_urgent_run.proofs.Literal.{reached_for_by}
 use Rattle.pnet_urgent_run.proofs.Kept.{taken_was, left_was}
 use Rattle.pnet_urgent_run.proofs.Heeded.{heeded, heeded_then, tally, tally_none, tally_behind, tally_taken, tally_in, tally_some}
 use Rattle.pnet_urgent_run.proofs.Progress.{Picked, pick, alone}
@@ -134,7 +132,7 @@ module _ (S : Segment) (declared : Declared S) (first-edition : S.edition ≡ 1)
     kept : ℕ → Held
     came : List Request
     waiting : List Request
-    run : WalkBy (stacked S Everyone) S 0 (toward after_k 40) kept came []
+    run : RunBy (stacked S Everyone) S 0 (toward after_k 40) kept came []
     own : kept k ≡ held stack waiting
     others : (m : ℕ) → m ≢ k → kept m ≡ held [] []
     one_of_i : tally itself waiting ≡ upto (λ j. when (itself j) 1) n
@@ -224,7 +222,7 @@ module _ (S : Segment) (declared : Declared S) (first-edition : S.edition ≡ 1)
   mine : Belongs S k i
   mine = record { from_one = from; to_last = to; own = refl }
 
-  started : WalkBy (stacked S Everyone) S 0 (toward after_k 40) (λ y. held [] []) [] []
+  started : RunBy (stacked S Everyone) S 0 (toward after_k 40) (λ y. held [] []) [] []
   started =
       let own = in_ring declared mine in
       let ring = next_in_ring S.masters k (omega (arith, own)) own.1 in
@@ -310,16 +308,25 @@ module _ (S : Segment) (declared : Declared S) (first-edition : S.edition ≡ 1)
           rw time at (drained g (turned S declared first-edition alike i from to (stage_of g)).1)
 
   pub some_run_takes : ReachedFor (bp (turn S * (1 + blocked S i + rank S i))) S i
-  some_run_takes =
-      reached_for_by longest.stage.run longest.stage.spaced (request i 0) refl longest.stage.asked
-      (Memᴰ.head (ap (answer (request i 0)) (zero-add (turn S * (1 + blocked S i + rank S i)))))
+  some_run_takes = record {
+    now = turn S * (1 + blocked S i + rank S i);
+    token = toward after_k 40;
+    kept = longest.stage.kept;
+    came = longest.stage.came;
+    went = answer (request i 0) (turn S * (1 + blocked S i + rank S i)) ∷ longest.before;
+    run = longest.stage.run;
+    spaced = longest.stage.spaced;
+    slow = request i 0;
+    own = refl;
+    arrived = longest.stage.asked;
+    exact = Memᴰ.head (ap (answer (request i 0)) (zero-add (turn S * (1 + blocked S i + rank S i))));
+  }
 
 -- ---- No lower figure would be true
 
 -- what a run takes is no more than what is safe
 pub reached_is_least : {S : Segment} {i : ℕ} (R Q : BitPeriods) → ReachedFor R S i → SafeFor Q S i → R.0 ≤ Q.0
-reached_is_least R Q x safe =
-    omega (arith, ap (λ (z : BitPeriods). z.0) x.exact, (safe.ever {Urgent = Everyone} tt x.run x.spaced).in_time x.slow x.answered x.own)
+reached_is_least R Q x safe = omega (arith, (safe.ever {Urgent = Everyone} tt x.run x.spaced).in_time (answer x.slow _) x.exact x.own)
 
 -- no stream ahead of i can ask twice within x
 abbrev pub OnceEach : Segment → ℕ → ℕ → Type 0

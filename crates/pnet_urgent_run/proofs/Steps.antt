@@ -5,8 +5,7 @@ use mathlib.Core.List.{List, [], ◌∷◌, ◌++◌}
 use native.Mathlib.Omega.{arith}
 use lib.ListN.{length}
 use Rattle.pnet_rules.specs.Segment.{Segment, segment_of}
-use Rattle.pnet_run.specs.Run.{Request, Answer, answer, put, Token, toward, Settled, on_way, next}
-use Rattle.pnet_run.proofs.Walks.{WalkBy, start, move, travel}
+use Rattle.pnet_run.specs.Run.{Request, Answer, answer, put, Token, toward, Settled, on_way, next, RunBy, start, move, travel}
 use Rattle.pnet_run.proofs.Keeping.{put_same}
 use Rattle.pnet_run.proofs.Slowest.{slowest}
 use Rattle.pnet_urgent_run.specs.Stack.{Held, held, Taken, MostUrgent, Everyone, stack_of}
@@ -17,7 +16,7 @@ module _ (size : ℕ → Token → ℕ) (T J : ℕ) where
   S = three_of T J
 
   abbrev pub By : ℕ → Token → (ℕ → Held) → List Request → List Answer → Type 0
-  By = WalkBy (stack_of size S Everyone) S
+  By = RunBy (stack_of size S Everyone) S
 
   pub starts : {d : ℕ} → d ≤ 40 → By 0 (toward 1 d) (λ y. held [] []) [] []
   unfolding segment_of

@@ -13,9 +13,8 @@ use Rattle.pnet_rules.specs.Limits.{Declared}
 use Rattle.pnet_rules.proofs.Holds.{hold_none, charged_first}
 use Rattle.pnet_urgent_rules.specs.Urgent.{ahead}
 use Rattle.pnet_urgent_rules.proofs.Order.{ahead_then}
-use Rattle.pnet_run.specs.Run.{Belongs, Request, request, Answer, answer, put, Token, toward, on_way, next}
+use Rattle.pnet_run.specs.Run.{Belongs, Request, request, Answer, answer, put, Token, toward, on_way, next, RunBy, arrive, move, travel, skip}
 use Rattle.pnet_run.specs.Promise.{other}
-use Rattle.pnet_run.proofs.Walks.{WalkBy, arrive, move, travel, skip}
 use Rattle.pnet_run.proofs.Charges.{belongs_count, in_ring, some_cycle, hold_alike}
 use Rattle.pnet_run.proofs.Keeping.{put_same, put_other, owned_by}
 use Rattle.pnet_run.proofs.Ring.{next_in_ring, gap, gap_own, gap_next, gap_lap, gap_apart}
@@ -54,7 +53,7 @@ module _ (S : Segment) (declared : Declared S) (first-edition : S.edition ≡ 1)
   pub record Stage (t : ℕ) (y : Token) (now : Held) (went : List Answer) : Type 0 where
     pub kept : ℕ → Held
     pub came : List Request
-    pub run : WalkBy (stacked S Everyone) S t y kept came went
+    pub run : RunBy (stacked S Everyone) S t y kept came went
     pub own : kept k ≡ now
     pub others : (m : ℕ) → m ≢ k → kept m ≡ held [] []
     pub spaced : SpacedUpTo S i came
@@ -95,7 +94,7 @@ module _ (S : Segment) (declared : Declared S) (first-edition : S.edition ≡ 1)
     is_handed : handed m ≡ held (new ∷ []) []
     is_handed = put_same come m (held (new ∷ []) [])
 
-    given : WalkBy (stacked S Everyone) S t (toward m 0) handed (new ∷ g.came) went
+    given : RunBy (stacked S Everyone) S t (toward m 0) handed (new ∷ g.came) went
     given =
         move {m = m} {left = held (new ∷ []) []} (arrive g.run on_way b) on_way
         (rw is_come (omega arith), record { handed = new; out = rw is_come here; into = rw is_come refl; picked = λ u. rw is_come (alone S new) })

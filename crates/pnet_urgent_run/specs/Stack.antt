@@ -8,8 +8,8 @@
 -- * When the stack has none. The source does not say whether that is when the message of its request starts or when its answer is complete, and page 02 leaves it
 --   open. With `stacked` it is when the answer is complete: the request counts as one in the stack until then. With `early` it is when the token has taken the
 --   request up, so that a second one may be handed down while the first is under way. Ask 11's figure holds for `stacked` (proofs/Figures) and not for `early` (proofs/Early).
--- * 'May be transferred': at any instant, before, between or behind its arrivals, once its completions are over and before the token's arrival has been dealt with
---   (Run: Free). So the most urgent of those that have come is handed down, and one that comes later in the same instant finds the stack full.
+-- * 'May be transferred': at any instant, before, between or behind its arrivals, as long as no completion is due. So the most urgent of those that have come is
+--   handed down, and one that comes later in the same instant finds the stack full.
 -- * No visit is wasted: a visit goes unused only where nothing is in the stack and nothing waits. Where something waits and the stack is empty when the token
 --   comes, something is handed down first.
 -- * Not every master has to do so. `Urgent` says which ones do; each other master hands down any of those that wait, the oldest for instance (proofs/Oldest).

@@ -12,7 +12,7 @@ use Rattle.pnet_crossing.specs.declared.Crossing.{Crossing}
 use Rattle.pnet_crossing.specs.declared.Crossing.TheVariants as crossing
 use Rattle.pnet_path.specs.Path.{Path, crossed}
 use Rattle.pnet_path.specs.Refusals.{Each, FirstBad, Taken, Untaken, Sheets, Given, Accepted}
-use Rattle.pnet_path.proofs.Refusals.{sheet_reads, sheet_refuses, refused_exactly, accepted_exactly}
+use Rattle.pnet_path.proofs.Refusals.{refused_exactly, accepted_exactly}
 use Rattle.report_path_lines.specs.Lines.{sheet_refusal, path_refusal}
 use Rattle.report_path.specs.Report.{path_lines, answer_text, sheet_or, report_from, path_report, is_within, path_accepts}
 
@@ -23,7 +23,7 @@ module _ (P : Path) where
   report_behind zero m e t = ap (λ (x : ℕ). report_from P x 1) (sym (sym (zero-add m) ∙ e))
   report_behind (suc n) m e t =
       report_behind n (suc m) (omega arith) (λ j lo hi. t j lo (omega arith))
-      ∙ ap (λ (o : Outcome). sheet_or (suc n) o (report_from P m (suc (suc n)))) (sheet_reads P (suc n) (t (suc n) (omega arith) (omega arith)).sound)
+      ∙ ap (λ (o : Outcome). sheet_or (suc n) o (report_from P m (suc (suc n)))) (t (suc n) (omega arith) (omega arith)).reads
 
   -- of a path with a sheet that is refused: the first of them, with its number and place and its segment
   pub says_the_first_refused_sheet : {i n p : ℕ} → FirstBad (Taken P) (Untaken n p P) P.segments i → path_report P ≡ sheet_refusal i n p
@@ -32,7 +32,7 @@ module _ (P : Path) where
   says_the_first_refused_sheet {i = suc i} b =
       let rest = P.segments - suc i in
       report_behind i (suc rest) (omega (arith, b.to)) (λ j lo hi. b.before j lo (omega arith))
-      ∙ ap (λ (o : Outcome). sheet_or (suc i) o (report_from P rest (suc (suc i)))) (sheet_refuses P (suc i) b.itself)
+      ∙ ap (λ (o : Outcome). sheet_or (suc i) o (report_from P rest (suc (suc i)))) b.itself
 
   -- where all are accepted, what the path is answered is told
   pub says_the_answer : Sheets P → path_report P ≡ answer_text P (crossed P)

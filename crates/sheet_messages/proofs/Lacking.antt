@@ -17,10 +17,10 @@ unfolding lacks_in
 lacks_none y given e h = rw (add-one, e) (ne_eqb (get_or given (suc y) 0) 0 (λ z. h (rw add-one z)))
 
 -- master y has none
-pub lacks_there : (y n : ℕ) (given : List ℕ) → 1 ≤ y → y ≤ n → get_or given y 0 ≡ 0 → lacks_in n given ≡ true
+pub lacks_one : (y n : ℕ) (given : List ℕ) → 1 ≤ y → y ≤ n → get_or given y 0 ≡ 0 → lacks_in n given ≡ true
 unfolding lacks_in
-lacks_there y zero given l h e = absurd (omega arith)
-lacks_there y (suc n) given l h e = split (ℕ_discrete y (suc n)) (lacks_there y n given l)
+lacks_one y zero given l h e = absurd (omega arith)
+lacks_one y (suc n) given l h e = split (ℕ_discrete y (suc n)) (lacks_one y n given l)
   where
     split : Dec (y ≡ suc n) → (y ≤ n → get_or given y 0 ≡ 0 → lacks_in n given ≡ true) → (lacks_in n given || eqb (get_or given (suc n) 0) 0) ≡ true
     split (yes q) ih = rw (eq-eqb (get_or given (suc n) 0) 0 (ap (λ (k : ℕ). get_or given k 0) (sym q) ∙ e)) (or-true (lacks_in n given))

@@ -1,5 +1,5 @@
 // The longest messages of a ring's masters, page 02 'Ask 8': which are given, and what counts for each master.
-ghost use Rattle.std.specs.Prelude.{◌≡◌, ◌≤◌, min, length, get_or};
+ghost use Rattle.std.specs.Prelude.{◌≡◌, ◌≤◌, length, get_or};
 ghost use Rattle.common.specs.Runs.{tab};
 ghost use Rattle.sheet_messages.specs.Messages.{message_by, lacks_in, message_at};
 
@@ -7,7 +7,7 @@ ghost use Rattle.sheet_messages.specs.Messages.{message_by, lacks_in, message_at
 const GREATEST: u32 = 100000;
 
 // One of masters 1..n has none.
-fn lacks_one(given: &[u32; 33], n: u32) -> bool
+pub fn lacks(given: &[u32; 33], n: u32) -> bool
     requires { n ≤ 32 }
     ensures { result ≡ lacks_in n given.now }
 {
@@ -20,16 +20,6 @@ fn lacks_one(given: &[u32; 33], n: u32) -> bool
         }
     }
     false
-}
-
-// One of masters 1..n has none, of the 32 that there can be.
-pub fn lacks(given: &[u32; 33], n: u32) -> bool
-    ensures { result ≡ lacks_in (min n 32) given.now }
-{
-    if 32 < n {
-        return lacks_one(given, 32);
-    }
-    lacks_one(given, n)
 }
 
 // What counts for a master: its own where it is given, and else the greatest.

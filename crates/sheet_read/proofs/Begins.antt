@@ -3,7 +3,7 @@ use mathlib.Core.Path.{◌≡◌, refl, sym, ap, ◌∙◌}
 use mathlib.Core.Bool.{Bool, true, false, cond, not, ◌&&◌, ◌||◌, and-false, or-false}
 use mathlib.Core.List.{List, [], ◌∷◌, ◌++◌}
 use mathlib.Core.Logic.{◌⊎◌, inl, inr}
-use Prim.Native.Nat.{ℕ, zero, suc, ◌+◌, ◌≤◌, ◌<◌, min}
+use Prim.Native.Nat.{ℕ, zero, suc, ◌+◌, ◌≤◌, ◌<◌}
 use native.Mathlib.Omega.{arith}
 use borrow.Author.Tests.{ne_eqb, ltb-true, ltb-false}
 use lib.ListN.{length, get_or, set, replicate, length-append, get_or-eq_default}
@@ -435,7 +435,7 @@ module _ {s : List ℕ} {head : Record} {first : ℕ} {g : Given} {messages : Li
 
   -- no other stands behind them
   pub opened_messages : (get_or s at 0 ≡ 10 → ⊥) → (counted' : List ℕ) (lacks' : Bool) → counted' ≡ tab (λ y. message_by (get_or messages y 0)) 33
-      → lacks' ≡ lacks_in (min head.a 32) messages → Opened s head at counted' lacks'
+      → lacks' ≡ lacks_in head.a messages → Opened s head at counted' lacks'
   opened_messages none counted' lacks' ec el =
       let S = before s (suc i) in
       let limits : counted' ≡ tab (message_of S) 33 = ec ∙ counts_each v.gives S refl ring_is in
@@ -451,7 +451,7 @@ module _ {s : List ℕ} {head : Record} {first : ℕ} {g : Given} {messages : Li
         of_any = of_every (message_of S) counted' limits (counts_past v.gives S refl ring_is);
         is_lacking =
             let h = ap (λ (r : Record). r.a) (head_of_law v.begun i) in
-            el ∙ (ap (λ (n : ℕ). lacks_in n messages) (omega (arith, ring_masters, h)) ∙ lacks_told v.gives S refl ring_is (omega (arith, ring_masters)));
+            el ∙ (ap (λ (n : ℕ). lacks_in n messages) (sym h) ∙ lacks_told v.gives S refl ring_is (omega (arith, ring_masters)));
       }
 
 -- a ring of kind 9 has no M itself

@@ -245,7 +245,7 @@ fn read_behind(
 
 // What a whole sheet is: accepted, or refused with a number and a place. One pass reads it and gathers what the planners ask of a master: it
 // hands over, where the sheet is accepted, at place k the number of master k's streams, the longest C of them, and its longest message.
-fn read_whole(
+pub fn read_whole(
     s: &[u8],
     counts: &mut [u8; 33],
     longests: &mut [u32; 33],

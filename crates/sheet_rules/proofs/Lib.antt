@@ -12,5 +12,4 @@ pub mod Refusals
 pub mod Settled
 pub mod Trips
 pub mod Walk
-pub mod Words
 pub mod Writes

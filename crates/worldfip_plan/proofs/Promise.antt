@@ -18,10 +18,8 @@ use Rattle.sheet_rules.proofs.Known.{Known}
 use Rattle.units.specs.declared.Micros.{Micros}
 use Rattle.worldfip_rules.specs.Table.{Table}
 use Rattle.worldfip_rules.specs.Traffic.{Traffic, rows, asked_of, row_of}
-use Rattle.worldfip_rules.specs.Service.{ObeysService}
 use Rattle.worldfip_rules.proofs.Rows.{table_same}
 use Rattle.worldfip_rules.proofs.Factors.{asked_sound}
-use Rattle.worldfip_rules.proofs.Service.{obeys_same, the_rows_obey_the_service_sentences}
 use Rattle.worldfip_figures.specs.Declares.{traffic_of}
 use Rattle.worldfip_figures.proofs.Passing.{declared}
 use Rattle.worldfip_plan.specs.declared.answer.Plan.{Plan}
@@ -96,9 +94,3 @@ module _ (s : List ℕ) (S : Sheet) (known : Known s S) (old : List ℕ) (c : Mi
   accepted_table =
       table_same (asked_of (traffic_of S)) (asked_sound (traffic_of S) (declared s S known how.bus)) (row_of (traffic_of S)) (λ m. get_or (run_of (Read S) old) m 0)
       (λ m l. sym (accepted_rows m l)) how.is_table
-
-  -- and its rows obey the page's sentences of service
-  pub accepted_obeys : ObeysService (traffic_of S) (λ m. get_or (run_of (Read S) old) m 0)
-  accepted_obeys =
-      obeys_same (traffic_of S) (row_of (traffic_of S)) (λ m. get_or (run_of (Read S) old) m 0) (λ m l. sym (accepted_rows m l))
-      (the_rows_obey_the_service_sentences (traffic_of S) (declared s S known how.bus))

@@ -2,7 +2,7 @@
 use mathlib.Core.Path.{◌≡◌, refl, sym, ap, ◌∙◌, subst}
 use mathlib.Core.Bool.{true}
 use mathlib.Core.Logic.{◌⊎◌, inl, inr}
-use Prim.Native.Nat.{ℕ, zero, suc, ◌^◌, ◌≤◌, ◌<◌}
+use Prim.Native.Nat.{ℕ, suc, ◌^◌, ◌≤◌, ◌<◌}
 use native.Mathlib.Nat.{zero-add, eq-zero-or-pos}
 use native.Mathlib.Omega.{arith}
 use native.Mathlib.Decide.{ℕ_discrete, dec_lt}
@@ -13,22 +13,10 @@ use Rattle.worldfip_sets.specs.Sets.{bit, lowest}
 use Rattle.worldfip_sets.proofs.Members.{bit_small, bit_none, same_members, Lowest}
 use Rattle.worldfip_sets.proofs.Picks.{lowest_is, lowest_picks}
 use Rattle.worldfip_rules.specs.Build.{new, by_rank, pending, miss_at, miss_row}
-use Rattle.worldfip_rules.specs.Traffic.{Traffic, Declared, variable_of, rows, asked_of, pending_of, row_of, late_of, miss_of, missing_of}
-use Rattle.worldfip_rules.specs.Service.{Pending}
+use Rattle.worldfip_rules.specs.Traffic.{Traffic, Declared, variable_of, rows, asked_of, pending_of, late_of, miss_of, missing_of}
 use Rattle.worldfip_rules.specs.Misses.{Miss, Named}
 use Rattle.worldfip_rules.proofs.Steps.{rank_picking, late_bit, late_below}
-use Rattle.worldfip_rules.proofs.Service.{unserved_still, none_before_0, pending_then, left_over, the_rows_obey_the_service_sentences, no_other_rows_do}
 use Rattle.worldfip_rules.proofs.Promises.{new_request_if, new_request_then, no_miss_before, miss_at_its_row}
-
--- rows before m alone say who misses there
-miss_same : (T : Traffic) (X Y : ℕ → ℕ) (m r : ℕ) → ((l : ℕ) → l < m → X l ≡ Y l) → Miss T X m r → Miss T Y m r
-miss_same T X Y m r e h = record {
-  since = h.since;
-  before = h.before;
-  asked = h.asked;
-  unserved = λ l lo hi. ap (λ (x : ℕ). bit x r) (sym (e l hi)) ∙ h.unserved l lo hi;
-  next = h.next;
-}
 
 module _ (T : Traffic) (D : Declared T) where
   few : T.number ≤ 64
@@ -39,29 +27,17 @@ module _ (T : Traffic) (D : Declared T) where
   late_under m = late_below (asked_of T) by_rank (rank_picking (asked_of T) few) m
 
   -- who is late at row m misses there, and who misses is late
-  late_miss : (m r : ℕ) → r < T.number → bit (late_of T m) r ≡ 1 → Miss T (row_of T) m r
-  late_miss zero r l e = absurd (omega (arith, e, late_bit (asked_of T) by_rank 0 r, none_before_0 T D r))
-  late_miss (suc m) r l e =
-      let b = late_bit (asked_of T) by_rank (suc m) r in
-      let p = bit_small (pending_of T (suc m)) r in
-      let n = bit_small (new (asked_of T) (suc m)) r in
-      let w = pending_then T D m r l (omega (arith, b, e, p, n)) in
-      record {
-        since = w.0.since;
-        before = omega (arith, w.0.by);
-        asked = w.0.asked;
-        unserved = λ k lo hi. unserved_still T (row_of T) m r w.0 w.1 k (omega arith) hi;
-        next = record { rank = l; due = new_request_then T D (suc m) r l (omega (arith, b, e, p, n)) };
-      }
+  late_miss : (m r : ℕ) → r < T.number → bit (late_of T m) r ≡ 1 → Miss T m r
+  late_miss m r l e =
+      let b = late_bit (asked_of T) by_rank m r in
+      let p = bit_small (pending_of T m) r in
+      let n = bit_small (new (asked_of T) m) r in
+      record { rank = l; pending = omega (arith, b, p, n); due = new_request_then T D m r l (omega (arith, b, p, n)) }
 
-  miss_late : (m r : ℕ) → Miss T (row_of T) m r → bit (late_of T m) r ≡ 1
-  miss_late zero r h = absurd (omega (arith, h.before))
-  miss_late (suc m) r h =
-      let p : Pending T (row_of T) m r = record { since = h.since; by = omega (arith, h.before); asked = h.asked; unserved = λ l lo hi. h.unserved l lo (omega arith) } in
-      let w = left_over T D m r p (h.unserved m (omega (arith, h.before)) (omega arith)) in
-      omega (arith, late_bit (asked_of T) by_rank (suc m) r, w, new_request_if T D (suc m) r h.next.rank h.next.due)
+  miss_late : (m r : ℕ) → Miss T m r → bit (late_of T m) r ≡ 1
+  miss_late m r h = omega (arith, late_bit (asked_of T) by_rank m r, h.pending, new_request_if T D m r h.rank h.due)
 
-  some_late : (m r : ℕ) → Miss T (row_of T) m r → 0 < late_of T m
+  some_late : (m r : ℕ) → Miss T m r → 0 < late_of T m
   some_late m r h = go (eq-zero-or-pos (late_of T m))
     where
       go : (late_of T m ≡ 0) ⊎ (0 < late_of T m) → 0 < late_of T m
@@ -80,8 +56,6 @@ module _ (T : Traffic) (D : Declared T) where
       let w = lowest_late m h in
       let u = ((lowest_picks T.number few).in_set (late_of T m) h (late_under m)).0 in
       record {
-        table = row_of T;
-        served = the_rows_obey_the_service_sentences T D;
         row = m;
         within = l;
         rank = lowest (late_of T m);
@@ -92,31 +66,18 @@ module _ (T : Traffic) (D : Declared T) where
       }
 
   module _ {i : ℕ} (N : Named T i) where
-    -- the rows are these, so who misses in the ones misses in the others
-    same : (m : ℕ) → m < rows T → N.table m ≡ row_of T m
-    same = no_other_rows_do T D N.table N.served
-
-    here : (m r : ℕ) → m ≤ rows T → Miss T N.table m r → Miss T (row_of T) m r
-    here m r k h = miss_same T N.table (row_of T) m r (λ l x. same l (omega arith)) h
-
-    there : (m r : ℕ) → m ≤ rows T → Miss T (row_of T) m r → Miss T N.table m r
-    there m r k h = miss_same T (row_of T) N.table m r (λ l x. sym (same l (omega arith))) h
-
-    own : Miss T (row_of T) N.row N.rank
-    own = here N.row N.rank N.within N.misses
-
     quiet : (m : ℕ) → m < N.row → late_of T m ≡ 0
     quiet m l = same_members T.number (late_of T m) 0 (late_under m) (pow_pos T.number) (λ r k. none r k (ℕ_discrete (bit (late_of T m) r) 1) ∙ sym (bit_none r))
       where
         none : (r : ℕ) → r < T.number → Dec (bit (late_of T m) r ≡ 1) → bit (late_of T m) r ≡ 0
-        none r k (yes e) = absurd (N.earliest m r l (there m r (omega (arith, l, N.within)) (late_miss m r k e)))
+        none r k (yes e) = absurd (N.earliest m r l (late_miss m r k e))
         none r k (no e) = omega (arith, e, bit_small (late_of T m) r)
 
     row_is : miss_of T ≡ N.row
     unfolding miss_row miss_at asked_of
     row_is =
         first_hit (miss_at (asked_of T) by_rank) N.row 0 (suc (rows T)) (λ j lo hi. le-ltb 0 (late_of T j) (omega (arith, quiet j (omega arith))))
-        (subst (λ (k : ℕ). miss_at (asked_of T) by_rank k ≡ true) (sym (zero-add N.row)) (lt-ltb 0 (late_of T N.row) (some_late N.row N.rank own)))
+        (subst (λ (k : ℕ). miss_at (asked_of T) by_rank k ≡ true) (sym (zero-add N.row)) (lt-ltb 0 (late_of T N.row) (some_late N.row N.rank N.misses)))
         (omega (arith, N.within))
         ∙ zero-add N.row
 
@@ -132,15 +93,15 @@ module _ (T : Traffic) (D : Declared T) where
         x = late_of T N.row
 
         w : Lowest 64 x (lowest x)
-        w = lowest_late N.row (some_late N.row N.rank own)
+        w = lowest_late N.row (some_late N.row N.rank N.misses)
 
         rank_is : lowest x ≡ N.rank
         rank_is = go (dec_lt (lowest x) N.rank) (dec_lt N.rank (lowest x))
           where
             u : lowest x < T.number
-            u = ((lowest_picks T.number few).in_set x (some_late N.row N.rank own) (late_under N.row)).0
+            u = ((lowest_picks T.number few).in_set x (some_late N.row N.rank N.misses) (late_under N.row)).0
 
             go : Dec (lowest x < N.rank) → Dec (N.rank < lowest x) → lowest x ≡ N.rank
-            go (yes l) d = absurd (N.best (lowest x) l (there N.row (lowest x) N.within (late_miss N.row (lowest x) u w.member)))
-            go (no l) (yes k) = absurd (omega (arith, w.first N.rank k, miss_late N.row N.rank own))
+            go (yes l) d = absurd (N.best (lowest x) l (late_miss N.row (lowest x) u w.member))
+            go (no l) (yes k) = absurd (omega (arith, w.first N.rank k, miss_late N.row N.rank N.misses))
             go (no l) (no k) = omega (arith, l, k)

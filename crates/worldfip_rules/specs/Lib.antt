@@ -1,5 +1,4 @@
 pub mod Table
 pub mod Build
 pub mod Traffic
-pub mod Service
 pub mod Misses

@@ -10,7 +10,7 @@ use lib.Count.{count_trailing_zeros, under, ones, ones_step}
 use lib.Pow.{pow_pos, pow_mono, pow-lt, field, mod-mod-pow}
 use borrow.Author.Tests.{lt-ltb, le-ltb}
 use Rattle.common.specs.Sums.{when, sum}
-use Rattle.common.proofs.FromZero.{sum_front, sum_same, sum_add, sum_each}
+use Rattle.common.proofs.FromZero.{sum_front, sum_same, sum_each}
 use Rattle.worldfip_sets.specs.Sets.{bit, alone, set_of}
 
 pub bit_zero : (x : ℕ) → bit x 0 ≡ x % 2
@@ -147,24 +147,6 @@ ones_sum (suc n) x h =
 pub no_ones : (n x : ℕ) → x < 2 ^ n → ones x ≡ 0 → x ≡ 0
 no_ones n x l e =
     same_members n x 0 l (pow_pos n) (λ r k. sum_each (bit x) n r (sym (ones_sum n x l) ∙ e) k ∙ sym (bit_none r))
-
--- a part of y that has as many members has them all
-pub no_fewer : (n y z : ℕ) → y < 2 ^ n → z < 2 ^ n → ((r : ℕ) → r < n → bit z r ≤ bit y r) → ones y ≤ ones z → (r : ℕ) → r < n → bit y r ≤ bit z r
-no_fewer n y z ly lz part few r l = omega (arith, sum_each rest n r none l)
-  where
-    rest : ℕ → ℕ
-    rest k = bit y k - bit z k
-
-    none : sum rest n ≡ 0
-    none =
-        omega (
-          arith,
-          few,
-          ones_sum n y ly,
-          ones_sum n z lz,
-          sum_add (bit z) rest n,
-          sum_same (λ k. bit z k + rest k) (bit y) n (λ k i. omega (arith, part k i)),
-        )
 
 -- ---- The lowest member
 

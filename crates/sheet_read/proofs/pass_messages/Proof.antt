@@ -87,7 +87,7 @@ loop-again c =
     }
 
 lacks-requires : tie.Need-lacks-requires invariant-loop decreases-loop
-lacks-requires c κs = search rules
+lacks-requires c κs = omega (arith, ring_masters c.before.before.before.loop.invariant.giving)
 
 count-missing-requires : tie.Need-count-missing-requires invariant-loop decreases-loop
 count-missing-requires c κs = search rules

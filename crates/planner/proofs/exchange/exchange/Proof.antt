@@ -27,17 +27,6 @@ returns-2 c = search rules
 array-share-prefix-sheet : tie.Need-array-share-prefix-sheet
 array-share-prefix-sheet c = search rules
 
-slice-aggregate-write-text : tie.Need-slice-aggregate-write-text
-slice-aggregate-write-text c =
-    let read = c.before.before.before.before.before.before.read-sheet in
-    sym (length-take-le _ _ (omega (arith, read.ensures.0, read.auto.1.1.0)))
-
-write-text-requires : tie.Need-write-text-requires
-write-text-requires c κs = search rules
-
-array-share-prefix-sheet-2 : tie.Need-array-share-prefix-sheet-2
-array-share-prefix-sheet-2 c = search rules
-
 slice-aggregate-write-sheet : tie.Need-slice-aggregate-write-sheet
 slice-aggregate-write-sheet c =
     let read = c.before.before.before.before.before.before.read-sheet in
@@ -45,6 +34,17 @@ slice-aggregate-write-sheet c =
 
 write-sheet-requires : tie.Need-write-sheet-requires
 write-sheet-requires c κs = search rules
+
+array-share-prefix-sheet-2 : tie.Need-array-share-prefix-sheet-2
+array-share-prefix-sheet-2 c = search rules
+
+slice-aggregate-write-text : tie.Need-slice-aggregate-write-text
+slice-aggregate-write-text c =
+    let read = c.before.before.before.before.before.before.read-sheet in
+    sym (length-take-le _ _ (omega (arith, read.ensures.0, read.auto.1.1.0)))
+
+write-text-requires : tie.Need-write-text-requires
+write-text-requires c κs = search rules
 
 returns-3 : tie.Need-returns-3
 returns-3 c = search rules
@@ -63,10 +63,10 @@ exchange-spec =
     refuse-requires
     returns-2
     array-share-prefix-sheet
-    slice-aggregate-write-text
-    write-text-requires
-    array-share-prefix-sheet-2
     slice-aggregate-write-sheet
     write-sheet-requires
+    array-share-prefix-sheet-2
+    slice-aggregate-write-text
+    write-text-requires
     returns-3
     returns-4)

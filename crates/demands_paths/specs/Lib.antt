@@ -1,2 +1,0 @@
-pub mod Relayed
-pub mod Spacing
