@@ -1,5 +1,6 @@
 // How long a request has been open, and how far ahead of the earliest instant at which it can be due it came, by a clock of 64 bits that goes on
 // where the tester's counter runs over: what one record does to it.
+#![tactic(auto)]
 ghost use Rattle.std.specs.Prelude.{◌≡◌, ◌+◌, ◌%◌, ◌^◌, not, ◌&&◌, if◌then◌else◌, ◌==◌, nat_eq, nat_lt};
 ghost use Rattle.common.specs.Sums.{when};
 ghost use Rattle.capture_ages.specs.Ages.{lead_behind, kept_lead};
@@ -9,7 +10,7 @@ use capture_log::Event;
 
 // The clock and the stamp at the latest record, both 0 before the first; whether two successive records were 2^31 bp or more apart; how many
 // requests came too soon; and the stream of the first of these, 0 for none.
-#[derive(Drop)]
+#[derive(Clone, Copy)]
 pub struct Watch {
     pub clock: u64,
     pub stamp: u32,

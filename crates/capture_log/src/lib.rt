@@ -1,4 +1,5 @@
 // The records of a capture, page 02 'Ask 1'.
+#![tactic(auto)]
 ghost use Rattle.std.specs.Prelude.{◌≡◌, ◌+◌, ◌<◌, ◌≤◌, true, length};
 ghost use Rattle.units.specs.Units.{bp};
 ghost use Rattle.sheet_record.specs.Numbers.{be};
@@ -10,7 +11,7 @@ use units::BitPeriods;
 
 // One record: kind 16, a request that enters its queue, or 17, its completed answer; the stream's number; and the stamp, a counter
 // of bp that runs over to zero. All are 0 where no record stands.
-#[derive(Drop)]
+#[derive(Clone, Copy)]
 pub struct Event {
     pub kind: u8,
     pub stream: u32,

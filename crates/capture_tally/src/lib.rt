@@ -1,5 +1,6 @@
 // A tester's capture, page 02 'Ask 1', taken piece by piece: `take` goes over a piece once, and what it keeps is one place for each
 // stream of five runs.
+#![tactic(auto)]
 ghost use Rattle.std.specs.Prelude.{◌≡◌, ℕ, ◌<◌, ◌≤◌, min, max, length, nat_lt, slice_index};
 ghost use Rattle.common.specs.Checks.{verdict};
 ghost use Rattle.common.specs.Sums.{when};
@@ -13,7 +14,7 @@ use capture_log::Event;
 use sheet_read::MOST;
 
 // What taking a piece answers: all its records, or the refusal's number and its place in the piece.
-#[derive(Drop)]
+#[derive(Clone, Copy)]
 pub enum Taken {
     All,
     Refused { no: u8, place: usize },

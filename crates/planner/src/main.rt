@@ -1,6 +1,7 @@
 // Reads a sheet from standard input, or from the file that its argument names, and writes its report to standard output. With a
 // second name it lays that capture beside the sheet's bounds; both, with urgent requests first, behind a command's word too; behind the others it does what the help lists. How the call ended it
 // says last, on descriptor 3.
+#![tactic(auto)]
 mod along;
 mod exchange;
 mod rewrite;

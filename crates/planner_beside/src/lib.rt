@@ -1,4 +1,5 @@
 // A tester's capture beside the bounds of a sheet, by the rule of urgent requests first or by that of first-come queues, read piece by piece: nothing is kept of a capture but what `report_beside::hear` keeps.
+#![tactic(auto)]
 ghost use Rattle.report_beside.specs.Whole.{tally};
 ghost use Rattle.report_beside.specs.Kept.{Holds, Shows, Tells};
 

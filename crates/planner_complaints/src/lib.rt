@@ -1,5 +1,6 @@
 // What the program says on standard error of its inputs: bytes that are shown so that no terminal takes them for something else, and what is wrong with a
 // text (`slips`). Nothing here answers anything or changes anything that is lent.
+#![tactic(auto)]
 mod advice;
 mod place;
 mod scan;

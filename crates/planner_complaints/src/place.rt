@@ -6,7 +6,7 @@ use sheet_said::guess;
 
 // The place where a line stops being the one that it can be; the byte that is wanted there, 0 where a number is too big for its field; and whether a
 // number is cut off there, or missing.
-#[derive(Drop)]
+#[derive(Clone, Copy)]
 pub(crate) struct Slip {
     pub(crate) at: usize,
     pub(crate) wanted: u8,
@@ -14,7 +14,7 @@ pub(crate) struct Slip {
 }
 
 // A cell's number, 0 for the word, and the place of its first byte.
-#[derive(Drop)]
+#[derive(Clone, Copy)]
 pub(crate) struct Cell {
     pub(crate) number: usize,
     pub(crate) start: usize,

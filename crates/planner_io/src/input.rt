@@ -13,7 +13,7 @@ use text::put_word;
 const PIECES: usize = 281_474_976_710_656;
 
 // What was read: how many bytes, and whether a read failed.
-#[derive(Drop)]
+#[derive(Clone, Copy)]
 pub struct Input {
     pub length: usize,
     pub failed: bool,
@@ -70,7 +70,7 @@ pub fn open(name: &[u8]) -> i32 {
 
 // What was given as a sheet: how many bytes of it are kept; the number of a line that is not of a text's form, 0 if there is none; and whether a
 // read failed. What went wrong is then said.
-#[derive(Drop)]
+#[derive(Clone, Copy)]
 pub struct Given {
     pub length: usize,
     pub line: usize,

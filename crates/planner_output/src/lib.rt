@@ -1,5 +1,6 @@
 // What the program writes and how a call ends: a finished text to standard output, words to standard error, and how it ended to descriptor 3, as one byte, from
 // which whoever started the program makes an exit status.
+#![tactic(auto)]
 ghost use Rattle.std.specs.Prelude.{◌≡◌, cond, ◌⊎◌, min};
 
 use libc::{STDERR_FILENO, STDOUT_FILENO};

@@ -1,4 +1,5 @@
 // The report of a sheet whose urgent requests go first.
+#![tactic(auto)]
 ghost use Rattle.report_urgent.specs.Stored.{Tells};
 
 use planner_output::{ACCEPTED, REFUSED};

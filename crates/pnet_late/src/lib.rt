@@ -1,4 +1,5 @@
 // A P-NET sheet judged without a search: V under its edition, and the first stream that 8 is given for.
+#![tactic(auto)]
 ghost use Rattle.std.specs.Prelude.{◌≡◌, ℕ, ◌≤◌};
 ghost use Rattle.sheet_record.specs.Kinds.{pnet};
 ghost use Rattle.sheet_rules.specs.Ready.{Ready};
@@ -8,7 +9,7 @@ ghost use Rattle.pnet_plan.specs.Arrays.{segment_in, Sheeted};
 ghost use Rattle.pnet_plan.specs.Planned.{first_late};
 
 // V of a sheet under its edition, and its first stream whose master's R is above its D, the number past the last where there is none.
-#[derive(Drop)]
+#[derive(Clone, Copy)]
 pub struct Judged {
     pub turn: u32,
     pub late: usize,

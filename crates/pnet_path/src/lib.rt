@@ -1,5 +1,6 @@
 // A path over several P-NET segments, page 02 'Ask 4'. It is handed over segment by segment, each with the gateway that leads to it, so
 // a list of forwarding times of another length cannot be said, and no run is lent. What is kept has a place for each of eleven segments.
+#![tactic(auto)]
 ghost use Rattle.std.specs.Prelude.{◌≡◌, ◌-◌};
 ghost use Rattle.pnet_path.specs.Ways;
 ghost use Rattle.pnet_path.specs.Ways.{started, one_more_of, over_to, answer_of};
@@ -10,7 +11,7 @@ use units::BitPeriods;
 
 // The segments so far. Place i of `masters` and `bounds` is for segment i, place i of `times` for gateway i, which lies between segments
 // i and i + 1; place 0 is not looked at. Where the sheet of the last segment was refused, it is so with this number and place.
-#[derive(Drop)]
+#[derive(Clone, Copy)]
 pub struct Way {
     pub segments: usize,
     pub refused: bool,

@@ -1,1 +1,2 @@
 // The P-NET rules of page 01 as definitions and laws; no code.
+#![tactic(auto)]

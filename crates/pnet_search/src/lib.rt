@@ -1,4 +1,5 @@
 // The refined search, page 01 'P-NET bounds': R, W and rounds of a segment's masters, from the arrays in which the planner sets the segment out.
+#![tactic(auto)]
 ghost use Rattle.std.specs.Prelude.{◌≡◌, ℕ, ◌+◌, ◌-◌, ◌*◌, ◌≤◌, ◌<◌, min, length};
 ghost use Rattle.common.specs.Runs.{filled};
 ghost use Rattle.pnet_turn.specs.Turn.{at};
@@ -7,21 +8,21 @@ ghost use Rattle.pnet_search.specs.Arrays.{asked_in, asked_at, bound_in, right_i
 use units::BitPeriods;
 
 // W of a master, and its rounds.
-#[derive(Drop)]
+#[derive(Clone, Copy)]
 struct Found {
     refined: u32,
     rounds: u32,
 }
 
 // What a look at a master's streams shows: min(s, a(y)), and the longest window in which it is the same.
-#[derive(Drop)]
+#[derive(Clone, Copy)]
 struct Looked {
     asked: u32,
     until: u32,
 }
 
 // What is saved at a master, and the last W at which it is the same.
-#[derive(Drop)]
+#[derive(Clone, Copy)]
 struct Saving {
     saved: u32,
     until: u32,

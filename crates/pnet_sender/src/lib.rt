@@ -1,4 +1,5 @@
 // What the sheet of one segment of a path says, page 02 'Ask 4': R of the master that sends there, without a search.
+#![tactic(auto)]
 ghost use Rattle.std.specs.Prelude.{◌≡◌, leb};
 ghost use Rattle.common.specs.Sums.{when};
 ghost use Rattle.pnet_turn.specs.Turn.{at};
@@ -9,7 +10,7 @@ use sheet_read::Reading;
 use units::BitPeriods;
 
 // What the sheet of a segment says of the master that sends there: its R, or the refusal's number and place.
-#[derive(Drop)]
+#[derive(Clone, Copy)]
 pub enum Sender {
     Bound(BitPeriods),
     Refused { no: u8, place: usize },

@@ -1,5 +1,6 @@
 // The bus of page 01, 'How a P-NET run goes', at its slowest: every stream asks once, at 0, when the token has just left master k;
 // each reaction takes 7 bp and each message all of its C.
+#![tactic(auto)]
 ghost use Rattle.std.specs.Prelude.{◌≡◌, true, ◌+◌, ◌≤◌, ◌<◌, ◌^◌, max, length, eqb, get_or};
 ghost use Rattle.common.specs.Runs.{filled};
 ghost use Rattle.common.specs.Sums.{first_of};
@@ -8,7 +9,7 @@ ghost use Rattle.pnet_simulate.specs.Simulated.{oldest_of, bus_of, visited, visi
 ghost use Rattle.pnet_simulate.specs.Told.{segment_by, Told};
 
 // Where a run stands: the token arrives at this instant, at this master.
-#[derive(Drop)]
+#[derive(Clone, Copy)]
 pub struct Stage {
     pub now: u64,
     pub master: u8,

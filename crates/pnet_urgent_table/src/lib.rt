@@ -1,5 +1,6 @@
 // How often the streams of one master ask, laid out on one block of slots after the other, page 02 'Ask 11'. One function of the slot serves the search of every stream of the
 // master; it is counted once, without a division for each slot.
+#![tactic(auto)]
 ghost use Rattle.std.specs.Prelude.{◌≡◌, ℕ, ◌+◌, ◌≤◌, ◌<◌, length};
 ghost use Rattle.common.specs.Sums.{sum};
 ghost use Rattle.pnet_turn.specs.Turn.{at};
@@ -10,7 +11,7 @@ ghost use Rattle.pnet_urgent_table.specs.Tally.{Asking, Tallied, Risen};
 pub const BLOCK: usize = 512;
 
 // What is kept of one stream between two blocks.
-#[derive(Drop)]
+#[derive(Clone, Copy)]
 struct Ahead {
     next: u32,
     rest: u32,

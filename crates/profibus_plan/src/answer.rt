@@ -1,7 +1,7 @@
 use units::RingPeriods;
 
 // What the planner answers.
-#[derive(Drop)]
+#[derive(Clone, Copy)]
 pub enum Plan {
     // The largest TTR, and the first stream that fails at TTR + 1.
     Target {

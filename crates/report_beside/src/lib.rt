@@ -1,6 +1,7 @@
 // The report of a tester's capture beside a P-NET sheet, page 02 'Ask 1' and 'Ask 11', from the bytes of both. The capture comes piece by piece, each but the
 // last ended by a record: `begin` with the sheet, `hear` each piece, `report` behind the last. What is kept between is one place for each
 // stream in eleven runs, which the caller lends to all three.
+#![tactic(auto)]
 ghost use Rattle.std.specs.Prelude.{◌≡◌, List, Bool, ℕ, ◌+◌, ◌^◌, ◌<◌, ltb, length};
 ghost use Rattle.pnet_bounds.specs.Bounded.{master_of, spacing_of, jitter_of, stream_run};
 ghost use Rattle.pnet_plan.specs.Planned.{plan_of};
@@ -22,7 +23,7 @@ use sheet_read::MOST;
 const LAST: usize = 9_223_372_036_854_775_808;
 
 // What goes from step to step beside the runs: whether urgent requests go first, how many streams the sheet has, how many bytes of the capture were heard, and the clock.
-#[derive(Drop)]
+#[derive(Clone, Copy)]
 pub struct Hearing {
     pub urgent: bool,
     pub streams: usize,
@@ -31,7 +32,7 @@ pub struct Hearing {
 }
 
 // What beginning with a sheet answers: the capture can be heard; or the sheet is refused, and its report has so many bytes.
-#[derive(Drop)]
+#[derive(Clone, Copy)]
 pub enum Begun {
     On(Hearing),
     Refused(usize),
@@ -39,7 +40,7 @@ pub enum Begun {
 
 // What hearing a piece answers: the next can be heard; or the capture is refused, and the report has so many bytes; or it is too long
 // for its places to be counted.
-#[derive(Drop)]
+#[derive(Clone, Copy)]
 pub enum Heard {
     On(Hearing),
     Refused(usize),
@@ -47,7 +48,7 @@ pub enum Heard {
 }
 
 // How many bytes a report has, of a capture that shows nothing wrong and of one that does.
-#[derive(Drop)]
+#[derive(Clone, Copy)]
 pub enum Reported {
     Clean(usize),
     Faulty(usize),

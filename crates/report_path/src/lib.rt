@@ -1,5 +1,6 @@
 // The report of a path over several P-NET segments, page 02 'Ask 4'. What does not fit into the lent run is left out; each inner function
 // answers the place just after what it wrote.
+#![tactic(auto)]
 ghost use Rattle.std.specs.Prelude.{◌≡◌, ◌≤◌, length};
 ghost use Rattle.text.specs.Text.{Zeros, Wrote, item, texts};
 ghost use Rattle.report_path.specs.Told.{most_path, hop_lines};
@@ -15,7 +16,7 @@ pub const MOST_TEXT: usize = 987;
 
 // What writing a report answers: how many bytes it takes, for a path that is accepted and for one that is refused; or that the lent run
 // is shorter than some report may be.
-#[derive(Drop)]
+#[derive(Clone, Copy)]
 pub enum Reported {
     Accepted(usize),
     Refused(usize),

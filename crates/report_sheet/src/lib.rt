@@ -1,4 +1,5 @@
 // The report of a plan as text, page 01 'Sheets worked by hand'.
+#![tactic(auto)]
 ghost use Rattle.std.specs.Prelude.{◌≡◌, false, ◌≤◌, length};
 ghost use Rattle.sheet_rules.specs.Whole.{reading};
 ghost use Rattle.profibus_plan.specs.Planned.{plan_of as ringPlan};
@@ -20,7 +21,7 @@ pub const MOST_TEXT: usize = 1_613_930;
 
 // What writing a report answers: how many bytes it takes, for a sheet that is accepted and for one that is refused; or that the lent
 // run is shorter than some report may be.
-#[derive(Drop)]
+#[derive(Clone, Copy)]
 pub enum Reported {
     Accepted(usize),
     Refused(usize),

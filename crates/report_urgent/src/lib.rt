@@ -1,4 +1,5 @@
 // The report of a P-NET sheet whose urgent requests go first, page 02 'Ask 11', from the bytes of the sheet.
+#![tactic(auto)]
 ghost use Rattle.std.specs.Prelude.{◌≡◌, length};
 ghost use Rattle.report_phrases.specs.Phrases.{refusal_text};
 ghost use Rattle.text.specs.Text.{over};
@@ -10,7 +11,7 @@ use report_urgent_lines::MOST_TEXT;
 use sheet_read::MOST;
 
 // How many bytes a report has, of a sheet that is accepted and of one that is refused.
-#[derive(Drop)]
+#[derive(Clone, Copy)]
 pub enum Reported {
     Accepted(usize),
     Refused(usize),

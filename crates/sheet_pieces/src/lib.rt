@@ -1,5 +1,6 @@
 // A sheet as text, page 02 'Ask 14': a text may be long, and comes piece by piece: `start`, `take` each piece, `end`. What is kept between is one line and the
 // front of the sheet, in two runs that the caller lends.
+#![tactic(auto)]
 ghost use Rattle.std.specs.Prelude.{◌≡◌, ◌≤◌, length};
 ghost use Rattle.text.specs.Text.{Zeros};
 ghost use Rattle.sheet_pieces.specs.Steps;
@@ -18,7 +19,7 @@ pub const KEPT: usize = 12_836;
 
 // Where a text is: the number of the line under way, from 1, and how many bytes of it are held; how many bytes of the sheet are kept; and whether that
 // line is not of the form, which no later one changes.
-#[derive(Drop)]
+#[derive(Clone, Copy)]
 pub struct Taken {
     pub line: usize,
     pub held: usize,
@@ -27,7 +28,7 @@ pub struct Taken {
 }
 
 // What a text comes to: a sheet, of which so many bytes are kept; or the number of the first line that is not of the form.
-#[derive(Drop)]
+#[derive(Clone, Copy)]
 pub enum Ended {
     Sheet(usize),
     Bad(usize),

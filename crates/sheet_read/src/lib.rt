@@ -1,4 +1,5 @@
 // Reading a whole sheet, page 01 'Sheet records' and 'Numbered refusals' 1..7, and page 02 'Ask 7', 'Ask 8' and 'Ask 10'.
+#![tactic(auto)]
 ghost use Rattle.std.specs.Prelude.{◌≡◌, ◌&&◌, get_or, replicate};
 ghost use Rattle.sheet_record.specs.Kinds.{is_stream_of, in_range};
 ghost use Rattle.sheet_judge.specs.Own.{as_bus};
@@ -11,7 +12,7 @@ pub use sheet_keep::MOST;
 use sheet_record::{Given, Record};
 
 // What reading a sheet answers.
-#[derive(Drop)]
+#[derive(Clone, Copy)]
 pub enum Reading {
     // The first record, the number of streams, and the place of the first of them.
     Accepted {
@@ -28,7 +29,7 @@ pub enum Reading {
 
 // What the settings of a sheet come to, which stand between its first record and its streams: the number of a refusal and its place; or 0, the place
 // just after them, and whether a master's longest message is missing.
-#[derive(Drop)]
+#[derive(Clone, Copy)]
 struct Settings {
     no: u8,
     at: usize,

@@ -2,19 +2,20 @@
 //
 // The struct holds the sheet and a place. Its functions are thin: they take it apart and call `found_at` or `behind`, on a slice and a
 // number. A caller with plain parameters has `first` and `count`.
+#![tactic(auto)]
 ghost use Rattle.std.specs.Prelude.{◌≡◌};
 ghost use Rattle.sheet_reader.specs.Walk.{found_of, step_from, count as count_of};
 
 use sheet_record::{Record, record_at};
 
-#[derive(Drop)]
+#[derive(Clone, Copy)]
 pub struct Reader<'a> {
     pub src: &'a [u8],
     pub at: usize,
 }
 
 // What stands at a place: a record with the place just after it, the refusal that the bytes there show by themselves, or the end.
-#[derive(Drop)]
+#[derive(Clone, Copy)]
 pub enum Found {
     One { record: Record, next: usize },
     Refused { no: u8, place: usize },

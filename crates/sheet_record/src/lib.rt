@@ -1,4 +1,5 @@
 // The record format of a sheet, page 01 'Sheet records' and page 02 'Ask 7', 'Ask 8' and 'Ask 10': reading one record.
+#![tactic(auto)]
 ghost use Rattle.std.specs.Prelude.{◌≡◌, ◌+◌, ◌≤◌, ◌<◌, ◌^◌, length, get_or};
 ghost use Rattle.sheet_record.specs.Numbers.{be};
 ghost use Rattle.sheet_record.specs.Kinds;
@@ -6,7 +7,7 @@ ghost use Rattle.sheet_record.specs.Kinds.{pnet, profibus, worldfip, bus_of, is_
 ghost use Rattle.sheet_record.specs.Widths.{width_at, Wide};
 
 // One record: its kind, and its fields in the order of the page. A field that the kind does not have is 0.
-#[derive(Drop)]
+#[derive(Clone, Copy)]
 pub struct Record {
     pub kind: u8,
     pub a: u32,
@@ -17,14 +18,14 @@ pub struct Record {
 }
 
 // What the records before one set for it: the masters N or n, and the longest message M of its master.
-#[derive(Drop)]
+#[derive(Clone, Copy)]
 pub struct Given {
     pub masters: u32,
     pub message: u32,
 }
 
 // The record at a place, and the place just after it.
-#[derive(Drop)]
+#[derive(Clone, Copy)]
 pub struct Met {
     pub found: Record,
     pub next: usize,

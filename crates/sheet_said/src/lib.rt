@@ -1,4 +1,5 @@
 // The record that a line of text says, page 02 'Ask 14'. The line is taken for that of the only record that it can be, and that record's line, written by sheet_line, is held against it.
+#![tactic(auto)]
 ghost use Rattle.std.specs.Prelude.{◌≡◌, ◌≤◌, length, drop};
 ghost use Rattle.sheet_line.specs.Lines;
 ghost use Rattle.sheet_said.specs.Said;
@@ -59,7 +60,7 @@ pub fn kind_in(line: &[u8]) -> u8
 }
 
 // A number, and the place behind the comma that ends it, or the end of the line.
-#[derive(Drop)]
+#[derive(Clone, Copy)]
 struct Cell {
     number: u32,
     next: usize,

@@ -1,4 +1,5 @@
 // Writing one record of a sheet, page 01 'Sheet records' and page 02 'Ask 7', 'Ask 8' and 'Ask 10'.
+#![tactic(auto)]
 ghost use Rattle.std.specs.Prelude.{true, ◌++◌, ◌≡◌, ◌+◌, ◌≤◌, length};
 ghost use Rattle.sheet_record.specs.Numbers.{digits, pasted};
 ghost use Rattle.sheet_record.specs.Kinds;
@@ -10,7 +11,7 @@ use sheet_ranges::in_range;
 use sheet_record::{Given, Record, known};
 
 // What writing a record answers: the place just after it, or the refusal's number and place.
-#[derive(Drop)]
+#[derive(Clone, Copy)]
 pub enum Put {
     Next(usize),
     Refused { no: u8, place: usize },

@@ -1,9 +1,10 @@
 // Numbers as a user enters them.
+#![tactic(auto)]
 ghost use Rattle.std.specs.Prelude.{◌≡◌, ◌+◌, ◌-◌, ◌*◌, ◌≤◌, min};
 ghost use Rattle.text_entry.specs.Entered.{entered_of, with_byte};
 
 // A number, or a word that is none.
-#[derive(Drop)]
+#[derive(Clone, Copy)]
 pub enum Entered {
     Number(u32),
     Nothing,

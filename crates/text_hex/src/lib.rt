@@ -1,10 +1,11 @@
 // Bytes from hexadecimal digits, as the cases of test programs are written.
+#![tactic(auto)]
 ghost use Rattle.std.specs.Prelude.{◌≡◌, List, ◌∷◌, ℕ, ◌+◌, ◌≤◌, min, length};
 ghost use Rattle.std.proofs.lemmas.List.Edits.{sets};
 ghost use Rattle.text_hex.specs.Hex.{value_of, said, bytes_in};
 
 // How many bytes are stored, and the high digit of the next one, 16 for none.
-#[derive(Drop)]
+#[derive(Clone, Copy)]
 struct Stored {
     n: usize,
     high: u8,

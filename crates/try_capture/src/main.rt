@@ -2,6 +2,7 @@
 // both in hexadecimal digits; and where it is not 7 of each, a semicolon, the places of the four lent runs and the bytes of a
 // piece. A line without a bar is a title. The last captures are logs of runs of the bus at its slowest, which reach the bound; then
 // such runs are simulated, to lay their instants beside the logs.
+#![tactic(auto)]
 mod cases;
 mod lines;
 mod pieces;

@@ -2,6 +2,7 @@
 // hexadecimal digits: the place in 8 bytes, the room in one, and the record, its kind in one byte and its numbers in 4 each; a number that is
 // left out at the end is 0. The line that is written for it has these numbers in decimal digits, the answer, and the buffer after the call, where
 // ee is a byte that keeps what it had.
+#![tactic(auto)]
 ghost use Rattle.std.specs.Prelude.{◌≤◌};
 
 use libc::{STDIN_FILENO, STDOUT_FILENO};

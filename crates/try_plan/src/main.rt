@@ -1,6 +1,7 @@
 // Plans the sheets of standard input, page 01 and the cases that are easy to get wrong. A line is a case: the bus in capitals, the lengths
 // of the lent runs, a bar and the sheet, all numbers in hexadecimal digits. A line that begins with # is a title and is written again. The
 // line for a case has the answer and what the lent runs hold then.
+#![tactic(auto)]
 ghost use Rattle.std.specs.Prelude.{◌≤◌};
 
 use libc::{STDIN_FILENO, STDOUT_FILENO};

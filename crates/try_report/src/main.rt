@@ -1,5 +1,6 @@
 // Reports of sheets worked by hand, of pages 01 and 02 and the cases that are easy to get wrong, each behind a line that names it; then how
 // many records a reader walks over.
+#![tactic(auto)]
 use libc::STDOUT_FILENO;
 use report_sheet::Reported;
 use text::put_counted;

@@ -1,6 +1,7 @@
 // Simulates the bus on P-NET sheets and writes, for each master with streams, its largest response beside the planner's figures. Every
 // stream asks once, at 0, when the token has just left that master, and each visit is as long as can be. So every master keeps its spacing,
 // and no response passes the refined figure.
+#![tactic(auto)]
 use libc::STDOUT_FILENO;
 use pnet_plan::Plan;
 use sheet_record::Record;
@@ -14,7 +15,7 @@ fn write_number(n: u64) {
 }
 
 // A sheet in the making: its bytes, for the planner; and each stream's master and C, for the simulator. D and J are the same for all streams.
-#[derive(Drop)]
+#[derive(Clone, Copy)]
 struct Sheet {
     masters: u8,
     deadline: u32,

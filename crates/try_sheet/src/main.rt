@@ -1,5 +1,6 @@
 // The reader on the sheets of standard input, a line of hexadecimal digits each, and on sheets with as many streams as a limit allows
 // and one more: page 01, 'Sheet records' and 'Numbered refusals' 1..7, and page 02, Ask 8. Each sheet is written again with the answer behind it.
+#![tactic(auto)]
 use libc::{STDIN_FILENO, STDOUT_FILENO};
 use sheet_read::Reading;
 use sheet_record::Record;

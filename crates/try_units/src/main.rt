@@ -1,4 +1,5 @@
 // The lines of page 01 'Units', the bound that rounding to the nearest us would get wrong, and bounds in ns, page 02 'Ask 5'.
+#![tactic(auto)]
 use libc::STDOUT_FILENO;
 use units::{BitPeriods, Micros};
 

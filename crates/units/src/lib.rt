@@ -1,23 +1,24 @@
 // Bit periods and microseconds, page 01 'Units', and nanoseconds, page 02 'Ask 5'. P-NET runs at 76,800 bit/s, so 48 bit periods last
 // 625 us, and 6 of them 78,125 ns. Each kind of count is a type of its own, and the functions below are the only way from one to another.
 // To bit periods of a PROFIBUS ring, and from them, there is none.
+#![tactic(auto)]
 ghost use Rattle.std.specs.Prelude.{◌≡◌};
 ghost use Rattle.units.specs.Units.{micros_up, nanos_up, periods_down};
 
 // A count of P-NET bit periods (bp).
-#[derive(Drop)]
+#[derive(Clone, Copy)]
 pub struct BitPeriods(pub u32);
 
 // A count of microseconds (us).
-#[derive(Drop)]
+#[derive(Clone, Copy)]
 pub struct Micros(pub u64);
 
 // A count of nanoseconds (ns).
-#[derive(Drop)]
+#[derive(Clone, Copy)]
 pub struct Nanos(pub u64);
 
 // A count of bit periods of a PROFIBUS ring. They are never converted: a ring's bit rate is not on its sheet.
-#[derive(Drop)]
+#[derive(Clone, Copy)]
 pub struct RingPeriods(pub u32);
 
 // The least count of us that every count of bp fits: 2^32 - 1 bp, rounded up.

@@ -1,5 +1,6 @@
 // What the table of a WorldFIP sheet goes by, page 01 'WorldFIP table': microcycle, slots and rows, and the variables by rank; or the refusal that comes before any row
 // is built.
+#![tactic(auto)]
 mod periods;
 
 ghost use Rattle.std.specs.Prelude.{◌≡◌};
@@ -16,7 +17,7 @@ use sheet_read::Reading;
 use units::Micros;
 
 // What a table has, or why there is none.
-#[derive(Drop)]
+#[derive(Clone, Copy)]
 pub enum Told {
     Table {
         variables: usize,
@@ -32,7 +33,7 @@ pub enum Told {
 }
 
 // That, and the variables by rank: their places in the sheet, from 0, and their periods in rows. Past the last rank stands 0, and behind a refusal 0 alone.
-#[derive(Drop)]
+#[derive(Clone, Copy)]
 pub struct Figures {
     pub told: Told,
     pub places: [usize; 64],
@@ -82,7 +83,7 @@ fn measure(ps: &[u32], n: usize, e: u32) -> Figures
 // ---- The sheet
 
 // The variables of a sheet, in sheet order.
-#[derive(Drop)]
+#[derive(Clone, Copy)]
 struct Variables {
     names: [u16; 64],
     periods: [u32; 64],

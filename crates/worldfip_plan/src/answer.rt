@@ -1,7 +1,7 @@
 use units::Micros;
 
 // What planning a sheet answers.
-#[derive(Drop)]
+#[derive(Clone, Copy)]
 pub enum Plan {
     // The table stands in the lent run.
     Accepted {

@@ -1,1 +1,2 @@
 // The WorldFIP table of page 01 as definitions and laws; no code.
+#![tactic(auto)]
