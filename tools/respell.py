@@ -23,7 +23,7 @@ DECLARED = re.compile(
 USE = re.compile(r"(?m)^\s*(?:pub )?(?:ghost )?(?:pub )?use ([^\s;{]+?)(?:\.\{([^}]*)\})?(?: as ([^\s;]+))?\s*;?$")
 RECORD = re.compile(r"(?m)^( *)(?:\w+ )*record [^\n]*where\n((?:\1 +.*\n|\n)*)")
 # Rattle makes what stands behind these.
-MADE = {"goal", "tie", "c", "Goals", "Given", "Tie"}
+MADE = {"goal", "tie", "c", "Goals", "Tie"}
 # Old name to new, where the plain spelling would meet another name in some file.
 LAWS = """at-place in-ns stream-met count-of longest-of in-range first-unmet late-at report-by accepts-by head-of is-setting is-first new-length
     record-in variable-of period-at period-of bit-or bit-and bit-xor"""
@@ -72,7 +72,7 @@ def imports(text, crates):
         path, names, alias = m[1], m[2], m[3]
         steps = path.split(".")
         ours = steps[0] == "Rattle" and len(steps) > 1 and steps[1] in crates
-        made = steps[-1] in ("Goals", "Given", "Tie", "TheVariants", "Statement")
+        made = steps[-1] in ("Tie", "TheVariants", "Statement") or "proofs" in steps and steps[-1] in ("Goals", "Given")
         if alias and ours and not made:
             modules.add(alias)
         for name in (names or steps[-1]).split(","):

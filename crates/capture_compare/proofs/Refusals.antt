@@ -28,7 +28,7 @@ use Rattle.capture_log.proofs.Refusals as log
 use Rattle.pnet_bounds.specs.Bounded.{bounded_by, bounded}
 use Rattle.capture_compare.specs.Compared.{compared_by, compared}
 use Rattle.capture_compare.specs.Refusals.{Room, Bounded, Given, Accepted}
-use Rattle.capture_compare.specs.Refusals.Given.{unread, another-bus, no_room, too-late, in-capture}
+use Rattle.capture_compare.specs.Refusals.Given.{unread, another_bus, no_room, too_late, in_capture}
 use Rattle.pnet_bounds.proofs.Bounded.{bounded_unread, bounded_other, bounded_short, bounded_late, bounded_read, bounded_passes}
 use Rattle.capture_compare.proofs.Beside.{compared_refused}
 
@@ -55,11 +55,11 @@ module _ (s c : List ℕ) (la lb lc ld : ℕ) where
 
     line : (x p : ℕ) → Applies checks x p → Given s c la lb lc ld x p
     unfolding segment_of
-    line x p (here k) = another-bus e (eqb-false (bus_in H) pnet (not-true _ k))
+    line x p (here k) = another_bus e (eqb-false (bus_in H) pnet (not-true _ k))
     line x p (later k (here r)) =
         no_room (on_bus k) (λ has. omega (arith, ltb-true room (length H.streams) r, room_if (length H.streams) has))
     line x p (later k (later r (here l))) =
-        too-late (on_bus k) (room_then _ (ltb-false room (length H.streams) r)) (first_fails (segment_of H) (leb-true (first_late (segment_of H)) (length H.streams) l))
+        too_late (on_bus k) (room_then _ (ltb-false room (length H.streams) r)) (first_fails (segment_of H) (leb-true (first_late (segment_of H)) (length H.streams) l))
 
     no_line : Clear checks → Bounded s la lb lc ld H
     unfolding segment_of
@@ -102,15 +102,15 @@ module _ (s c : List ℕ) (la lb lc ld : ℕ) where
   given_if : (x p : ℕ) → Given s c la lb lc ld x p → compared s c la lb lc ld ≡ Not x p
   unfolding segment_of
   given_if x p (unread e) = compared_refused s c room la lb lc ld refl x p (bounded_unread s room x p e)
-  given_if x p (another-bus {H} e k) = compared_refused s c room la lb lc ld refl 3 0 (bounded_other s room H e k)
+  given_if x p (another_bus {H} e k) = compared_refused s c room la lb lc ld refl 3 0 (bounded_other s room H e k)
   given_if x p (no_room {H} b r) =
       let n = length H.streams in
       let f : (n ≤ room → ⊥) = λ l. r (room_then n l) in
       compared_refused s c room la lb lc ld refl 13 n (bounded_short s room H b.reads b.pnet n refl (omega (arith, f)))
-  given_if x p (too-late {H} b r f) =
+  given_if x p (too_late {H} b r f) =
       compared_refused s c room la lb lc ld refl 8 p
       (bounded_late s room H b.reads b.pnet (room_if (length H.streams) r) p (fails_first (segment_of H) p f) f.to)
-  given_if x p (in-capture {H} b g) =
+  given_if x p (in_capture {H} b g) =
       compared_with H (bounded_if H b) ∙ ap (λ (v : Verdict). or_else v (Read H)) ((log.given_exactly c (length H.streams) x p).1 g)
 
   accepted_if : (H : Sheet) → Accepted s c la lb lc ld H → compared s c la lb lc ld ≡ Read H
@@ -128,7 +128,7 @@ module _ (s c : List ℕ) (la lb lc ld : ℕ) where
       of_verdict H e (Refused m k) q r =
           let em : m ≡ x = cc in
           let ek : k ≡ p = cc in
-          rw (← em, ← ek) (in-capture (bounded_then H e) ((log.given_exactly c (length H.streams) m k).0 q))
+          rw (← em, ← ek) (in_capture (bounded_then H e) ((log.given_exactly c (length H.streams) m k).0 q))
 
       split : (o : Outcome) → bounded s room ≡ o → compared_by o c ≡ Not x p → Given s c la lb lc ld x p
       split (Read H) e r = of_verdict H e (heard c (length H.streams) fresh) refl r

@@ -18,7 +18,7 @@ use Rattle.capture_log.specs.Log.{fresh, asks, answers, left}
 use Rattle.capture_log.specs.Records.{size, events_in, known, event_checks, judge, is_refused, records, taken, heard}
 use Rattle.capture_log.specs.Refusals.{record_at, KnownKind, Whole, OnSheet, Open, Unasked, AskedTwice, RefusedWith, Taken, Given, AllTaken}
 use Rattle.capture_log.specs.Refusals.RefusedWith.{unknown, cut, not_on_sheet, unasked, asked_twice}
-use Rattle.capture_log.specs.Refusals.Given.{at-record}
+use Rattle.capture_log.specs.Refusals.Given.{at_record}
 
 -- ---- Tests
 
@@ -270,12 +270,12 @@ module _ (c : List ℕ) (n : ℕ) where
       by true q r =
           let t = refused_with c n (taken c n fresh) x p r in
           let l = (among (taken c n fresh)).0 (ltb-true _ _ q) in
-          at-record (record { starts = t.0; inside = omega (arith, t.0, l); before = taken_before }) t.1
+          at_record (record { starts = t.0; inside = omega (arith, t.0, l); before = taken_before }) t.1
       by false q r = let z : ◌≡◌ {A = ℕ} 0 1 = cc in absurd (omega arith)
 
   given_if : (x p : ℕ) → Given c n x p → heard c n fresh ≡ Refused x p
   unfolding heard taken
-  given_if x p (at-record {j} h r) =
+  given_if x p (at_record {j} h r) =
       let v : judge c n fresh j ≡ Refused x p = refused_for c n j r ∙ ap (Refused x) (sym h.starts) in
       let l : j < records c = (among j).1 (omega (arith, h.starts, h.inside)) in
       let t : j ≡ taken c n fresh =

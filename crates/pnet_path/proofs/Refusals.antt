@@ -32,7 +32,7 @@ use Rattle.pnet_crossing.proofs.Laws.{Searched, searched_here, searched_end}
 use Rattle.pnet_path.specs.Path.{Path, gateways, sheet_at, bound_at, forwarding_at, absent_in, absent_from, absent_at, refused_or, crossed_from, crossed}
 use Rattle.pnet_path.specs.Refusals.{Between, Each, FirstBad, Taken, Untaken, Few, Short, Long, Dated, Present, Absent, Sender, total, Sheets, Times, Senders, Given, Accepted}
 use Rattle.pnet_path.specs.Refusals.Absent.{not_there, no_streams}
-use Rattle.pnet_path.specs.Refusals.Given.{own, not-few, too_long, undated, no-sender, too-late}
+use Rattle.pnet_path.specs.Refusals.Given.{own, not_few, too_long, undated, no_sender, too_late}
 
 -- ---- Tests
 
@@ -259,15 +259,15 @@ module _ (P : Path) where
     -- the first line that applies, or none
     line : {n p : ℕ} → Applies checks n p → Given P n p
     unfolding path_checks
-    line (here a) = not-few t (few.bad a)
+    line (here a) = not_few t (few.bad a)
     line (later a (here b)) = too_long t (few.good a) (times.bad b)
     line (later a (later b (here c))) = undated t (few.good a) (times.good b) (dated.bad c)
     line (later a (later b (later c (here d)))) =
         let f = few.good a in
-        no-sender t f (times.good b) (dated.good c) ((senders f).bad d)
+        no_sender t f (times.good b) (dated.good c) ((senders f).bad d)
     line (later a (later b (later c (later d (here e))))) =
         let f = few.good a in
-        too-late t f (times.good b) (dated.good c) ((senders f).good d) (in_time.bad e)
+        too_late t f (times.good b) (dated.good c) ((senders f).good d) (in_time.bad e)
 
     no_line : Clear checks → Accepted P (total P)
     unfolding path_checks
@@ -288,15 +288,15 @@ module _ (P : Path) where
   given_if : (n p : ℕ) → Given P n p → crossed P ≡ answer.Refused n p
   unfolding path_checks
   given_if n p (own b) = refused_own b
-  given_if n p (not-few t f) = listed t (here (few.if_bad f))
+  given_if n p (not_few t f) = listed t (here (few.if_bad f))
   given_if n p (too_long t f b) =
       let e = one_first (is_too_long (forwarding_at P)) g time b in
       rw e (listed t (later (few.if_good f) (here (times.if_bad (rw e at b)))))
   given_if n p (undated t f b c) = listed t (later (few.if_good f) (later (times.if_good b) (here (dated.if_bad c))))
-  given_if n p (no-sender t f b c d) =
+  given_if n p (no_sender t f b c d) =
       let e = absent_first t f d in
       rw e (listed t (later (few.if_good f) (later (times.if_good b) (later (dated.if_good c) (here ((senders t f).if_bad (rw e at d)))))))
-  given_if n p (too-late t f b c d e) =
+  given_if n p (too_late t f b c d e) =
       listed t
       (later (few.if_good f) (later (times.if_good b) (later (dated.if_good c) (later ((senders t f).if_good d) (here (in_time.if_bad e))))))
 

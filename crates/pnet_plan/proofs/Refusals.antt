@@ -25,7 +25,7 @@ use Rattle.pnet_rules.specs.Bus.{OnBus}
 use Rattle.pnet_plan.specs.declared.answer.Plan.{Plan}
 use Rattle.pnet_plan.specs.Planned.{first_late, plan_checks, planned_by, planned}
 use Rattle.pnet_plan.specs.Refusals.{Passes, FirstFails, Room, Given, Accepted}
-use Rattle.pnet_plan.specs.Refusals.Given.{unread, another-bus, no_room, too-late}
+use Rattle.pnet_plan.specs.Refusals.Given.{unread, another_bus, no_room, too_late}
 use Rattle.pnet_plan.proofs.Cases.{planned_unread, planned_other, planned_short, planned_late, planned_read, Returned}
 
 -- ---- The first stream that fails
@@ -90,10 +90,10 @@ module _ (s : List ℕ) (la lb lc : ℕ) where
   given_if : (n p : ℕ) → Given s la lb lc n p → planned s la lb lc ≡ Not n p
   unfolding segment_of
   given_if n p (unread e) = planned_unread s la lb lc n p e
-  given_if n p (another-bus {H} e k) = planned_other s la lb lc H e k
+  given_if n p (another_bus {H} e k) = planned_other s la lb lc H e k
   given_if n p (no_room {H} b r) =
       planned_short s la lb lc H b.reads b.pnet (masters_of H) refl (λ x y z. r (record { for_bound = x; for_refined = y; for_rounds = z }))
-  given_if n p (too-late {H} b r f) =
+  given_if n p (too_late {H} b r f) =
       planned_late s la lb lc H b.reads b.pnet r.for_bound r.for_refined r.for_rounds p (fails_first (segment_of H) p f) f.to
 
   accepted_if : (H : Sheet) → Accepted s la lb lc H → planned s la lb lc ≡ Read H
@@ -110,10 +110,10 @@ module _ (s : List ℕ) (la lb lc : ℕ) where
 
     line : (n p : ℕ) → Applies (plan_checks H la lb lc) n p → Given s la lb lc n p
     unfolding plan_checks segment_of
-    line n p (here k) = another-bus e (eqb-false (bus_in H) pnet (not-true _ k))
+    line n p (here k) = another_bus e (eqb-false (bus_in H) pnet (not-true _ k))
     line n p (later k (here r)) = no_room (on_bus k) (no_room_then la lb lc (masters_of H) r)
     line n p (later k (later r (here l))) =
-        too-late (on_bus k) (room_then la lb lc (masters_of H) r) (first_fails (segment_of H) (leb-true (first_late (segment_of H)) (length H.streams) l))
+        too_late (on_bus k) (room_then la lb lc (masters_of H) r) (first_fails (segment_of H) (leb-true (first_late (segment_of H)) (length H.streams) l))
 
     no_line : Clear (plan_checks H la lb lc) → Accepted s la lb lc H
     unfolding plan_checks segment_of

@@ -26,7 +26,7 @@ use Rattle.pnet_rules.proofs.Declares.{declared}
 use Rattle.pnet_urgent_rules.specs.Urgent.{unmet}
 use Rattle.pnet_urgent_rules.specs.Planned.{first_unmet, urgent_checks, urgent_by, urgently}
 use Rattle.pnet_urgent_rules.specs.Refusals.{Met, FirstUnmet, Given, Accepted}
-use Rattle.pnet_urgent_rules.specs.Refusals.Given.{unread, another-bus, no_room, not-met}
+use Rattle.pnet_urgent_rules.specs.Refusals.Given.{unread, another_bus, no_room, not_met}
 use Rattle.pnet_urgent_rules.proofs.Right.{turn_some}
 use Rattle.pnet_urgent_rules.proofs.Figures.{met_if, met_then}
 use Rattle.pnet_urgent_rules.proofs.Cases.{urgently_unread, urgently_other, urgently_short, urgently_unmet, urgently_read}
@@ -75,9 +75,9 @@ module _ (s : List ℕ) (room : ℕ) where
   given_if : (n p : ℕ) → Given s room n p → urgently s room ≡ Not n p
   unfolding segment_of
   given_if n p (unread e) = urgently_unread s room n p e
-  given_if n p (another-bus {H} e k) = urgently_other s room H e k
+  given_if n p (another_bus {H} e k) = urgently_other s room H e k
   given_if n p (no_room {H} b l) = urgently_short s room H b.reads b.pnet (length H.streams) refl l
-  given_if n p (not-met {H} b l f) = urgently_unmet s room H b.reads b.pnet l p (unmet_first (segment_of H) (on_bus_some H b) p f) f.to
+  given_if n p (not_met {H} b l f) = urgently_unmet s room H b.reads b.pnet l p (unmet_first (segment_of H) (on_bus_some H b) p f) f.to
 
   accepted_if : (H : Sheet) → Accepted s room H → urgently s room ≡ Read H
   unfolding segment_of
@@ -92,10 +92,10 @@ module _ (s : List ℕ) (room : ℕ) where
 
     line : (n p : ℕ) → Applies (urgent_checks H room) n p → Given s room n p
     unfolding segment_of
-    line n p (here k) = another-bus e (eqb-false (bus_in H) pnet (not-true _ k))
+    line n p (here k) = another_bus e (eqb-false (bus_in H) pnet (not-true _ k))
     line n p (later k (here r)) = no_room (on_bus k) (ltb-true room (length H.streams) r)
     line n p (later k (later r (here l))) =
-        not-met (on_bus k) (ltb-false room (length H.streams) r)
+        not_met (on_bus k) (ltb-false room (length H.streams) r)
         (first_unmet_law (segment_of H) (on_bus_some H (on_bus k)) (leb-true (first_unmet (segment_of H)) (length H.streams) l))
 
     no_line : Clear (urgent_checks H room) → Accepted s room H

@@ -27,7 +27,7 @@ use Rattle.sheet_rules.specs.Refusals.Matches.{pnet_stream, pnet_jitter_stream, 
 use Rattle.sheet_rules.specs.Refusals.RightKind.{at_first, edition, message, behind}
 use Rattle.sheet_rules.specs.Refusals.WrongMessages.{again, missing}
 use Rattle.sheet_rules.specs.Refusals.RefusedWith.{unknown, misplaced, cut, out_of_range, wrong_messages, one_too_many, meets_before}
-use Rattle.sheet_rules.specs.Refusals.Given.{empty, at-record, no-message, no_stream}
+use Rattle.sheet_rules.specs.Refusals.Given.{empty, at_record, no_message, no_stream}
 use Rattle.sheet_rules.proofs.Walk.{head_at}
 use Rattle.sheet_rules.proofs.Cases.{PassesAt, Upto, Stops, neither, none_of_both, upto_none, upto_more, upto_front, reading_stops, stops_once, ended_empty, ended_no_message, ended_no_stream, ended_sheet}
 use Rattle.sheet_rules.proofs.Cases.Stops.{by_record, at_end}
@@ -498,7 +498,7 @@ module _ (s : List ℕ) where
           let en : 20 ≡ n = cc in
           let ep : length s ≡ p = cc in
           let m = lacking_then s (suc i) u q in
-          rw (← en, ← ep) (no-message (end (missing_before_streams i (upto_then (suc i) u) m)) m)
+          rw (← en, ← ep) (no_message (end (missing_before_streams i (upto_then (suc i) u) m)) m)
       by false q (yes z) =
           let f : Not 6 (length s) ≡ Not n p = sym (ended_no_stream s (suc i) (head_some s i u) q z) ∙ e in
           let en : 6 ≡ n = cc in
@@ -520,17 +520,17 @@ module _ (s : List ℕ) where
           let en : m ≡ n = cc in
           let ep : q ≡ p = cc in
           let at : place_of s i ≡ p = sym r.0 ∙ ep in
-          rw (← en, ← at) (at-record (record { starts = refl; inside = l; before = upto_then i u }) r.1)
+          rw (← en, ← at) (at_record (record { starts = refl; inside = l; before = upto_then i u }) r.1)
       by (at_end i u l o) = at_its_end i n p u l (sym o ∙ e)
 
   -- and every number that the table gives is given
   pub given_if : {n p : ℕ} → Given s n p → reading s ≡ Not n p
   unfolding place_of
   given_if (empty e) = stops_once s (at_end 0 (upto_none s) (sym e) refl) ∙ ended_empty s
-  given_if (at-record {i} {n} {p} h r) =
+  given_if (at_record {i} {n} {p} h r) =
       let a = refused_at h r in
       stops_once s (by_record i n p a.0 (rw (← h.starts) h.inside) a.1 refl)
-  given_if (no-message {i} o m) = last i o m
+  given_if (no_message {i} o m) = last i o m
     where
       last : (i : ℕ) → NoStream s i → Missing s i → reading s ≡ Not 20 (length s)
       last zero o m = absurd (omega (arith, o.first))
@@ -568,32 +568,32 @@ module _ (s : List ℕ) where
 
   -- 1: the sheet is empty; or it ends inside a record that reading comes to, of known kind and right for its position
   pub refused_1 : (p : ℕ) → (reading s ≡ Not 1 p) ↔ (((length s ≡ 0) × (p ≡ 0)) ⊎ ((i : ℕ) × Reached s i p × KnownKind s i × RightKind s i × (Complete s i → ⊥)))
-  refused_1 p = (λ e. line (given_then 1 p e), ⊎_elim (λ w. given_if (rw w.1 (empty w.0))) (λ w. given_if (at-record w.1 (cut w.2 w.3 w.4))))
+  refused_1 p = (λ e. line (given_then 1 p e), ⊎_elim (λ w. given_if (rw w.1 (empty w.0))) (λ w. given_if (at_record w.1 (cut w.2 w.3 w.4))))
     where
       line : {q : ℕ} → Given s 1 q → ((length s ≡ 0) × (q ≡ 0)) ⊎ ((i : ℕ) × Reached s i q × KnownKind s i × RightKind s i × (Complete s i → ⊥))
       line (empty e) = inl (e, refl)
-      line (at-record {i} h (cut k r c)) = inr (i, h, k, r, c)
+      line (at_record {i} h (cut k r c)) = inr (i, h, k, r, c)
 
   -- 2: a record that reading comes to is of no kind 1..10
   pub refused_2 : (p : ℕ) → (reading s ≡ Not 2 p) ↔ ((i : ℕ) × Reached s i p × (KnownKind s i → ⊥))
-  refused_2 p = (λ e. line (given_then 2 p e), λ w. given_if (at-record w.1 (unknown w.2)))
+  refused_2 p = (λ e. line (given_then 2 p e), λ w. given_if (at_record w.1 (unknown w.2)))
     where
       line : {q : ℕ} → Given s 2 q → (i : ℕ) × Reached s i q × (KnownKind s i → ⊥)
-      line (at-record {i} h (unknown k)) = (i, h, k)
+      line (at_record {i} h (unknown k)) = (i, h, k)
 
   -- 3: a record that reading comes to is of known kind, wrong for its position
   pub refused_3 : (p : ℕ) → (reading s ≡ Not 3 p) ↔ ((i : ℕ) × Reached s i p × KnownKind s i × (RightKind s i → ⊥))
-  refused_3 p = (λ e. line (given_then 3 p e), λ w. given_if (at-record w.1 (misplaced w.2 w.3)))
+  refused_3 p = (λ e. line (given_then 3 p e), λ w. given_if (at_record w.1 (misplaced w.2 w.3)))
     where
       line : {q : ℕ} → Given s 3 q → (i : ℕ) × Reached s i q × KnownKind s i × (RightKind s i → ⊥)
-      line (at-record {i} h (misplaced k r)) = (i, h, k, r)
+      line (at_record {i} h (misplaced k r)) = (i, h, k, r)
 
   -- 4: a record that reading comes to is of known kind, right for its position and complete, and has a field out of range
   pub refused_4 : (p : ℕ) → (reading s ≡ Not 4 p) ↔ ((i : ℕ) × Reached s i p × KnownKind s i × RightKind s i × Complete s i × (Ranged s i → ⊥))
-  refused_4 p = (λ e. line (given_then 4 p e), λ w. given_if (at-record w.1 (out_of_range w.2 w.3 w.4 w.5)))
+  refused_4 p = (λ e. line (given_then 4 p e), λ w. given_if (at_record w.1 (out_of_range w.2 w.3 w.4 w.5)))
     where
       line : {q : ℕ} → Given s 4 q → (i : ℕ) × Reached s i q × KnownKind s i × RightKind s i × Complete s i × (Ranged s i → ⊥)
-      line (at-record {i} h (out_of_range k r c f)) = (i, h, k, r, c, f)
+      line (at_record {i} h (out_of_range k r c f)) = (i, h, k, r, c, f)
 
   -- 20: a record that reading comes to has nothing wrong by itself, and gives a longest message again, or is a stream and one is missing; or one is missing at
   -- the end of a sheet without streams
@@ -602,21 +602,21 @@ module _ (s : List ℕ) where
       ↔ (((i : ℕ) × Reached s i p × KnownKind s i × RightKind s i × Complete s i × Ranged s i × WrongMessages s i) ⊎ ((i : ℕ) × NoStream s i × Missing s i × (p ≡ length s)))
   refused_20 p = (
     λ e. line (given_then 20 p e),
-    ⊎_elim (λ w. given_if (at-record w.1 (wrong_messages w.2 w.3 w.4 w.5 w.6))) (λ w. given_if (rw w.3 (no-message w.1 w.2))),
+    ⊎_elim (λ w. given_if (at_record w.1 (wrong_messages w.2 w.3 w.4 w.5 w.6))) (λ w. given_if (rw w.3 (no_message w.1 w.2))),
   )
     where
       line : {q : ℕ} → Given s 20 q
           → ((i : ℕ) × Reached s i q × KnownKind s i × RightKind s i × Complete s i × Ranged s i × WrongMessages s i) ⊎ ((i : ℕ) × NoStream s i × Missing s i × (q ≡ length s))
-      line (at-record {i} h (wrong_messages k r c f w)) = inl (i, h, k, r, c, f, w)
-      line (no-message {i} o m) = inr (i, o, m, refl)
+      line (at_record {i} h (wrong_messages k r c f w)) = inl (i, h, k, r, c, f, w)
+      line (no_message {i} o m) = inr (i, o, m, refl)
 
   -- 5: a record that reading comes to has nothing wrong by itself, no longest message is wrong there, and it is one stream more than a limit allows
   pub refused_5 : (p : ℕ)
       → (reading s ≡ Not 5 p) ↔ ((i : ℕ) × Reached s i p × KnownKind s i × RightKind s i × Complete s i × Ranged s i × (WrongMessages s i → ⊥) × (InLimits s i → ⊥))
-  refused_5 p = (λ e. line (given_then 5 p e), λ w. given_if (at-record w.1 (one_too_many w.2 w.3 w.4 w.5 w.6 w.7)))
+  refused_5 p = (λ e. line (given_then 5 p e), λ w. given_if (at_record w.1 (one_too_many w.2 w.3 w.4 w.5 w.6 w.7)))
     where
       line : {q : ℕ} → Given s 5 q → (i : ℕ) × Reached s i q × KnownKind s i × RightKind s i × Complete s i × Ranged s i × (WrongMessages s i → ⊥) × (InLimits s i → ⊥)
-      line (at-record {i} h (one_too_many k r c f m l)) = (i, h, k, r, c, f, m, l)
+      line (at_record {i} h (one_too_many k r c f m l)) = (i, h, k, r, c, f, m, l)
 
   -- 6: all records are taken, the first among them, none of them is a stream, the sheet ends behind them, and no longest message is missing
   pub refused_6 : (p : ℕ) → (reading s ≡ Not 6 p) ↔ ((i : ℕ) × NoStream s i × (Missing s i → ⊥) × (p ≡ length s))
@@ -629,24 +629,24 @@ module _ (s : List ℕ) where
   pub refused_7 : (p : ℕ)
       → (reading s ≡ Not 7 p)
       ↔ ((i : ℕ) × Reached s i p × KnownKind s i × RightKind s i × Complete s i × Ranged s i × (WrongMessages s i → ⊥) × InLimits s i × MetBefore s i)
-  refused_7 p = (λ e. line (given_then 7 p e), λ w. given_if (at-record w.1 (meets_before w.2 w.3 w.4 w.5 w.6 w.7 w.8)))
+  refused_7 p = (λ e. line (given_then 7 p e), λ w. given_if (at_record w.1 (meets_before w.2 w.3 w.4 w.5 w.6 w.7 w.8)))
     where
       line : {q : ℕ} → Given s 7 q
           → (i : ℕ) × Reached s i q × KnownKind s i × RightKind s i × Complete s i × Ranged s i × (WrongMessages s i → ⊥) × InLimits s i × MetBefore s i
-      line (at-record {i} h (meets_before k r c f w l m)) = (i, h, k, r, c, f, w, l, m)
+      line (at_record {i} h (meets_before k r c f w l m)) = (i, h, k, r, c, f, w, l, m)
 
   -- reading gives no other number, and no place past the end
   pub numbers_given : {n p : ℕ} → Given s n p → (1 ≤ n) × (n ≤ 7 ⊎ n ≡ 20) × (p ≤ length s)
   numbers_given (empty e) = (omega arith, inl (omega arith), omega arith)
-  numbers_given (no-message o m) = (omega arith, inr refl, omega arith)
+  numbers_given (no_message o m) = (omega arith, inr refl, omega arith)
   numbers_given (no_stream o m) = (omega arith, inl (omega arith), omega arith)
-  numbers_given (at-record h (unknown k)) = (omega arith, inl (omega arith), omega (arith, h.inside))
-  numbers_given (at-record h (misplaced k r)) = (omega arith, inl (omega arith), omega (arith, h.inside))
-  numbers_given (at-record h (cut k r c)) = (omega arith, inl (omega arith), omega (arith, h.inside))
-  numbers_given (at-record h (out_of_range k r c f)) = (omega arith, inl (omega arith), omega (arith, h.inside))
-  numbers_given (at-record h (wrong_messages k r c f w)) = (omega arith, inr refl, omega (arith, h.inside))
-  numbers_given (at-record h (one_too_many k r c f w l)) = (omega arith, inl (omega arith), omega (arith, h.inside))
-  numbers_given (at-record h (meets_before k r c f w l m)) = (omega arith, inl (omega arith), omega (arith, h.inside))
+  numbers_given (at_record h (unknown k)) = (omega arith, inl (omega arith), omega (arith, h.inside))
+  numbers_given (at_record h (misplaced k r)) = (omega arith, inl (omega arith), omega (arith, h.inside))
+  numbers_given (at_record h (cut k r c)) = (omega arith, inl (omega arith), omega (arith, h.inside))
+  numbers_given (at_record h (out_of_range k r c f)) = (omega arith, inl (omega arith), omega (arith, h.inside))
+  numbers_given (at_record h (wrong_messages k r c f w)) = (omega arith, inr refl, omega (arith, h.inside))
+  numbers_given (at_record h (one_too_many k r c f w l)) = (omega arith, inl (omega arith), omega (arith, h.inside))
+  numbers_given (at_record h (meets_before k r c f w l m)) = (omega arith, inl (omega arith), omega (arith, h.inside))
 
   -- the table leaves no choice: two numbers that it gives are one, at one place
   pub given_once : {n p m q : ℕ} → Given s n p → Given s m q → (n ≡ m) × (p ≡ q)

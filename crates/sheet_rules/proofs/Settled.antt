@@ -11,7 +11,7 @@ use Rattle.sheet_record.specs.Kinds.{size_of}
 use Rattle.sheet_rules.specs.Whole.{place_of, reading}
 use Rattle.sheet_rules.specs.Whole.Outcome.{Not}
 use Rattle.sheet_rules.specs.Refusals.{Given}
-use Rattle.sheet_rules.specs.Refusals.Given.{empty, at-record, no-message, no_stream}
+use Rattle.sheet_rules.specs.Refusals.Given.{empty, at_record, no_message, no_stream}
 use Rattle.sheet_record.proofs.Tables.{size_some}
 use Rattle.sheet_rules.proofs.Fronts.{SameFront, refused_by_record, refused_by_kind}
 use Rattle.sheet_rules.proofs.Refusals.{given_then, refused_at}
@@ -35,9 +35,9 @@ module _ (front behind other : List ℕ) where
 
       by : {m q : ℕ} → Given (front ++ behind) m q → (2 ≤ m) × (m ≤ 3) → q < length front → reading (front ++ other) ≡ Not m q
       by (empty z) b k = absurd (omega (arith, b.0))
-      by (no-message o w) b k = absurd (omega (arith, b.1))
+      by (no_message o w) b k = absurd (omega (arith, b.1))
       by (no_stream o w) b k = absurd (omega (arith, b.1))
-      by (at-record {i} {n = m} {p = q} h r) b k =
+      by (at_record {i} {n = m} {p = q} h r) b k =
           let a = refused_at (front ++ behind) h r in
           refused_by_kind goes_on i m q a.0 a.1 b.0 b.1 (omega (arith, h.starts))
 
@@ -58,8 +58,8 @@ module _ (front behind other : List ℕ) where
 
       by : {m q : ℕ} → Given (front ++ behind) m q → q + size_of (get_or front q 0) ≤ length front → reading (front ++ other) ≡ Not m q
       by (empty z) k = absurd (omega (arith, size_some (get_or front 0 0), length-append front behind))
-      by (no-message o w) k = absurd (past k)
+      by (no_message o w) k = absurd (past k)
       by (no_stream o w) k = absurd (past k)
-      by (at-record {i} {n = m} {p = q} h r) k =
+      by (at_record {i} {n = m} {p = q} h r) k =
           let a = refused_at (front ++ behind) h r in
           refused_by_record goes_on i m q a.0 a.1 (ends_in_front i q h.starts k)
