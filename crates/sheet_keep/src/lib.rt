@@ -1,5 +1,6 @@
 // What is kept of the streams of a sheet so far, and a stream judged by it, page 01 'Numbered refusals' 5 and 7.
 #![tactic(auto)]
+
 ghost use Rattle.std.specs.Prelude.{◌≡◌, ◌≤◌, max};
 ghost use Rattle.sheet_keep.specs.Steps;
 ghost use Rattle.sheet_keep.specs.Steps.{late_no, counts_with, longests_with, ids_with};

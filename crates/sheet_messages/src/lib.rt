@@ -1,5 +1,6 @@
 // The longest messages of a ring's masters, page 02 'Ask 8': which are given, and what counts for each master.
 #![tactic(auto)]
+
 ghost use Rattle.std.specs.Prelude.{◌≡◌, ◌≤◌, length, get_or};
 ghost use Rattle.common.specs.Runs.{tab};
 ghost use Rattle.sheet_messages.specs.Messages.{message_by, lacks_in, message_at};

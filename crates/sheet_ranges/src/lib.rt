@@ -1,5 +1,6 @@
 // The ranges of a record's fields, page 01 'Sheet records' and page 02 'Ask 7', 'Ask 8' and 'Ask 10': judging one record, behind what is given.
 #![tactic(auto)]
+
 ghost use Rattle.std.specs.Prelude.{◌&&◌, ◌≡◌, ◌-◌, eqb};
 ghost use Rattle.sheet_record.specs.Kinds.{within, in_range};
 

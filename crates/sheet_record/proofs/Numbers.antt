@@ -43,7 +43,8 @@ unfolding be digits
 be_digits zero v p q h = omega arith
 be_digits (suc w) v p q h =
     let h' : v / 256 < 256 ^ w = (div-lt_iff_lt-mul (lit< tt)).1 (rw pow-suc at h) in
-    simp (append_assoc, be_digits w (v / 256) p (v % 256 ∷ q) h', get_or-append-add, get_or_at (digits w (v / 256)) (v % 256) q 0 w (length_digits w (v / 256)))
+    let s : digits (suc w) v ++ q ≡ digits w (v / 256) ++ (v % 256 ∷ q) = simp append_assoc in
+    ap (λ (x : List ℕ). be (p ++ x) (length p) (suc w)) s ∙ simp (be_digits w (v / 256) p (v % 256 ∷ q) h', get_or-append-add, get_or_at (digits w (v / 256)) (v % 256) q 0 w (length_digits w (v / 256)))
     (div-add-mod' v 256)
 
 -- a number is read off its own bytes only

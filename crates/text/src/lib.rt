@@ -1,6 +1,7 @@
 // Words and numbers as text, written into a lent run from a place on. What does not fit is left out. Each function answers the
 // place just after what it wrote.
 #![tactic(auto)]
+
 ghost use Rattle.std.specs.Prelude.{◌≡◌, ◌-◌, min};
 ghost use Rattle.text.specs.Text.{Wrote, places, width_of, decimal, counted};
 

@@ -1,5 +1,6 @@
 // Numbers as a user enters them.
 #![tactic(auto)]
+
 ghost use Rattle.std.specs.Prelude.{◌≡◌, ◌+◌, ◌-◌, ◌*◌, ◌≤◌, min};
 ghost use Rattle.text_entry.specs.Entered.{entered_of, with_byte};
 

@@ -1,5 +1,6 @@
 // Bytes from hexadecimal digits, as the cases of test programs are written.
 #![tactic(auto)]
+
 ghost use Rattle.std.specs.Prelude.{◌≡◌, List, ◌∷◌, ℕ, ◌+◌, ◌≤◌, min, length};
 ghost use Rattle.std.proofs.lemmas.List.Edits.{sets};
 ghost use Rattle.text_hex.specs.Hex.{value_of, said, bytes_in};

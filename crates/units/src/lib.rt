@@ -2,6 +2,7 @@
 // 625 us, and 6 of them 78,125 ns. Each kind of count is a type of its own, and the functions below are the only way from one to another.
 // To bit periods of a PROFIBUS ring, and from them, there is none.
 #![tactic(auto)]
+
 ghost use Rattle.std.specs.Prelude.{◌≡◌};
 ghost use Rattle.units.specs.Units.{micros_up, nanos_up, periods_down};
 

@@ -1,0 +1,21 @@
+use Prim.Native.Nat.{◌-◌}
+use native.Mathlib.Omega.{arith}
+use Rattle.text_hex.proofs.Laws.{storing_all, storing_more, storing_done}
+use Rattle.text_hex.proofs.put_bytes.Goals as goal
+
+pub loop-i-init : goal.loop-i-init
+loop-i-init c = storing_all _ _
+
+pub step-next-requires : goal.step-next-requires
+step-next-requires c = let s = c.loop-i.invariant in (s.inside, s.small)
+
+pub loop-i-preserved : goal.loop-i-preserved
+loop-i-preserved c =
+    let x = c.step-next in
+    storing_more c.loop-i.invariant _ _ _ c.loop-i-test.true x.auto.out x.ensures.n_in_bounds x.ensures.by_index x.ensures.by_index_2
+
+pub shape_of-out : goal.shape_of-out
+shape_of-out c = c.loop-i.invariant.long
+
+pub returns : goal.returns
+returns c = let r = storing_done c.loop-i.invariant (omega arith) in record { value = r.0; out_after = r.1 }
