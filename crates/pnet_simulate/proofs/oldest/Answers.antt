@@ -1,0 +1,38 @@
+use Prim.Native.Nat.{◌-◌}
+use mathlib.Core.Logic.{⊎_elim}
+use native.Mathlib.Omega.{arith}
+use lib.ListN.{length}
+use borrow.Author.Count.{below_more}
+use Rattle.common.proofs.Firsts.{found_first, found_none}
+use Rattle.pnet_simulate.specs.Simulated.{waits, oldest_of}
+use Rattle.pnet_simulate.proofs.Waits.{waits_at, waits_elsewhere, waits_no_more}
+use Rattle.pnet_simulate.proofs.oldest.Goals as goal
+
+pub loop-p-init : goal.loop-p-init
+loop-p-init c = (omega arith, λ j l. absurd (omega arith))
+
+pub returns-then-answered-p-eq0 : goal.returns-then-answered-p-eq0
+unfolding oldest_of
+returns-then-answered-p-eq0 c =
+    let a = c.args in
+    let l = c.loop-p in
+    found_first (waits a.owner.now a.answered.now a.m) (length a.owner.now) l.p l.invariant.1
+    (waits_at a.owner.now a.answered.now a.m l.p c.if-owner-p.true c.if-answered-p-eq0.true) (omega arith)
+
+pub loop-p-preserved : goal.loop-p-preserved
+loop-p-preserved c =
+    let a = c.args in
+    let l = c.loop-p in (
+      omega arith,
+      below_more _ _ l.invariant.1 (⊎_elim
+          (λ w. waits_no_more a.owner.now a.answered.now a.m l.p w.0.taken w.2.left)
+          (λ w. waits_elsewhere a.owner.now a.answered.now a.m l.p w.left)
+          c.if-owner-p.branch),
+    )
+
+pub returns : goal.returns
+unfolding oldest_of
+returns c =
+    let a = c.args in
+    let l = c.loop-p in
+    found_none (waits a.owner.now a.answered.now a.m) (length a.owner.now) l.p l.invariant.1 (omega arith)

@@ -1,0 +1,82 @@
+use mathlib.Core.Path.{refl, sym, ◌∙◌}
+use Prim.Native.Nat.{◌-◌}
+use native.Mathlib.Omega.{arith}
+use Rattle.pnet_urgent_search.proofs.Carries.{carried_of}
+use Rattle.pnet_urgent_search.proofs.Blocks.{passing_none, passing_more, passing_done, slow, laid_block, walking_sound}
+use Rattle.pnet_urgent_search.proofs.walk.Goals as goal
+
+pub set_out-requires : goal.set_out-requires
+set_out-requires c =
+    let s = c in
+    (slow s.requires.urgency.0 s.requires.urgency.1, omega (arith, s.requires.urgency.0.few, s.requires.urgency.1.to), omega (arith, s.requires.urgency.0.few, s.requires.urgency.1.to))
+
+pub loop-a-init : goal.loop-a-init
+loop-a-init c =
+    let p = c.requires in
+    let f = c.set_out in
+    (f.auto.1.1.1.1.0, f.auto.1.1.1.1.1.0, passing_none p.0.0 p.0.1 p.0.2 p.1.2 f.ensures refl)
+
+pub slice_bounds-lay-end : goal.slice_bounds-lay-end
+slice_bounds-lay-end c = sym c.loop-a.invariant.0
+
+pub slice_bounds-lay-end-in-loop-a : goal.slice_bounds-lay-end-in-loop-a
+slice_bounds-lay-end-in-loop-a c = sym c.loop-a.invariant.1
+
+pub slice_bounds-lay-end-in-loop-a-2 : goal.slice_bounds-lay-end-in-loop-a-2
+slice_bounds-lay-end-in-loop-a-2 c = sym c.loop-a.invariant.2.table_long
+
+pub lay-requires : goal.lay-requires
+lay-requires c =
+    let p = c.requires in
+    let on = c.loop-a.invariant.2 in
+    ((slow p.0.0 p.0.1, omega (arith, on.early), on.table_long), (on.due, on.base_is))
+
+-- TODO: `auto` goes by name now
+pub slice_bounds-carry_all-end : goal.slice_bounds-carry_all-end
+slice_bounds-carry_all-end c = sym (c.lay.auto.1.1.1.1.1.1.1.1.0 ∙ c.loop-a.invariant.2.table_long)
+
+pub carry_all-last-requires : goal.carry_all-last-requires
+carry_all-last-requires c =
+    let p = c.requires in
+    let l = c.loop-a in
+    let on = l.invariant.2 in
+    let u = p.0.0 in (
+      (
+        u.turn_from,
+        omega (arith, u.deadlines, u.few),
+        omega (arith, u.deadlines, p.0.2),
+        omega (arith, p.1.0, on.apart.slots_long),
+        omega (arith, p.1.1, on.apart.rounds_long),
+        laid_block u p.0.1 p.0.2 c.lay.ensures.laid (omega (arith, on.early)),
+      ),
+      walking_sound u p.0.1 p.0.2 on.walking,
+    )
+
+pub overflow_add-a : goal.overflow_add-a
+overflow_add-a c = omega (arith, c.loop-a.invariant.2.early)
+
+pub loop-a-smaller : goal.loop-a-smaller
+loop-a-smaller c = omega (arith, c.loop-a.invariant.2.early)
+
+pub loop-a-preserved : goal.loop-a-preserved
+loop-a-preserved c =
+    let p = c.requires in
+    let l = c.loop-a in
+    let f = c.lay in
+    let g = c.carry_all-last in (
+      f.auto.1.1.1.1.1.1.0 ∙ l.invariant.0,
+      f.auto.1.1.1.1.1.1.1.0 ∙ l.invariant.1,
+      passing_more p.0.0 p.0.1 p.0.2 f.ensures.1 _ _ l.invariant.2 f.ensures.0 (carried_of g.ensures _ p.0.0.deadlines) (omega arith),
+    )
+
+pub shape_of-slots : goal.shape_of-slots
+shape_of-slots c = c.loop-a.invariant.2.apart.slots_long
+
+pub shape_of-rounds : goal.shape_of-rounds
+shape_of-rounds c = c.loop-a.invariant.2.apart.rounds_long
+
+pub returns : goal.returns
+returns c =
+    let p = c.requires in
+    let on = c.loop-a.invariant.2 in
+    (on.apart, passing_done p.0.0 p.0.1 p.0.2 on c.loop-a-test.false)

@@ -1,0 +1,77 @@
+-- `report_path::report` writes the whole report of what is kept of a path, or nothing where a report might not fit.
+use mathlib.Core.Path.{sym, ◌∙◌}
+use mathlib.Core.List.{List, ◌∷◌, map}
+use mathlib.Core.Bool.{true, false}
+use Prim.Native.Nat.{ℕ, zero, suc, ◌-◌, ◌^◌, ◌≤◌, ◌<◌}
+use native.Mathlib.Omega.{arith}
+use mir.Val.{Val}
+use denote.Shadow.{shadow}
+use denote.Array.{each}
+use lib.ListN.{length}
+use Rattle.units.specs.declared.BitPeriods.{BitPeriods}
+use Rattle.units.specs.contracts.BitPeriods.{the_field}
+use Rattle.pnet_path.specs.declared.Way.{Way}
+use Rattle.text.specs.Text.{item}
+use Rattle.report_path.specs.Told.{most_path}
+use Rattle.report_path.specs.Kept.{count_at, lines_of}
+use Rattle.report_path.proofs.Kept.{refused_report, answered_report, few_segments, no_room, written}
+use Rattle.report_path.proofs.Lengths.{no_path_longer, no_sheet_refusal_longer, no_path_refusal_longer}
+use Rattle.report_path.proofs.report.Goals as goal
+
+-- each count in a run of them is a number of 32 bits
+counts-small : (xs : List BitPeriods) (us : List Val) (i : ℕ) → shadow (each the_field.row.Denot the_field.row.own_val (map the_field.into xs) us)
+    → (count_at xs i).0 < 2 ^ 32
+counts-small [] us i p = omega arith
+counts-small (x ∷ xs) [] i p = absurd p
+counts-small (x ∷ xs) (u ∷ us) zero p = p.0.1.1.0.1
+counts-small (x ∷ xs) (u ∷ us) (suc i) p = counts-small xs us i p.1
+
+-- so the lines of a way have room
+short : (w : Way) → ((i : ℕ) → (count_at w.bounds i).0 < 2 ^ 32) → ((i : ℕ) → (count_at w.times i).0 < 2 ^ 32) → (total deadline : BitPeriods) → w.segments - 1 ≤ 10
+    → total.0 < 2 ^ 32 → deadline.0 < 2 ^ 32 → length (lines_of w total deadline) ≤ most_path
+unfolding lines_of
+short w b t total deadline few s d = no_path_longer (item w.masters) (count_at w.bounds) (count_at w.times) b t (w.segments - 1) total deadline few s d
+
+pub returns-then-out-lt-MOST_TEXT : goal.returns-then-out-lt-MOST_TEXT
+returns-then-out-lt-MOST_TEXT c = no_room _ _ _ c.if-out-lt-MOST_TEXT.true
+
+pub returns-then-way : goal.returns-then-way
+returns-then-way c =
+    let s = c in
+    let start = s in
+    written false (refused_report start.args.way start.args.deadline s.if-way.true) (no_sheet_refusal_longer _ _ _) s.if-out-lt-MOST_TEXT.false
+    c.put_sheet_refusal.ensures
+
+pub put_path-requires : goal.put_path-requires
+put_path-requires c =
+    let told = c in
+    let start = told in
+    few_segments start.args.way start.args.deadline told.if-way.false _ (sym c.in-Within.is ∙ told.answer-crossing.ensures)
+
+-- TODO: no step `well-formed` is known on the way there
+-- TODO: what `known-told.given.0.1.1.0.1` says is now in a field with a name of its own
+pub returns-in-Within : goal.returns-in-Within
+returns-in-Within c =
+    let told = c in
+    let s = told in
+    let start = s in
+    -- what is known of a way that is passed: each field in its order, a run with what is known of its elements; here from the masters on
+    let known = start.well-formed.1.0.1.1.1.1.1.1 in
+    let b : (i : ℕ) → (count_at start.args.way.bounds i).0 < 2 ^ 32 = λ i. counts-small start.args.way.bounds known.1.0.0 i known.1.0.1.1 in
+    let t : (i : ℕ) → (count_at start.args.way.times i).0 < 2 ^ 32 = λ i. counts-small start.args.way.times known.1.1.0.0 i known.1.1.0.1.1 in
+    let d : start.args.deadline.0 < 2 ^ 32 = start.well-formed.1.1.0.1.1.0.1 in
+    let x = c.in-Within in
+    let small : x.given.0.0.0 < 2 ^ 32 = c.in-Within.given.0.1.1.0.1 in
+    let is = sym x.given.1 ∙ told.answer-crossing.ensures in
+    let few = few_segments start.args.way start.args.deadline s.if-way.false _ is in
+    written true (answered_report start.args.way start.args.deadline s.if-way.false _ is)
+    (short start.args.way b t x.given.0.0 start.args.deadline (omega (arith, few.1)) small d) s.if-out-lt-MOST_TEXT.false c.put_path.ensures
+
+pub returns-in-Refused : goal.returns-in-Refused
+returns-in-Refused c =
+    let told = c in
+    let s = told in
+    let start = s in
+    written false
+    (answered_report start.args.way start.args.deadline s.if-way.false _ (sym c.in-Refused.is ∙ told.answer-crossing.ensures))
+    (no_path_refusal_longer _ _) s.if-out-lt-MOST_TEXT.false c.put_path_refusal.ensures

@@ -1,0 +1,20 @@
+-- `sheet_judge::own_no` meets its contract, a law of `Own` for each answer.
+use mathlib.Core.Path.{◌∙◌, sym}
+use borrow.Author.Tests.{not-true, not-false}
+use Rattle.sheet_judge.proofs.Own.{own_unknown, own_wrong, own_cut, own_out, own_none}
+use Rattle.sheet_judge.proofs.own_no.Goals as goal
+
+pub returns-then-not-known : goal.returns-then-not-known
+returns-then-not-known c = own_unknown _ _ _ _ (sym c.known.ensures ∙ not-true _ c.if-not-known.true-raw)
+
+pub returns-then-not-right : goal.returns-then-not-right
+returns-then-not-right c = own_wrong _ _ _ _ (sym c.known.ensures ∙ not-false _ c.if-not-known.false-raw) (not-true _ c.if-not-right.true-raw)
+
+pub returns-then-not-whole : goal.returns-then-not-whole
+returns-then-not-whole c = own_cut _ _ _ _ (sym c.known.ensures ∙ not-false _ c.if-not-known.false-raw) (not-false _ c.if-not-right.false-raw) (not-true _ c.if-not-whole.true-raw)
+
+pub returns-then-not-ranged : goal.returns-then-not-ranged
+returns-then-not-ranged c = own_out _ _ _ _ (sym c.known.ensures ∙ not-false _ c.if-not-known.false-raw) (not-false _ c.if-not-right.false-raw) (not-false _ c.if-not-whole.false-raw) (not-true _ c.if-not-ranged.true-raw)
+
+pub returns : goal.returns
+returns c = own_none _ _ _ _ (sym c.known.ensures ∙ not-false _ c.if-not-known.false-raw) (not-false _ c.if-not-right.false-raw) (not-false _ c.if-not-whole.false-raw) (not-false _ c.if-not-ranged.false-raw)

@@ -1,0 +1,15 @@
+-- `sheet_rewrite::copy` meets its contract: refused for want of room, or written whole.
+use mathlib.Core.Path.{refl}
+use native.Mathlib.Omega.{arith}
+use Rattle.sheet_rewrite.proofs.Filled.{filled_short, filled_whole}
+use Rattle.sheet_rewrite.proofs.copy.Goals as goal
+
+pub returns-then-out-n : goal.returns-then-out-n
+returns-then-out-n c = let a = c.args in filled_short a.out.now a.s.now refl (omega arith)
+
+-- TODO: `auto` goes by name now
+pub shape_of-out : goal.shape_of-out
+shape_of-out c = c.put_word.auto.out
+
+pub returns : goal.returns
+returns c = filled_whole _ _ (omega arith) c.put_word.ensures
