@@ -3,6 +3,7 @@
 
 usage: convert_proofs.py [--all] [--walks] [--keep-old FOLDER] CRATE_FOLDER [FUNCTION ..]
        convert_proofs.py --mend CRATE_FOLDER
+       convert_proofs.py --copy FOLDER_OF_CRATES
 
 CRATE_FOLDER is a folder of crates/ whose source and specs/ are accepted already. The script asks `rt check --old-names` for the names
 that goals and steps had and have, and rewrites proofs/F for each function F (or only for the functions that are named). Old files are
@@ -13,6 +14,9 @@ hand is left as it is; with --walks it is taken away (its copy stays), and the c
 
 --mend runs `rt check` on a crate that was turned, and goes by what it says until nothing more is to mend: where a record has no field `1`
 it writes the name of that field, and where a tuple is to be a record it writes the record.
+
+--copy writes `#[derive(Clone, Copy)]` in place of `#[derive(Drop)]` on each struct and enum of the crates that holds only numbers, shared
+references and other such types, as the old kit copied them without a word.
 
 What is turned:
   * `tie.Need-X`, the goal of an answer, becomes `goal.Y`, and the answer takes Y's name;
@@ -30,6 +34,7 @@ import re
 import shutil
 import subprocess
 import sys
+import tempfile
 
 WORD = r"[^\s(){}.;,@\"\[\]\\]+"
 TOKEN = re.compile(r"--[^\n]*|\"(?:[^\"\\]|\\.)*\"|" + WORD + r"(?:\." + WORD + r")*")
@@ -115,7 +120,7 @@ class Names:
     def step(self, i, old):
         """The place on the way to place i whose step has this old name."""
         for j in self.chain(i):
-            if self.places[j][2][0] and norm(self.places[j][2][0]) == norm(old):
+            if self.places[j][2][0] and norm(self.places[j][2][0]).lower() == norm(old).lower():
                 return j
         return None
 
@@ -253,8 +258,6 @@ class Turned:
             named = by_param(n.functions[callee][1], rest[1:])
             if named:
                 rest = [rest[0], *named]
-            if rest[0] == "auto":
-                self.todo.append("`auto` goes by name now")
         olds = {norm(a): b for a, b in labels if isinstance(a, str)}
         return [new, *[olds.get(norm(it), it) for it in rest]]
 
@@ -361,7 +364,7 @@ def used_imports(uses, body, own):
             it = it.strip()
             name = it.split(" as ")[-1].strip()
             bits = [b for b in name.split("◌") if b] if "◌" in name else [name]
-            if name == "Dec" or all(b in words or ("◌" in name and b in body) for b in bits):
+            if name == "Dec" or (name in ("[]", "⊥", "⊤") and name in body) or all(b in words or ("◌" in name and b in body) for b in bits):
                 keep.append(it)
         if keep:
             out.append("use %s.{%s}" % (m.group(1), ", ".join(keep)))
@@ -524,7 +527,7 @@ NO_FIELD = re.compile(
 )
 WHOLE = re.compile(r"^help: `(\S+)` asks a record with a field for each clause or ghost field. .* replace this answer with answers named ([^;\n]*);", re.M)
 UNEQUAL = re.compile(r"^(\./\S+?\.antt):(\d+):(\d+): error: `(\S+?)`: (?=(?:[^\n]*\n)(?:  [^\n]*\n)*  expected type `\S*\.Asks-)", re.M)
-FURTHER_IN = re.compile(r"^(\./\S+?\.antt):(\d+):(\d+): error: .*A record further in has one: write `\.(\S+)` in place of `\.(\S+)`", re.M)
+FURTHER_IN = re.compile(r"^(\./\S+?\.antt):(\d+):(\d+): error: [^\n]*\n?[^\n]*A record further in has one: write `\.(\S+)` in place of `\.(\S+)`", re.M)
 NO_TUPLE = re.compile(r"^(\./\S+?\.antt):(\d+):(\d+): error: [^\n]*a value of [^\n]*\n\s+is built with `record \{ ([^}]*) \}`, not as a tuple", re.M)
 
 
@@ -632,8 +635,43 @@ def mend(folder):
         print("mended %d places" % done)
 
 
+def derive_copy(folder):
+    """Writes `#[derive(Clone, Copy)]` for `#[derive(Drop)]` on each struct and enum that holds only numbers, shared references and the like."""
+    types, plain = {}, set("u8 u16 u32 u64 u128 usize i8 i16 i32 i64 i128 isize bool char".split())
+    declared = re.compile(r"#\[derive\(Drop\)\]\n(pub )?(struct|enum) (\w+)(<[^>]*>)?\s*([({][^;]*?(?:\);|\n\}))", re.S)
+    for path in glob.glob(os.path.join(folder, "*", "src", "**", "*.rt"), recursive=True):
+        for m in declared.finditer(read(path)):
+            body = re.sub(r"//[^\n]*|\bghost [^\n]*", "", m.group(5))
+            types[m.group(3)] = (path, m, re.sub(r"\b\w+\s*:(?!:)", "", body) if m.group(2) == "struct" else body)
+    copied, changed = set(), True
+    while changed:
+        changed = False
+        for name, (path, m, body) in types.items():
+            if name in copied or "&mut" in body or re.search(r"&'\w+ mut", body):
+                continue
+            if m.group(2) == "enum":
+                inner = " ".join(re.findall(r"\(([^)]*)\)|\{([^}]*)\}", body[1:-1]) and [" ".join(it) for it in re.findall(r"\(([^)]*)\)|\{([^}]*)\}", body[1:-1])] or [])
+                inner = re.sub(r"\b\w+\s*:(?!:)", "", inner)
+            else:
+                inner = re.sub(r"\bpub\b(\([^)]*\))?", "", body)
+            inner = re.sub(r"&(?:'\w+\s+)?", "", inner)
+            words = set(re.findall(r"(?<!')\b[A-Za-z_]\w*\b", re.sub(r";\s*\w+\]", "]", re.sub(r"'\w+", "", inner)))) - {"str"}
+            if all(it in plain or it in copied for it in words):
+                copied.add(name)
+                changed = True
+    for path in {types[it][0] for it in copied}:
+        text = read(path)
+        new = declared.sub(lambda m: m.group(0).replace("#[derive(Drop)]", "#[derive(Clone, Copy)]", 1) if m.group(3) in copied else m.group(0), text)
+        with open(path, "w", encoding="utf-8") as it:
+            it.write(new)
+        print("Clone, Copy: %s: %s" % (path, ", ".join(sorted(it for it in copied if types[it][0] == path))))
+
+
 def main():
     args = sys.argv[1:]
+    if args[:1] == ["--copy"]:
+        derive_copy(os.path.abspath(args[1]))
+        return
     if args[:1] == ["--mend"]:
         mend(os.path.abspath(args[1]))
         return
@@ -650,8 +688,7 @@ def main():
     crate, only = os.path.basename(folder), set(args[1:])
     add_tactic(folder)
     functions = functions_of(os.path.dirname(folder))
-    listed = os.path.join("/tmp", "names-" + crate)
-    shutil.rmtree(listed, ignore_errors=True)
+    listed = tempfile.mkdtemp()
     said = subprocess.run(["rt", "check", "--generated", listed, "--old-names"], cwd=folder, capture_output=True, text=True)
     path = os.path.join(listed, "names.json")
     if not os.path.exists(path):

@@ -1,6 +1,7 @@
 // What every report says in the same words, page 01 'Sheets worked by hand': counts with their unit, masters' names, refusals. Each
 // function writes into a lent run from a place on and answers the place just after; what does not fit is left out.
 #![tactic(auto)]
+
 ghost use Rattle.std.specs.Prelude.{◌++◌};
 ghost use Rattle.text.specs.Text.{Wrote};
 ghost use Rattle.report_phrases.specs.Phrases.{in_bp, in_us, in_ns, in_both, two_counts, name_of, whose_text, place_text, refused_text, refusal_text};

@@ -2,7 +2,6 @@
 use Rattle.report_phrases.specs.Phrases.{refusal_text}
 use Rattle.report_phrases.proofs.put_refusal.Goals as goal
 
--- TODO: no step `Put-refused` is known on the way there
 pub returns : goal.returns
 unfolding refusal_text
-returns c = c.Put-refused.ensures
+returns c = c.put_refused.ensures

@@ -1,6 +1,6 @@
 -- `report_phrases::put_refused` stores a refusal and what follows it.
 use mathlib.Core.Path.{◌≡◌}
-use mathlib.Core.List.{List, ◌++◌, append_assoc}
+use mathlib.Core.List.{List, [], ◌++◌, append_assoc}
 use Prim.Native.Nat.{ℕ}
 use Rattle.text.specs.Text.{word, counted}
 use Rattle.report_phrases.specs.Phrases.{place_text, refused_text}
