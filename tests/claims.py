@@ -1,7 +1,7 @@
 """Every name that docs/CLAIMS.md and docs/IDLE.md cite stands in the tree.
 
-A must-fail label is a word with underscores; a name of a definition or a theorem is written `File.name` behind a crate's
-name and a colon, and a function `crate::name`.
+A must-fail label is a word with underscores that no specs or proofs declare; a name of a definition or a theorem is written `File.name`
+behind a crate's name and a colon, and a function `crate::name`.
 """
 
 import pathlib
@@ -24,8 +24,9 @@ def missing_labels(text):
     labels = {path.stem for path in CRATES.glob("*/must-fail/*.edit")}
     functions = set(re.findall(r"::(\w+)", text)) | {path.name for path in CRATES.iterdir()}
     code = "".join(path.read_text() for path in CRATES.glob("*/src/*.rt"))
+    stated = {word for path in CRATES.glob("*/*/*.antt") for word in re.findall(r"[\w']+", path.read_text())}
     for word in sorted(set(re.findall(r"\b[a-z0-9]+(?:_[a-zA-Z0-9]+)+\b", text))):
-        if word in labels or word in functions or re.search(r"fn %s\b" % word, code):
+        if word in labels or word in functions or word in stated or re.search(r"fn %s\b" % word, code):
             continue
         yield "must-fail edit %s" % word
 
@@ -53,7 +54,7 @@ def missing_names(text):
                 files, name = files_of(crate, word), None
             else:
                 name = word if re.match(r"[\w-]+$", word) else None
-                if name and not (files and ("-" in name or name[0].isupper())):
+                if name and not (files and ("_" in name or name[0].isupper())):
                     continue
             body = "".join(path.read_text() for path in files)
             if found and not files or name and not re.search(r"(?<![\w-])%s(?![\w-])" % re.escape(name), body):
