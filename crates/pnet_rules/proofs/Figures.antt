@@ -70,7 +70,7 @@ module _ (h : ℕ → ℕ) (a : ℕ → ℕ → ℕ) (S : Segment) (k : ℕ) whe
 -- as many requests, or more, with as large an R(y) and in as long a window
 pub asked_no_less : (h g : ℕ → ℕ) (S : Segment) (y v w : ℕ) → bound_by h S y ≤ bound_by g S y → v ≤ w → asked_by h S y v ≤ asked_by g S y w
 unfolding asked_by
-asked_no_less h g S y v w r l = upto_mono _ _ S.number (λ i lo hi. split (owns S y i) (up_rises _ _ (S.stream i).spacing (omega arith)))
+asked_no_less h g S y v w r l = upto_mono _ _ S.number (λ i lo hi. split (owns S y i) (up_rises (v + bound_by h S y + (S.stream i).jitter) (w + bound_by g S y + (S.stream i).jitter) (S.stream i).spacing (omega arith)))
   where
     split : {x z : ℕ} (b : Bool) → x ≤ z → when b x ≤ when b z
     split true q = q
