@@ -25,6 +25,7 @@ use Rattle.pnet_run.specs.Run.{
   start,
   complete,
   arrive,
+  move,
   travel,
   work,
   serve,
@@ -82,6 +83,7 @@ balance (arrive {t = t} {m = o} {i = j} {q = q} {came = came} {went = went} z s 
         → one + came_since i lo came ≡ came_since i lo (join q o r m) + served_since i lo went
     go (yes e) h = rw (e, put_same q o (q o ++ (r ∷ []))) (omega (arith, rw e at h, came_behind i lo (q o) r))
     go (no n) h = rw (put_other q o (q o ++ (r ∷ [])) m n) (omega (arith, h, not_counted i (leb lo t) r (other_stream d f n)))
+balance (move _ _ never) m i lo d = elim never [ ]
 balance (travel e z) m i lo d = balance z m i lo d
 balance (work e z) m i lo d = balance z m i lo d
 balance (serve e x c z p a b f g k o) m i lo d = balance z m i lo d

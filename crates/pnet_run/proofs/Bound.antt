@@ -44,6 +44,7 @@ use Rattle.pnet_run.specs.Run.{
   start,
   complete,
   arrive,
+  move,
   travel,
   work,
   serve,
@@ -110,6 +111,7 @@ module _ (S : Segment) (k : ℕ) where
   Roomy (start a b c) = Unit {0}
   Roomy (complete z p) = Roomy z
   Roomy (arrive {m = m} {i = i} {q = q} z o d) = (m ≡ k → Room i q) × Roomy z
+  Roomy (move _ _ never) = elim never [ ]
   Roomy (travel e z) = Roomy z
   Roomy (work e z) = Roomy z
   Roomy (serve e u v z p a b c d f g) = Roomy z
@@ -219,6 +221,7 @@ module _ (S : Segment) (h x : ℕ → ℕ) (k : ℕ) (1≤k : 1 ≤ k) (k≤n : 
     inv (start a b c) s = record { token = omega arith; queue = none }
     inv (complete {m = m} {r = r} z p) s = inv_complete (inv z s) p (owned z m r (rw p (Memᴰ.head refl))) (queue_past z k) (omega arith)
     inv (arrive z o d) s = inv_arrive (inv z s.1) s.0
+    inv (move _ _ never) s = elim never [ ]
     inv (travel e z) s = inv_travel e (inv z s)
     inv (work e z) s = inv_work e (inv z s)
     inv (serve {m = m} {r = r} e u v z p a b c d f g) s = inv_serve e (inv z s) (owned z m r (rw p (Memᴰ.head refl))) (omega arith)
@@ -276,6 +279,7 @@ module _ (S : Segment) (h : ℕ → ℕ) (k : ℕ) (1≤k : 1 ≤ k) (k≤n : k 
   roomy (start a b c) apart = tt
   roomy (complete z p) apart = roomy z apart
   roomy (arrive z o d) apart = let s = roomy z (λ j e. apart_before (apart j e)) in (λ e. room z s o (rw e at d) apart, s)
+  roomy (move _ _ never) apart = elim never [ ]
   roomy (travel e z) apart = roomy z apart
   roomy (work e z) apart = roomy z apart
   roomy (serve e u v z p a b c d f g) apart = roomy z apart

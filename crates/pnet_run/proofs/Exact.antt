@@ -192,7 +192,7 @@ module _ (S : Segment) (k : ℕ) (1≤k : 1 ≤ k) (k≤n : k ≤ S.masters) (de
   walk {j} {m} {t} {went} zero e a b l g =
       let here : m ≡ k = gap_apart N k a b 1≤k k≤n (e ∙ sym (gap_own (λ z. 1) N k)) in
       record { now = t; went = went; stage = subst (λ (x : ℕ). Stage j x t (toward x 0) went) here g; time = omega (arith, ap (hold S) here, gap_own (hold S) N k, ap (gap (hold S) N k) here) }
-  walk {j} {m} {t} (suc x) e a b l g = on (walk x (omega (arith, closer)) (next_in b).0 (next_in b).1 l (visit a b n l g).stage)
+  walk {j} {m} {t} (suc x) e a b l g = on (walk {m = after m} x (omega (arith, closer)) (next_in b).0 (next_in b).1 l (visit a b n l g).stage)
     where
       n : m ≢ k
       n z = omega (arith, ap far z, gap_own (λ z. 1) N k)

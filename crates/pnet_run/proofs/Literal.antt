@@ -27,6 +27,7 @@ use Rattle.pnet_run.specs.Run.{
   start,
   complete,
   arrive,
+  move,
   travel,
   work,
   serve,
@@ -174,6 +175,7 @@ module _ (S : Segment) where
   run_is_literal (start a b c) = all_complete (begin a b c) on_way
   run_is_literal (complete z p) = all_complete (completes (run_is_literal z) p) on_way
   run_is_literal (arrive z s b) = more_arrive s b (run_is_literal z)
+  run_is_literal (move _ _ never) = elim never [ ]
   run_is_literal (travel {t = t} {m = m} {d = d} e z) = travels m e d t (run_is_literal z)
   run_is_literal (work {t = t} {m = m} {c = c} e z) = works m e c t (run_is_literal z)
   run_is_literal (serve {t = t} {m = m} {c = x} e reaction message z p a b c d l s) =

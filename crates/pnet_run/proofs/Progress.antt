@@ -6,7 +6,7 @@ use mathlib.Core.List.{List, [], ◌∷◌, ◌++◌}
 use native.Mathlib.Decide.{ℕ_discrete}
 use native.Mathlib.Omega.{arith}
 use Rattle.pnet_rules.specs.Segment.{Segment}
-use Rattle.pnet_run.specs.Run.{Belongs, Request, request, Answer, Queues, join, Token, toward, serving, Run, start, complete, arrive, travel, work, serve, skip}
+use Rattle.pnet_run.specs.Run.{Belongs, Request, request, Answer, Queues, join, Token, toward, serving, Run, start, complete, arrive, move, travel, work, serve, skip}
 use Rattle.pnet_run.proofs.Keeping.{put_same, put_other}
 use Rattle.pnet_run.proofs.Queues.{owned}
 
@@ -36,6 +36,7 @@ pub serves : {S : Segment} {t : ℕ} {y : Token} {q : Queues} {came : List Reque
 serves (start a b c) = tt
 serves (complete z p) = tt
 serves (arrive {t = t} {m = m} {i = i} {y = y} {q = q} z o d) = serves_join y q m (request i t) (serves z)
+serves (move _ _ never) = elim never [ ]
 serves (travel e z) = tt
 serves (work e z) = serves z
 serves (serve {r = r} {rest = rest} e x c z p a b d f g o) = record { oldest = r; rest = rest; is = p }

@@ -46,6 +46,7 @@ use Rattle.pnet_run.specs.Run.{
   start,
   complete,
   arrive,
+  move,
   travel,
   work,
   serve,
@@ -221,6 +222,7 @@ module _ (S : Segment) (declared : Declared S) (h : ℕ → ℕ) (cover : Covers
         calm (start a b c) s = λ r j. absurd (Memᴰ.not-nil j)
         calm (complete z p) s = calm_complete z p (calm z s)
         calm (arrive {t = t} {m = m} {i = i} {came = came} z o d) s = let e = earlier (request i t) came s in calm_arrive m i z e (calm z e)
+        calm (move _ _ never) s = elim never [ ]
         calm (travel e z) s = calm z s
         calm (work e z) s = calm z s
         calm (serve {c = left} e u c z p a b d f w o) s = calm_serve left z s p (calm z s)

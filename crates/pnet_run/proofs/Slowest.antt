@@ -45,8 +45,11 @@ queues_to_more S n = fun_ext λ y. at y (ℕ_discrete y m)
     m : ℕ
     m = (S.stream (suc n)).master
 
+    same : join (queues_to S n) m (asked (suc n)) m ≡ queues_to S (suc n) m
+    same = rw (put_same (queues_to S n) m (queues_to S n m ++ (asked (suc n) ∷ [])), eq-eqb m m refl) (sym (map-append asked (picked (owns S m) n) (suc n ∷ [])))
+
     at : (y : ℕ) → Dec (y ≡ m) → join (queues_to S n) m (asked (suc n)) y ≡ queues_to S (suc n) y
-    at y (yes e) = rw (e, put_same (queues_to S n) m (queues_to S n m ++ (asked (suc n) ∷ [])), eq-eqb m m refl) (sym (map-append asked (picked (owns S m) n) (suc n ∷ [])))
+    at y (yes e) = subst (λ (x : ℕ). join (queues_to S n) m (asked (suc n)) x ≡ queues_to S (suc n) x) (sym e) same
     at y (no z) = rw (put_other (queues_to S n) m (queues_to S n m ++ (asked (suc n) ∷ [])) y z, ne_eqb m y (λ e. z (sym e)))
 
 asked_more : {S : Segment} {n : ℕ} {y : Token} → Settled y → suc n ≤ S.number → Run S 0 y (queues_to S n) (asked_to n) []

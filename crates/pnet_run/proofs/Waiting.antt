@@ -64,10 +64,10 @@ module _ {turn : ℕ} {allowed : ℕ → ℕ} where
       ⊎_elim (λ (e : r ≡ s). rw e o) (λ (j' : Memᴰ r l'). omega (arith, in_time_each g j')) (Memᴰ.cases_cons j)
 
   -- one more, behind the last
-  pub in_time_snoc : {x : ℕ} {l : List Request} (r : Request) → Absent r.of l → x + length l * turn ≤ r.since + allowed r.since
+  pub in_time_snoc : (r : Request) {x : ℕ} {l : List Request} → Absent r.of l → x + length l * turn ≤ r.since + allowed r.since
       → InTime turn allowed x l → InTime turn allowed x (l ++ (r ∷ []))
-  in_time_snoc {x = x} r none b none = and {x = x} {r = r} (omega arith) none none
-  in_time_snoc r (and n m) b (and o a g) = and o (absent_snoc r a (λ e. n (sym e))) (in_time_snoc r m (omega arith) g)
+  in_time_snoc r {x = x} none b none = and {x = x} {r = r} (omega arith) none none
+  in_time_snoc r {x = x} (and n m) b (and o a g) = and o (absent_snoc r a (λ e. n (sym e))) (in_time_snoc r {x = x + turn} m (omega arith) g)
 
 -- ---- As many requests as streams at most
 
@@ -87,7 +87,7 @@ upto_without : (f : ℕ → ℕ) (n m : ℕ) → 1 ≤ m → m ≤ n → upto f 
 upto_without f n m a b = omega (arith, upto_but_one f (without f m) n m a b (λ y z. sym (without_other f m y z)), without_same f m)
 
 -- where f counts each stream that is in the queue, the queue is no longer than the sum of f
-fewer : {turn x : ℕ} {allowed : ℕ → ℕ} {l : List Request} (f : ℕ → ℕ) (n : ℕ) → InTime turn allowed x l
+fewer : {turn : ℕ} {allowed : ℕ → ℕ} {x : ℕ} {l : List Request} (f : ℕ → ℕ) (n : ℕ) → InTime turn allowed x l
     → ((r : Request) → Memᴰ r l → (1 ≤ r.of) × (r.of ≤ n) × (1 ≤ f r.of)) → length l ≤ upto f n
 fewer f n none c = zero-le
 fewer f n (and {r = r} o a g) c =

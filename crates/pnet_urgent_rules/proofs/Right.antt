@@ -15,7 +15,7 @@ module _ (S : Segment) (i : ℕ) where
   -- as many requests ahead, or more, in as long a window
   pub ahead_rises : (x y : ℕ) → x ≤ y → ahead_in S i x ≤ ahead_in S i y
   unfolding ahead_in
-  ahead_rises x y l = upto_mono _ _ S.number (λ j lo hi. split (ahead S i j) (up_rises _ _ (S.stream j).spacing (omega arith)))
+  ahead_rises x y l = upto_mono _ _ S.number (λ j lo hi. split (ahead S i j) (up_rises (x + (S.stream j).jitter) (y + (S.stream j).jitter) (S.stream j).spacing (omega arith)))
     where
       split : {a b : ℕ} (t : Bool) → a ≤ b → when t a ≤ when t b
       split true q = q

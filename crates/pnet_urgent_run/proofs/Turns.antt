@@ -165,7 +165,7 @@ module _ (S : Segment) (declared : Declared S) (first-edition : S.edition ≡ 1)
         stage = subst (λ (u : ℕ). Stage t (toward u 0) now went) is g;
         time = omega (arith, ap (hold S) is, gap_own (hold S) N k, ap (gap (hold S) N k) is);
       }
-  walk {m} {t} {now} (suc x) e a b g = on (walk x (omega (arith, closer)) (next_in b).0 (next_in b).1 (visit n g).stage)
+  walk {m} {t} {now} (suc x) e a b g = on (walk {m = next N m} x (omega (arith, closer)) (next_in b).0 (next_in b).1 (visit n g).stage)
     where
       n : m ≢ k
       n z = omega (arith, ap far z, gap_own (λ z. 1) N k)
