@@ -110,6 +110,7 @@ module _ (S : Segment) where
         same = same_put q x.kept m (q m ++ (request i t ∷ [])) (held (x.kept m).stack ((x.kept m).waiting ++ (request i t ∷ [])))
             (rw (x.same m) (append_assoc (x.kept m).stack (x.kept m).waiting (request i t ∷ []))) x.same;
       }
+  first_come_is_among_them (move _ _ never) = elim never [ ]
   first_come_is_among_them (travel e z) = let x = first_come_is_among_them z in record { kept = x.kept; run = travel e x.run; same = x.same }
   first_come_is_among_them (work e z) = let x = first_come_is_among_them z in record { kept = x.kept; run = work e x.run; same = x.same }
   first_come_is_among_them (serve {m = m} {c = left} e u v z p a b c d f g) =
