@@ -97,6 +97,7 @@ module _ (s : List ℕ) (room : ℕ) where
     line n p (later k (later r (here l))) =
         not_met (on_bus k) (ltb-false room (length H.streams) r)
         (first_unmet_law (segment_of H) (on_bus_some H (on_bus k)) (leb-true (first_unmet (segment_of H)) (length H.streams) l))
+    line n p (later k (later r (later _ none_is_left))) = elim none_is_left [ ]
 
     no_line : Clear (urgent_checks H room) → Accepted s room H
     unfolding segment_of
