@@ -90,6 +90,7 @@ last_begun : {z t i : ℕ} {ts : List ℕ} {came : List Request} {es : List Even
     → Last z (first (t ∷ ts)) i came es
 unfolding first
 last_begun nothing (never n x) = never n x
+last_begun nothing (last _ _ of_nothing _) = elim of_nothing [ ]
 last_begun (up_to r past) p = p
 
 -- a record that is no request of stream i

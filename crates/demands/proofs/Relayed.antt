@@ -43,6 +43,7 @@ module _ (S : ℕ → Segment) (k F R : ℕ → ℕ) where
       unfolding segment_step gateway_step
 
       pub sent_within : (left i : ℕ) → 1 ≤ i → 2 * i + left ≤ 2 * n + 1 → {a b : ℕ} → Sent S k F left i a b → b ≤ a + segment_step R F left i
+      sent_within zero i from to never = elim never [ ]
       sent_within (suc left) i from to (sent {u = u} {r = r} began run spaced own answered rest) =
           omega (arith, ((safe i from (omega arith)).ever run spaced).in_time (answer r u) answered own, forwarded_within left i from (omega arith) rest)
 
@@ -53,6 +54,7 @@ module _ (S : ℕ → Segment) (k F R : ℕ → ℕ) where
     -- a request that is under way in runs that last gets its reply
     mutual
       pub asked_answered : (left i : ℕ) → 1 ≤ i → 2 * i + left ≤ 2 * n + 1 → {a : ℕ} → Asked S k F R left i a → (b : ℕ) × Sent S k F left i a b
+      asked_answered zero i from to never = elim never [ ]
       asked_answered (suc left) i from to (asked {r = r} began run spaced own came lasts behind) =
           let x = ((safe i from (omega arith)).ever run spaced).none_left r came own lasts in
           let y = awaited_answered left i from (omega arith) (behind x.0 x.1) in
