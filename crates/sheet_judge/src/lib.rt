@@ -1,5 +1,6 @@
 // One record of a sheet judged by itself, page 01 'Numbered refusals' 2, 3, 1, 4: what stands at a place, whether it is right there, whole and in range.
 #![tactic(auto)]
+
 ghost use Rattle.std.specs.Prelude.{◌≡◌, ◌&&◌, eqb, get_or};
 ghost use Rattle.sheet_record.specs.Kinds.{pnet, known, is_stream_of, in_range, stream_met};
 ghost use Rattle.sheet_judge.specs.Own.{own_no, as_bus};

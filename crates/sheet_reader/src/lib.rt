@@ -3,6 +3,7 @@
 // The struct holds the sheet and a place. Its functions are thin: they take it apart and call `found_at` or `behind`, on a slice and a
 // number. A caller with plain parameters has `first` and `count`.
 #![tactic(auto)]
+
 ghost use Rattle.std.specs.Prelude.{◌≡◌};
 ghost use Rattle.sheet_reader.specs.Walk.{found_of, step_from, count as count_of};
 

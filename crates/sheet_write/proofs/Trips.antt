@@ -65,7 +65,7 @@ fields_back (more {f} {fs} {x} {xs} h t) p q (suc j) =
     let d = digits f.width x in
     let e : p ++ ((d ++ body fs xs) ++ q) ≡ (p ++ d) ++ (body fs xs ++ q) = simp append_assoc in
     let n : length p + f.width ≡ length (p ++ d) = omega (arith, length-append p d, length_digits f.width x) in
-    rw (e, n) (fields_back t (p ++ d) q j)
+    ap (λ (s : List ℕ). field_at s (length p + f.width) fs j) e ∙ (ap (λ (i : ℕ). field_at ((p ++ d) ++ (body fs xs ++ q)) i fs j) n ∙ fields_back t (p ++ d) q j)
 
 module _ (r : Record) (fit : Fit (fields_of r.kind) (numbers r)) (p q : List ℕ) where
   kind_back : get_or (p ++ (encode r ++ q)) (length p) 0 ≡ r.kind

@@ -1,5 +1,6 @@
 // Writing one record of a sheet, page 01 'Sheet records' and page 02 'Ask 7', 'Ask 8' and 'Ask 10'.
 #![tactic(auto)]
+
 ghost use Rattle.std.specs.Prelude.{true, ◌++◌, ◌≡◌, ◌+◌, ◌≤◌, length};
 ghost use Rattle.sheet_record.specs.Numbers.{digits, pasted};
 ghost use Rattle.sheet_record.specs.Kinds;

@@ -16,5 +16,5 @@ returns-in-3 c = rw c.in-3.is (sym (ring_streams c.args.kind))
 
 pub returns-in_default : goal.returns-in_default
 returns-in_default c =
-    let out = c.in_default.rest in
+    let out = c.in_default.in_default-own.rest in
     rw (as_last c.args.bus (λ e. omega (arith, out)) (λ e. omega (arith, out))) (sym (variables c.args.kind))

@@ -14,5 +14,5 @@ returns-in-3 c = rw c.in-3.is c.ring_stream_at.ensures
 
 pub returns-in_default : goal.returns-in_default
 returns-in_default c =
-    let out = c.in_default.rest in
+    let out = c.in_default.in_default-own.rest in
     rw (as_last c.args.bus (λ e. omega (arith, out)) (λ e. omega (arith, out))) c.variable_at.ensures

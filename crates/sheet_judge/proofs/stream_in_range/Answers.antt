@@ -16,5 +16,5 @@ returns-in-3 c = rw (c.in-3.is, ring_streams c.args.r.kind) c.in_range_of.ensure
 pub returns-in_default : goal.returns-in_default
 returns-in_default c =
     let a = c.args in
-    let out = c.in_default.rest in
+    let out = c.in_default.in_default-own.rest in
     rw (as_last a.bus (λ e. omega (arith, out)) (λ e. omega (arith, out)), variables a.r.kind) c.in_range_of-in_default.ensures

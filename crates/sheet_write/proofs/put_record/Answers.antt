@@ -1,7 +1,6 @@
 -- `sheet_write::put_record` meets its contract: 4 for a kind that the writer puts, else what `put_free` answers.
 use mathlib.Core.Path.{◌≡◌}
 use mathlib.Core.Bool.{Bool, not, ◌&&◌}
-use Rattle.sheet_record.specs.Kinds.{written}
 use Rattle.sheet_write.proofs.Writing.{range_written, free_written}
 use Rattle.sheet_write.proofs.put_record.Goals as goal
 
@@ -12,12 +11,11 @@ test e f t = rw (← e, ← f) t
 pub returns-then-written-in_range : goal.returns-then-written-in_range
 returns-then-written-in_range c =
     let a = c.args in
-    range_written a.buf.now a.at a.r (test c.written.ensures c.in_range.ensures c.if-written-in_range.true)
+    let r = range_written a.buf.now a.at a.r (test c.written.ensures c.in_range.ensures c.if-written-in_range.true) in record { value = r.0; buf_after = r.1 }
 
 pub returns : goal.returns
 returns c =
     let start = c in
     let a = start.args in
-    free_written a.buf.now a.at a.r
-    (test c.written.ensures c.in_range.ensures c.if-written-in_range.false)
-    c.put_free.ensures
+    let r = free_written a.buf.now a.at a.r (test c.written.ensures c.in_range.ensures c.if-written-in_range.false) (c.put_free.ensures.value, c.put_free.ensures.buf_after) in
+    record { value = r.0; buf_after = r.1 }

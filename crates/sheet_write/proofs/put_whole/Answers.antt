@@ -15,7 +15,7 @@ returns-then-size-at c =
     let a = start.args in
     let w = start.requires.wide in
     let z = size_is a.r.kind a.wa a.wb a.wc a.wd a.we w in
-    short_free a.buf.now a.at a.r start.requires.kind_value (omega arith) 0 (needed_none (a.at + size_of a.r.kind) (omega arith))
+    let r = short_free a.buf.now a.at a.r start.requires.kind_value (omega arith) 0 (needed_none (a.at + size_of a.r.kind) (omega arith)) in record { value = r.0; buf_after = r.1 }
 
 pub returns-then-buf-end : goal.returns-then-buf-end
 returns-then-buf-end c =
@@ -25,7 +25,7 @@ returns-then-buf-end c =
     let z = size_is a.r.kind a.wa a.wb a.wc a.wd a.we w in
     let e : needed (a.at + size_of a.r.kind) ≡ a.at + (1 + a.wa + a.wb + a.wc + a.wd + a.we) =
     needed_is (a.at + size_of a.r.kind) (omega arith) ∙ omega arith in
-    short_free a.buf.now a.at a.r start.requires.kind_value (omega arith) (a.at + (1 + a.wa + a.wb + a.wc + a.wd + a.we)) e
+    let r = short_free a.buf.now a.at a.r start.requires.kind_value (omega arith) (a.at + (1 + a.wa + a.wb + a.wc + a.wd + a.we)) e in record { value = r.0; buf_after = r.1 }
 
 pub returns : goal.returns
 returns c =
@@ -34,4 +34,7 @@ returns c =
     let w = start.requires.wide in
     let z = size_is a.r.kind a.wa a.wb a.wc a.wd a.we w in
     let p = room_free a.buf.now a.at a.r start.requires.kind_value (omega arith) in
-    (ap (λ (n : ℕ). Next (a.at + n)) (sym z) ∙ p.0, c.store.ensures ∙ p.1)
+    record {
+      value = ap (λ (n : ℕ). Next (a.at + n)) (sym z) ∙ p.0;
+      buf_after = c.store.ensures ∙ p.1;
+    }

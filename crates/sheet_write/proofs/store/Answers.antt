@@ -7,19 +7,16 @@ use Rattle.sheet_write.proofs.store.Goals as goal
 pub put_two-requires : goal.put_two-requires
 put_two-requires c = simp length-set (omega arith)
 
--- TODO: `auto` goes by name now
 pub put_two-requires-2 : goal.put_two-requires-2
 put_two-requires-2 c =
     let a = c.args in
     omega (arith, length-set a.buf.now a.at a.r.kind, c.put_two.auto.buf)
 
--- TODO: `auto` goes by name now
 pub put_number-requires : goal.put_number-requires
 put_number-requires c =
     let a = c.args in
     omega (arith, length-set a.buf.now a.at a.r.kind, c.put_two.auto.buf, c.put_two-2.auto.buf)
 
--- TODO: `auto` goes by name now
 pub shape_of-buf : goal.shape_of-buf
 shape_of-buf c =
     let a = c.args in
@@ -39,4 +36,4 @@ returns c =
     let t₂ = c.put_two-2 in
     let t₃ = c.put_number in
     stored a.r a.wa a.wb a.wc a.wd a.we start.requires.wide
-    a.buf.now t₁.new.0 t₂.new.0 t₃.new.0 a.at start.requires.we_in_bounds t₁.ensures t₂.ensures t₃.ensures
+    a.buf.now t₁.new.buf t₂.new.buf t₃.new.buf a.at start.requires.we_in_bounds t₁.ensures t₂.ensures t₃.ensures
