@@ -44,6 +44,7 @@ module _ (s t : List ℕ) (S : Sheet) (at : ℕ) (r q : Record) (k : q.kind ≡ 
   kind_applies lo hi (later e₂ (later e₃ (later e₁ (later e₄ (here e₂₀))))) = absurd (omega arith)
   kind_applies lo hi (later e₂ (later e₃ (later e₁ (later e₄ (later e₂₀ (here e₅)))))) = absurd (omega arith)
   kind_applies lo hi (later e₂ (later e₃ (later e₁ (later e₄ (later e₂₀ (later e₅ (here e₇))))))) = absurd (omega arith)
+  kind_applies {m = m} {p = p} lo hi (later e₂ (later e₃ (later e₁ (later e₄ (later e₂₀ (later e₅ (later _ x40))))))) = elim x40 [ ]
 
 -- ---- Two sheets
 

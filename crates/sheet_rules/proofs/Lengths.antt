@@ -15,7 +15,7 @@ use Rattle.sheet_record.proofs.Tables.{size_at_most}
 use Rattle.sheet_record.proofs.Parts.{first_kinds, first_bus, setting_kinds, ring_streams, variables}
 use Rattle.sheet_rules.specs.Sheets.{Sheet, most_in_all}
 use Rattle.sheet_rules.specs.Whole.{place_of, before, reading}
-use Rattle.sheet_rules.specs.Whole.Outcome.{Read, Not}
+use Rattle.sheet_rules.specs.Whole.Outcome.{Read}
 use Rattle.sheet_rules.specs.Lengths.{longest_record, longest_sheet, enough}
 use Rattle.sheet_rules.proofs.Cases.{Upto, Stops, reading_stops}
 use Rattle.sheet_rules.proofs.Cases.Stops.{by_record, at_end}

@@ -412,6 +412,7 @@ module _ (s : List ℕ) where
             meets_before (known_then s i (not-false _ e₂)) r (record { ends = ltb-false _ _ e₁ })
                 (ranged_then s i (not-false _ e₂) (not-false _ e₄)) (λ w. differ (wrong_if i u w) e₂₀) (limits_then s i e₅) (met_then i u r e₇),
           )
+      line {m = m} {q = q} (later e₂ (later e₃ (later e₁ (later e₄ (later e₂₀ (later e₅ (later _ x40))))))) = elim x40 [ ]
 
   applies_for : {i n : ℕ} → Upto s i → RefusedWith s i n → Applies (record_checks s (before s i) (place_of s i) (record_at s i)) n (place_of s i)
   unfolding record_checks
@@ -624,6 +625,7 @@ module _ (s : List ℕ) where
     where
       line : {q : ℕ} → Given s 6 q → (i : ℕ) × NoStream s i × (Missing s i → ⊥) × (q ≡ length s)
       line (no_stream {i} o m) = (i, o, m, refl)
+      line {q = q} (at_record {i = i} _ x6) = elim x6 [ ]
 
   -- 7: a variable that reading comes to has nothing wrong by itself, is within the limits, and an earlier one has its identifier; it is no longest message
   pub refused_7 : (p : ℕ)

@@ -1,4 +1,3 @@
-use Prim.Native.Nat.{◌-◌}
 use native.Mathlib.Omega.{arith}
 use Rattle.sheet_reader.proofs.Walk.{walked_none, walked_room, walked_on, walked_all}
 use Rattle.sheet_reader.proofs.count.Goals as goal

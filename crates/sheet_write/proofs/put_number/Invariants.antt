@@ -1,5 +1,5 @@
 -- `sheet_write::put_number` meets its contract: with the digits that are left to put, the buffer is what is asked.
-use Prim.Native.Nat.{◌≤◌, ◌-◌, ◌+◌}
+use Prim.Native.Nat.{◌≤◌, ◌+◌}
 use mathlib.Core.Path.{◌≡◌}
 use mathlib.Core.List.{◌++◌}
 use lib.ListN.{length, take, drop}

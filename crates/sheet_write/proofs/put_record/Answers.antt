@@ -1,7 +1,6 @@
 -- `sheet_write::put_record` meets its contract: 4 for a kind that the writer puts, else what `put_free` answers.
 use mathlib.Core.Path.{◌≡◌}
 use mathlib.Core.Bool.{Bool, not, ◌&&◌}
-use Rattle.sheet_record.specs.Kinds.{written}
 use Rattle.sheet_write.proofs.Writing.{range_written, free_written}
 use Rattle.sheet_write.proofs.put_record.Goals as goal
 
