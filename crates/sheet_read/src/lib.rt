@@ -1,5 +1,6 @@
 // Reading a whole sheet, page 01 'Sheet records' and 'Numbered refusals' 1..7, and page 02 'Ask 7', 'Ask 8' and 'Ask 10'.
 #![tactic(auto)]
+
 ghost use Rattle.std.specs.Prelude.{◌≡◌, ◌&&◌, get_or, replicate};
 ghost use Rattle.sheet_record.specs.Kinds.{is_stream_of, in_range};
 ghost use Rattle.sheet_judge.specs.Own.{as_bus};

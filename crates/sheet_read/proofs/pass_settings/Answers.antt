@@ -8,12 +8,19 @@ pub pass_messages-requires : goal.pass_messages-requires
 pass_messages-requires c =
     let b = c.requires in
     let ring = c.if-kind-eq9.true in
-    (b, (ring, no_message_yet b ring))
+    record {
+      begun = b;
+      kind_value = ring;
+      messages_value = no_message_yet b ring;
+    }
 
 pub pass_edition-requires : goal.pass_edition-requires
 pass_edition-requires c =
     let o = c in
-    (o.requires, (o.if-kind-eq1.true, eqb-true _ 8 (sym c.stands.ensures ∙ c.if-stands.true)))
+    record {
+      begun = o.requires;
+      kind_value = (o.if-kind-eq1.true, eqb-true _ 8 (sym c.stands.ensures ∙ c.if-stands.true));
+    }
 
 pub returns-else-stands : goal.returns-else-stands
 returns-else-stands c =
