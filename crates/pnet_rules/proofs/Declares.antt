@@ -1,5 +1,5 @@
 -- Page 01, 'Sheet records', and page 02, Ask 7: a P-NET sheet that reads without refusal declares a segment within the ranges and limits. Assumes nothing.
-use mathlib.Core.Path.{◌≡◌, sym, ◌∙◌}
+use mathlib.Core.Path.{◌≡◌}
 use mathlib.Core.Bool.{true}
 use mathlib.Core.List.{List, []}
 use Prim.Native.Nat.{ℕ, ◌-◌}
