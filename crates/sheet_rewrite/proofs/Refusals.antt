@@ -11,7 +11,7 @@ use lib.ListN.{length}
 use Rattle.common.specs.Checks.{check}
 use Rattle.common.specs.Checks.Verdict.{Refused}
 use Rattle.common.proofs.Checks.{Applies, refused_if, refused_then}
-use Rattle.common.proofs.Checks.Applies.{here}
+use Rattle.common.proofs.Checks.Applies.{here, later}
 use Rattle.text.specs.Text.{over}
 use Rattle.sheet_write.specs.declared.Put.TheVariants as put
 use Rattle.sheet_write.proofs.Writing.{refused_by, refused_kept, next_passed}
@@ -47,6 +47,7 @@ module _ (room : ℕ) (s : List ℕ) where
 
       line : {S : Sheet} {m q : ℕ} → reading s ≡ Read S → Applies (check 13 (ltb room (length (rewritten s S))) (length (rewritten s S)) ∷ []) m q → RewriteRefused s room m q
       line {S} r (here w) = short S r (ltb-true _ _ w)
+      line {S = S} {m = m} {q = q} r (later _ x10) = elim x10 [ ]
 
       by : (o : Outcome) → reading s ≡ o → rewrite_verdict room s o ≡ Refused n p → RewriteRefused s room n p
       by (Read S) r v = line r (refused_then _ n p v)

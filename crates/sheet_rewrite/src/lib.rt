@@ -1,5 +1,6 @@
 // Rewriting a sheet, page 02 'Ask 8': one of kind 3, which is read and no longer written, becomes one of kinds 9 and 10 with the same meaning.
 #![tactic(auto)]
+
 ghost use Rattle.std.specs.Prelude.{true, ◌++◌, ◌≡◌, ◌+◌, ◌*◌, ◌≤◌, length};
 ghost use Rattle.sheet_record.specs.Kinds.{written, size_of, encode};
 ghost use Rattle.text.specs.Text.{Wrote};

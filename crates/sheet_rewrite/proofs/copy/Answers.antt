@@ -5,11 +5,14 @@ use Rattle.sheet_rewrite.proofs.Filled.{filled_short, filled_whole}
 use Rattle.sheet_rewrite.proofs.copy.Goals as goal
 
 pub returns-then-out-n : goal.returns-then-out-n
-returns-then-out-n c = let a = c.args in filled_short a.out.now a.s.now refl (omega arith)
+returns-then-out-n c =
+    let f = filled_short c.args.out.now c.args.s.now refl (omega arith) in
+    record { value = f.0; out_after = f.1 }
 
--- TODO: `auto` goes by name now
 pub shape_of-out : goal.shape_of-out
 shape_of-out c = c.put_word.auto.out
 
 pub returns : goal.returns
-returns c = filled_whole _ _ (omega arith) c.put_word.ensures
+returns c =
+    let f = filled_whole c.args.out.now c.args.s.now (omega arith) c.put_word.ensures in
+    record { value = f.0; out_after = f.1 }

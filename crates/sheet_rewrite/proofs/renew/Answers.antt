@@ -9,15 +9,16 @@ use Rattle.sheet_rewrite.proofs.renew.Goals as goal
 
 pub returns-then-out-n : goal.returns-then-out-n
 returns-then-out-n c =
-    let entry = c in
-    let a = entry.args in
+    let a = c.args in
     let front = front_bytes a.ring a.ring.a in
-    filled_short a.out.now (front ++ a.streams.now) (omega (arith, length-append front a.streams.now, front_length a.ring entry.requires.kind_value a.ring.a)) (omega arith)
+    let f = filled_short a.out.now (front ++ a.streams.now) (omega (arith, length-append front a.streams.now, front_length a.ring c.requires.kind_value a.ring.a)) (omega arith) in
+    record { value = f.0; out_after = f.1 }
 
 pub returns : goal.returns
 returns c =
-    let entry = c in
-    let a = entry.args in
+    let a = c.args in
     let front = front_bytes a.ring a.ring.a in
-    filled_whole a.out.now (front ++ a.streams.now) (omega (arith, length-append front a.streams.now, front_length a.ring entry.requires.kind_value a.ring.a))
-    (wrote_then c.put_ring-at.ensures c.put_word.ensures)
+    let f =
+    filled_whole a.out.now (front ++ a.streams.now) (omega (arith, length-append front a.streams.now, front_length a.ring c.requires.kind_value a.ring.a))
+    (wrote_then c.put_ring-at.ensures c.put_word.ensures) in
+    record { value = f.0; out_after = f.1 }

@@ -1,46 +1,41 @@
 -- `sheet_rewrite::rewrite` meets its contract: refused as reading refuses, or for want of room; copied, or renewed where the first record is of kind 3.
-use Prim.Native.Nat.{ℕ}
-use mathlib.Core.Path.{◌≡◌, sym, ◌∙◌}
-use mathlib.Core.List.{List}
+use mathlib.Core.Path.{sym, ◌∙◌}
 use native.Mathlib.Omega.{arith}
-use Rattle.sheet_rules.specs.Whole.{reading}
-use Rattle.sheet_read.specs.Told.{told}
-use Rattle.sheet_read.specs.declared.Reading.TheVariants as answer
 use Rattle.sheet_rewrite.proofs.Answers.{rewritten_not, rewritten_copied, rewritten_masters, rewritten_within, rewritten_short, rewritten_filled}
 use Rattle.sheet_rewrite.proofs.rewrite.Goals as goal
-use Rattle.sheet_rewrite.proofs.rewrite.Goals.{In-Accepted-2}
-
--- what was read, once its first record is known
-abbrev sheet : In-Accepted-2 → List ℕ
-sheet c = c.before.before.before.before.before.args.s.now
-
-abbrev run : In-Accepted-2 → List ℕ
-run c = c.before.before.before.before.before.args.out.now
-
-accepted : (c : In-Accepted-2)
-    → told (sheet c) (reading (sheet c)) ≡ answer.Accepted c.in-Accepted.head c.in-Accepted.streams c.in-Accepted.first
-accepted c = sym c.read.ensures ∙ c.in-Accepted.is
 
 pub returns-then-head-ne3 : goal.returns-then-head-ne3
 returns-then-head-ne3 c =
-    let h = c in
-    rewritten_copied (run (goal.at.returns-then-head-ne3 h).In-Accepted-2) (sheet (goal.at.returns-then-head-ne3 h).In-Accepted-2) _ _ _ (accepted (goal.at.returns-then-head-ne3 h).In-Accepted-2) (λ e. omega arith) c.copy.ensures
+    let a = c.args in
+    let f = rewritten_copied a.out.now a.s.now _ _ _ (sym c.read.ensures ∙ c.in-Accepted.is) c.if-head-ne3.true (c.copy.ensures.value, c.copy.ensures.out_after) in
+    record { value = f.0; out_after = f.1.0; rewrites = f.1.1 }
+
+pub slice_bounds-renew-start : goal.slice_bounds-renew-start
+slice_bounds-renew-start c = let a = c.args in rewritten_within a.out.now a.s.now _ _ _ (sym c.read.ensures ∙ c.in-Accepted.is) c.if-head-ne3.false
 
 pub slice_bounds-renew-count : goal.slice_bounds-renew-count
-slice_bounds-renew-count c = let h = c in rewritten_within (run (goal.at.slice_bounds-renew-count h).In-Accepted-2) (sheet (goal.at.slice_bounds-renew-count h).In-Accepted-2) _ _ _ (accepted (goal.at.slice_bounds-renew-count h).In-Accepted-2) (omega arith)
+slice_bounds-renew-count c = let a = c.args in rewritten_within a.out.now a.s.now _ _ _ (sym c.read.ensures ∙ c.in-Accepted.is) c.if-head-ne3.false
 
 pub renew-requires : goal.renew-requires
 renew-requires c =
-    let h = c in
-    (omega arith, (rewritten_masters (run (goal.at.renew-requires h).In-Accepted-2) (sheet (goal.at.renew-requires h).In-Accepted-2) _ _ _ (accepted (goal.at.renew-requires h).In-Accepted-2) (omega arith), rewritten_short (run (goal.at.renew-requires h).In-Accepted-2) (sheet (goal.at.renew-requires h).In-Accepted-2) _ _ _ (accepted (goal.at.renew-requires h).In-Accepted-2) (omega arith)))
+    let a = c.args in
+    let e = sym c.read.ensures ∙ c.in-Accepted.is in
+    record {
+      kind_value = c.if-head-ne3.false;
+      a_bound = rewritten_masters a.out.now a.s.now _ _ _ e c.if-head-ne3.false;
+      streams_len_bound = rewritten_short a.out.now a.s.now _ _ _ e c.if-head-ne3.false;
+    }
 
 pub returns-in-Refused : goal.returns-in-Refused
 returns-in-Refused c =
     let a = c.args in
-    rewritten_not a.out.now a.s.now _ _ (sym c.read.ensures ∙ c.in-Refused.is)
+    let f = rewritten_not a.out.now a.s.now _ _ (sym c.read.ensures ∙ c.in-Refused.is) in
+    record { value = f.0; out_after = f.1.0; rewrites = f.1.1 }
 
 pub returns-else-head-ne3 : goal.returns-else-head-ne3
 returns-else-head-ne3 c =
-    let h = c in
-    let entry = h in
-    rewritten_filled (run (goal.at.returns-else-head-ne3 h).In-Accepted-2) (sheet (goal.at.returns-else-head-ne3 h).In-Accepted-2) _ _ _ (accepted (goal.at.returns-else-head-ne3 h).In-Accepted-2) (omega arith) (λ i. omega (arith, entry.type_inv.s i)) c.renew.ensures
+    let a = c.args in
+    let e = sym c.read.ensures ∙ c.in-Accepted.is in
+    let f =
+    rewritten_filled a.out.now a.s.now _ _ _ e c.if-head-ne3.false (λ i. omega (arith, c.type_inv.s i)) (c.renew.ensures.value, c.renew.ensures.out_after) in
+    record { value = f.0; out_after = f.1.0; rewrites = f.1.1 }
