@@ -1,8 +1,8 @@
 -- Page 02, 'Ask 11', beside page 01, 'P-NET bounds': where no stream of a master is late with first-come queues, each of them is accepted with the urgent requests first too, and
 -- its figure is at most the master's bound. So a sheet that first come accepts is never refused with 21. Assumes nothing.
-use mathlib.Core.Path.{◌≡◌, refl, ap}
+use mathlib.Core.Path.{◌≡◌, refl}
 use mathlib.Core.Bool.{Bool, true, false, cond}
-use Prim.Native.Nat.{ℕ, ◌+◌, ◌*◌, ◌≤◌}
+use Prim.Native.Nat.{ℕ, ◌+◌, ◌≤◌}
 use native.Mathlib.Nat.{mul_comm, mul-le-mul}
 use native.Mathlib.Omega.{arith}
 use lib.Dec.{eqb}
@@ -14,7 +14,7 @@ use Rattle.pnet_rules.specs.Limits.{Declared}
 use Rattle.pnet_rules.proofs.Sequence.{value_at_most}
 use Rattle.pnet_urgent_rules.specs.Urgent.{ahead, rank, behind, blocked, ahead_in, right_by, right, rounds, figure, unmet}
 use Rattle.pnet_urgent_rules.proofs.Order.{ahead_then, rank_and_behind}
-use Rattle.pnet_urgent_rules.proofs.Right.{right_rises, right_from, turn_some}
+use Rattle.pnet_urgent_rules.proofs.Right.{right_rises, right_from}
 
 module _ (S : Segment) (d : Declared S) (i : ℕ) (from : 1 ≤ i) (to : i ≤ S.number)
     (passes : (j : ℕ) → 1 ≤ j → j ≤ S.number → (S.stream j).master ≡ (S.stream i).master → late S j ≡ false) where

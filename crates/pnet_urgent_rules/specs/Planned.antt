@@ -1,5 +1,5 @@
 -- Page 02, 'Ask 11': what the planner that sends urgent requests first answers. Its refusals: the reading's, 3 at 0, 13 with the number of streams, 21. Assumes nothing.
-use Rattle.std.specs.Prelude.{ℕ, List, [], ◌∷◌, Bool, not, length, ltb, leb, eqb}
+use Rattle.std.specs.Prelude.{ℕ, List, [], ◌∷◌, not, length, ltb, leb, eqb}
 use Rattle.common.specs.Checks.{Check, check, verdict}
 use Rattle.common.specs.Sums.{first_of}
 use Rattle.sheet_record.specs.Kinds.{pnet}
