@@ -1,5 +1,4 @@
 use mathlib.Core.Path.{refl, sym, ◌∙◌}
-use Prim.Native.Nat.{◌-◌}
 use native.Mathlib.Omega.{arith}
 use Rattle.pnet_urgent_search.proofs.Carries.{carried_of}
 use Rattle.pnet_urgent_search.proofs.Blocks.{passing_none, passing_more, passing_done, slow, laid_block, walking_sound}
