@@ -1,5 +1,5 @@
 use mathlib.Core.Path.{◌≡◌, refl, ◌∙◌, subst}
-use Prim.Native.Nat.{ℕ, ◌+◌, ◌-◌}
+use Prim.Native.Nat.{ℕ, ◌+◌, ◌<◌}
 use native.Mathlib.Omega.{arith}
 use borrow.Author.Rules.{rules}
 use Rattle.pnet_turn.specs.Turn.{at}
@@ -8,7 +8,7 @@ use Rattle.pnet_plan.proofs.Bytes.{declares, number_is, streams_few}
 use Rattle.pnet_urgent.specs.Masters.{Solved}
 use Rattle.pnet_urgent.proofs.Solving.{Lined, lined, solved_none, Next, next, serve_keyed, serve_ranged, serve_solved}
 use Rattle.pnet_urgent.proofs.solve.Goals as goal
-use Rattle.pnet_urgent.proofs.solve.Goals.{After-order, After-own-1}
+use Rattle.pnet_urgent.proofs.solve.Goals.{After-order}
 
 pub order-requires : goal.order-requires
 order-requires c =
@@ -35,24 +35,23 @@ bounds-counts-y c =
     omega (arith, p.1, (declares p.0).masters_to)
 
 -- the next master's numbers
-next-own : (c : After-own-1)
-    → Next (at c.args.counts.now (c.loop-y.y + 1)) (at c.order.new.ends (c.loop-y.y + 1)) c.loop-y.y
-next-own c = next (line c.After-order) c.loop-y.y (omega (arith, c.requires.ready.1))
+next-own : (c : After-order) (y : ℕ) → y < c.args.all → Next (at c.args.counts.now (y + 1)) (at c.order.new.ends (y + 1)) y
+next-own c y l = next (line c) y (omega (arith, c.requires.ready.1))
 
 pub overflow_cast-own : goal.overflow_cast-own
-overflow_cast-own c = omega (arith, next-own (goal.at.overflow_cast-own c).After-own-1-unread)
+overflow_cast-own c = omega (arith, next-own (goal.at.overflow_cast-own c).After-order c.loop-y.y (omega arith))
 
 pub offset_bounds-ends-y : goal.offset_bounds-ends-y
-offset_bounds-ends-y c = omega (arith, next-own (goal.at.offset_bounds-ends-y c).After-own-1-unread)
+offset_bounds-ends-y c = omega (arith, next-own (goal.at.offset_bounds-ends-y c).After-order c.loop-y.y (omega arith))
 
 pub bounds-ends-y : goal.bounds-ends-y
-bounds-ends-y c = omega (arith, c.order.ensures.ordered.ends_long, next-own (goal.at.bounds-ends-y c).After-own-1-unread)
+bounds-ends-y c = omega (arith, c.order.ensures.ordered.ends_long, next-own (goal.at.bounds-ends-y c).After-order c.loop-y.y (omega arith))
 
 pub overflow_cast-start : goal.overflow_cast-start
-overflow_cast-start c = omega (arith, next-own (goal.at.overflow_cast-start c).After-own-1)
+overflow_cast-start c = omega (arith, next-own (goal.at.overflow_cast-start c).After-order c.loop-y.y (omega arith))
 
 pub overflow_sub-start : goal.overflow_sub-start
-overflow_sub-start c = omega (arith, next-own (goal.at.overflow_sub-start c).After-own-1)
+overflow_sub-start c = omega (arith, next-own (goal.at.overflow_sub-start c).After-order c.loop-y.y (omega arith))
 
 pub serve-requires : goal.serve-requires
 serve-requires c =
