@@ -7,7 +7,10 @@ use Rattle.pnet_urgent.proofs.search.Goals as goal
 pub gather-requires : goal.gather-requires
 gather-requires c =
     let p = c.requires in
-    ((p.0.0, keys_small p.0.1), (omega (arith, p.0.0.few), omega (arith, p.0.0.few), omega (arith, p.0.0.few)))
+    record {
+      keyed = (p.keyed.0, keys_small p.keyed.1);
+      n_in_bounds = (omega (arith, p.keyed.0.few), omega (arith, p.keyed.0.few), omega (arith, p.keyed.0.few));
+    }
 
 pub slice_bounds-search-end : goal.slice_bounds-search-end
 slice_bounds-search-end c = sym (front_long _ _ (omega (arith, c.requires.keyed.0.few)))
@@ -22,11 +25,11 @@ pub search-requires : goal.search-requires
 search-requires c =
     let p = c.requires in
     let g = c.gather in
-    let few = p.0.0.few in
-    (urgency p.0.1 g.ensures few (omega arith) (omega arith) (omega arith), front_fits _ _ _ (omega arith) p.1.0, front_fits _ _ _ (omega arith) p.1.1)
+    let few = p.keyed.0.few in
+    (urgency p.keyed.1 g.ensures few (omega arith) (omega arith) (omega arith), front_fits _ _ _ (omega arith) p.n_in_bounds.0, front_fits _ _ _ (omega arith) p.n_in_bounds.1)
 
 pub returns : goal.returns
 returns c =
     let p = c.requires in
     let g = c.gather in
-    searched p.0.1 g.ensures p.0.0.few (omega arith) (omega arith) (omega arith) _ _ c.search.ensures.by_index
+    searched p.keyed.1 g.ensures p.keyed.0.few (omega arith) (omega arith) (omega arith) _ _ c.search.ensures.by_index

@@ -6,13 +6,19 @@ use Rattle.pnet_urgent.proofs.serve.Goals as goal
 pub search-requires : goal.search-requires
 search-requires c =
     let p = c.requires in
-    (p.0, (omega (arith, p.0.0.few), omega (arith, p.0.0.few)))
+    record {
+      keyed = p.keyed;
+      n_in_bounds = (omega (arith, p.keyed.0.few), omega (arith, p.keyed.0.few));
+    }
 
 pub spread-requires : goal.spread-requires
 spread-requires c =
     let p = c.requires in
-    let few = p.0.0.few in
-    (p.1, (omega arith, omega arith, slots_small p.0.1 c.search.ensures))
+    let few = p.keyed.0.few in
+    record {
+      keyed = p.keyed_2;
+      n_in_bounds = (omega arith, omega arith, slots_small p.keyed.1 c.search.ensures);
+    }
 
 pub shape_of-places : goal.shape_of-places
 shape_of-places c = c.spread.ensures.0.long

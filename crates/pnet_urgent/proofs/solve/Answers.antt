@@ -1,5 +1,5 @@
 use mathlib.Core.Path.{◌≡◌, refl, ◌∙◌, subst}
-use Prim.Native.Nat.{ℕ, ◌+◌, ◌-◌}
+use Prim.Native.Nat.{ℕ, ◌+◌, ◌<◌}
 use native.Mathlib.Omega.{arith}
 use borrow.Author.Rules.{rules}
 use Rattle.pnet_turn.specs.Turn.{at}
@@ -8,69 +8,75 @@ use Rattle.pnet_plan.proofs.Bytes.{declares, number_is, streams_few}
 use Rattle.pnet_urgent.specs.Masters.{Solved}
 use Rattle.pnet_urgent.proofs.Solving.{Lined, lined, solved_none, Next, next, serve_keyed, serve_ranged, serve_solved}
 use Rattle.pnet_urgent.proofs.solve.Goals as goal
-use Rattle.pnet_urgent.proofs.solve.Goals.{After-jitters-2-1, After-own-1}
+use Rattle.pnet_urgent.proofs.solve.Goals.{After-order}
 
 pub order-requires : goal.order-requires
 order-requires c =
-    let p = c.requires in
-    let few = streams_few p.0.0 in
-    ((p.0.0, p.0.1, p.0.2), (omega arith, omega arith, omega arith, omega arith))
+    let few = streams_few c.requires.ready.0 in
+    record {
+      ready = c.requires.ready;
+      ends_len = (omega arith, omega arith, omega arith, omega arith);
+    }
 
 -- the streams are in order
-line : (c : After-jitters-2-1)
-    → Lined (segment_in c.args.s.now) c.order.new.1.1.1.1.1.0 c.order.new.1.1.1.1.1.1.0 c.order.new.1.1.1.1.1.1.1.0 c.order.new.1.1.1.1.1.1.1.1.0 c.args.counts.now
+line : (c : After-order)
+    → Lined (segment_in c.args.s.now) c.order.new.ends c.order.new.keys c.order.new.spacings c.order.new.jitters c.args.counts.now
 line c =
-    let p = c.requires in
+    let p = c.requires.ready in
     let e = c.order.ensures in
-    lined p.0.0 _ _ e.0 e.1.0 e.1.1 p.0.2
+    lined p.0 _ _ e.ordered e.spacings_after e.jitters_after p.2
 
 pub loop-y-init : goal.loop-y-init
-loop-y-init c =
-    let p = c.requires in
-    (search rules, solved_none _ (declares p.0.0) _ _ _, refl, refl, refl)
+loop-y-init c = (search rules, solved_none _ (declares c.requires.ready.0) _ _ _, refl, refl, refl)
 
 pub bounds-counts-y : goal.bounds-counts-y
 bounds-counts-y c =
-    let p = c.requires in
-    omega (arith, p.0.1, (declares p.0.0).masters_to)
+    let p = c.requires.ready in
+    omega (arith, p.1, (declares p.0).masters_to)
 
 -- the next master's numbers
--- TODO: a lemma needs the record `At-loop-y` out of `c`
-next-own : (c : After-own-1)
-    → Next (at c.args.counts.now (c.loop-y.y + 1)) (at c.order.new.1.1.1.1.1.0 (c.loop-y.y + 1)) c.loop-y.y
-next-own c = next (line c.At-loop-y) c.loop-y.y (omega (arith, c.requires.ready.1))
+next-own : (c : After-order) (y : ℕ) → y < c.args.all → Next (at c.args.counts.now (y + 1)) (at c.order.new.ends (y + 1)) y
+next-own c y l = next (line c) y (omega (arith, c.requires.ready.1))
 
 pub overflow_cast-own : goal.overflow_cast-own
-overflow_cast-own c = omega (arith, next-own (goal.at.overflow_cast-own c).After-own-1-unread)
+overflow_cast-own c = omega (arith, next-own (goal.at.overflow_cast-own c).After-order c.loop-y.y (omega arith))
 
 pub offset_bounds-ends-y : goal.offset_bounds-ends-y
-offset_bounds-ends-y c = omega (arith, next-own (goal.at.offset_bounds-ends-y c).After-own-1-unread)
+offset_bounds-ends-y c = omega (arith, next-own (goal.at.offset_bounds-ends-y c).After-order c.loop-y.y (omega arith))
 
 pub bounds-ends-y : goal.bounds-ends-y
-bounds-ends-y c = omega (arith, c.order.ensures.ordered.ends_long, next-own (goal.at.bounds-ends-y c).After-own-1-unread)
+bounds-ends-y c = omega (arith, c.order.ensures.ordered.ends_long, next-own (goal.at.bounds-ends-y c).After-order c.loop-y.y (omega arith))
 
 pub overflow_cast-start : goal.overflow_cast-start
-overflow_cast-start c = omega (arith, next-own (goal.at.overflow_cast-start c).After-own-1)
+overflow_cast-start c = omega (arith, next-own (goal.at.overflow_cast-start c).After-order c.loop-y.y (omega arith))
 
 pub overflow_sub-start : goal.overflow_sub-start
-overflow_sub-start c = omega (arith, next-own (goal.at.overflow_sub-start c).After-own-1)
+overflow_sub-start c = omega (arith, next-own (goal.at.overflow_sub-start c).After-order c.loop-y.y (omega arith))
 
 pub serve-requires : goal.serve-requires
 serve-requires c =
     let p = c.requires in
-    let h = line (goal.at.serve-requires c).At-loop-y in
+    let h = line (goal.at.serve-requires c).After-order in
     let y = c.loop-y.y in
-    let few = streams_few p.0.0 in
-    let number = number_is p.0.0 in
-    ((serve_keyed h y (omega (arith, p.0.1)) _ (omega arith), serve_ranged h y (omega (arith, p.0.1)) _ p.1.0), serve_keyed h y (omega (arith, p.0.1)) _ (omega (arith, p.1, c.loop-y.invariant)))
+    let few = streams_few p.ready.0 in
+    let number = number_is p.ready.0 in
+    record {
+      keyed = (serve_keyed h y (omega (arith, p.ready.1)) _ (omega arith), serve_ranged h y (omega (arith, p.ready.1)) _ p.turn_value.0);
+      keyed_2 = serve_keyed h y (omega (arith, p.ready.1)) _ (omega (arith, p.turn_value, c.loop-y.invariant));
+    }
 
 pub loop-y-preserved : goal.loop-y-preserved
 loop-y-preserved c =
     let p = c.requires in
-    let h = line (goal.at.loop-y-preserved c).At-loop-y in
+    let h = line (goal.at.loop-y-preserved c).After-order in
     let l = c.loop-y in
-    let e = c.serve.ensures in
-    (search rules, serve_solved h l.y (omega (arith, p.0.1)) _ p.1.0 e l.invariant.1, e.by_place.long ∙ l.invariant.2, e.by_figure.long ∙ l.invariant.3, e.by_rounds.long ∙ l.invariant.4)
+    let e = c.serve.ensures in (
+      search rules,
+      serve_solved h l.y (omega (arith, p.ready.1)) _ p.turn_value.0 e l.invariant.1,
+      e.by_place.long ∙ l.invariant.2,
+      e.by_figure.long ∙ l.invariant.3,
+      e.by_rounds.long ∙ l.invariant.4,
+    )
 
 pub shape_of-places : goal.shape_of-places
 shape_of-places c = c.loop-y.invariant.2

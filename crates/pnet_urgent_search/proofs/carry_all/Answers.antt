@@ -1,4 +1,3 @@
-use Prim.Native.Nat.{◌-◌}
 use native.Mathlib.Omega.{arith}
 use borrow.Author.Rules.{rules}
 use Rattle.pnet_turn.specs.Turn.{at}
@@ -12,7 +11,7 @@ pub carry-stood-requires : goal.carry-stood-requires
 carry-stood-requires c =
     let p = c.requires in
     let l = c.loop-i in
-    (omega arith, c.own-c.ensures.1, p.0.5, apart_sound l.invariant.1.apart (p.1 l.i (omega arith)).1)
+    (omega arith, c.own-c.ensures.1, p.le_turn.5, apart_sound l.invariant.1.apart (p.by_index l.i (omega arith)).1)
 
 pub loop-i-preserved : goal.loop-i-preserved
 loop-i-preserved c =

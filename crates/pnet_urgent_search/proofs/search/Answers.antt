@@ -17,10 +17,15 @@ walk-requires c =
     let p = c.requires in
     let loaded = c.loaded-k.ensures in
     let walks = c.walks_of-walks.ensures in
-    let started = started_all c.start.ensures _ p.0.deadlines in (
-      (p.0, loaded, walks),
-      (omega (arith, p.1, started.apart.slots_long, walks), omega (arith, p.2, started.apart.rounds_long, walks), walking_none p.0 loaded walks started),
-    )
+    let started = started_all c.start.ensures _ p.0.deadlines in
+    record {
+      urgency = (p.0, loaded, walks);
+      walks_in_bounds = (
+        omega (arith, p.1, started.apart.slots_long, walks),
+        omega (arith, p.2, started.apart.rounds_long, walks),
+        walking_none p.0 loaded walks started,
+      );
+    }
 
 pub returns : goal.returns
 returns c =
@@ -29,4 +34,7 @@ returns c =
     let walks = c.walks_of-walks.ensures in
     let started = started_all c.start.ensures _ p.0.deadlines in
     let f = c.walk.ensures in
-    ((ended_all p.0 loaded walks started f.0 f.1).each, apart_twice _ started.apart f.0 (omega arith) (omega (arith, walks)))
+    record {
+      by_index = (ended_all p.0 loaded walks started f.0 f.1).each;
+      apart = apart_twice _ started.apart f.0 (omega arith) (omega (arith, walks));
+    }

@@ -1,5 +1,4 @@
 use mathlib.Core.Path.{refl, sym, ◌∙◌}
-use Prim.Native.Nat.{◌-◌}
 use native.Mathlib.Omega.{arith}
 use Rattle.pnet_urgent_search.proofs.Carries.{carried_of}
 use Rattle.pnet_urgent_search.proofs.Blocks.{passing_none, passing_more, passing_done, slow, laid_block, walking_sound}
@@ -14,7 +13,7 @@ pub loop-a-init : goal.loop-a-init
 loop-a-init c =
     let p = c.requires in
     let f = c.set_out in
-    (f.auto.1.1.1.1.0, f.auto.1.1.1.1.1.0, passing_none p.0.0 p.0.1 p.0.2 p.1.2 f.ensures refl)
+    (f.auto.nexts, f.auto.rests, passing_none p.urgency.0 p.urgency.1 p.urgency.2 p.walks_in_bounds.2 f.ensures refl)
 
 pub slice_bounds-lay-end : goal.slice_bounds-lay-end
 slice_bounds-lay-end c = sym c.loop-a.invariant.0
@@ -29,28 +28,31 @@ pub lay-requires : goal.lay-requires
 lay-requires c =
     let p = c.requires in
     let on = c.loop-a.invariant.2 in
-    ((slow p.0.0 p.0.1, omega (arith, on.early), on.table_long), (on.due, on.base_is))
+    record {
+      slow = (slow p.urgency.0 p.urgency.1, omega (arith, on.early), on.table_long);
+      due = (on.due, on.base_is);
+    }
 
--- TODO: `auto` goes by name now
 pub slice_bounds-carry_all-end : goal.slice_bounds-carry_all-end
-slice_bounds-carry_all-end c = sym (c.lay.auto.1.1.1.1.1.1.1.1.0 ∙ c.loop-a.invariant.2.table_long)
+slice_bounds-carry_all-end c = sym (c.lay.auto.table ∙ c.loop-a.invariant.2.table_long)
 
 pub carry_all-last-requires : goal.carry_all-last-requires
 carry_all-last-requires c =
     let p = c.requires in
     let l = c.loop-a in
     let on = l.invariant.2 in
-    let u = p.0.0 in (
-      (
+    let u = p.urgency.0 in
+    record {
+      le_turn = (
         u.turn_from,
         omega (arith, u.deadlines, u.few),
-        omega (arith, u.deadlines, p.0.2),
-        omega (arith, p.1.0, on.apart.slots_long),
-        omega (arith, p.1.1, on.apart.rounds_long),
-        laid_block u p.0.1 p.0.2 c.lay.ensures.laid (omega (arith, on.early)),
-      ),
-      walking_sound u p.0.1 p.0.2 on.walking,
-    )
+        omega (arith, u.deadlines, p.urgency.2),
+        omega (arith, p.walks_in_bounds.0, on.apart.slots_long),
+        omega (arith, p.walks_in_bounds.1, on.apart.rounds_long),
+        laid_block u p.urgency.1 p.urgency.2 c.lay.ensures.laid (omega (arith, on.early)),
+      );
+      by_index = walking_sound u p.urgency.1 p.urgency.2 on.walking;
+    }
 
 pub overflow_add-a : goal.overflow_add-a
 overflow_add-a c = omega (arith, c.loop-a.invariant.2.early)
@@ -64,9 +66,9 @@ loop-a-preserved c =
     let l = c.loop-a in
     let f = c.lay in
     let g = c.carry_all-last in (
-      f.auto.1.1.1.1.1.1.0 ∙ l.invariant.0,
-      f.auto.1.1.1.1.1.1.1.0 ∙ l.invariant.1,
-      passing_more p.0.0 p.0.1 p.0.2 f.ensures.1 _ _ l.invariant.2 f.ensures.0 (carried_of g.ensures _ p.0.0.deadlines) (omega arith),
+      f.auto.nexts ∙ l.invariant.0,
+      f.auto.rests ∙ l.invariant.1,
+      passing_more p.urgency.0 p.urgency.1 p.urgency.2 f.ensures.laid _ _ l.invariant.2 f.ensures.due_2 (carried_of g.ensures _ p.urgency.0.deadlines) (omega arith),
     )
 
 pub shape_of-slots : goal.shape_of-slots
@@ -79,4 +81,4 @@ pub returns : goal.returns
 returns c =
     let p = c.requires in
     let on = c.loop-a.invariant.2 in
-    (on.apart, passing_done p.0.0 p.0.1 p.0.2 on c.loop-a-test.false)
+    (on.apart, passing_done p.urgency.0 p.urgency.1 p.urgency.2 on c.loop-a-test.false)

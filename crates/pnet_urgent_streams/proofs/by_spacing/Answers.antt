@@ -28,11 +28,15 @@ offset_bounds-jitter-i c = omega (arith, streams_few c.requires.0)
 
 pub loop-i-preserved : goal.loop-i-preserved
 loop-i-preserved c =
-    let x = c in
     let l = c.loop-i in
-    let h = (its (goal.at.loop-i-preserved x).After-pnet_stream_at-met).stream in
-    let fits = c.requires in
-    (search rules, (its (goal.at.loop-i-preserved x).After-pnet_stream_at-met).next, filling_more _ l.invariant.2 (omega (arith, fits.1)) (ap (λ (z : Stream). z.master) h), filling_more _ l.invariant.3 (omega (arith, fits.2)) (ap (λ (z : Stream). z.spacing) h), filling_more _ l.invariant.4 (omega (arith, fits.3)) (ap (λ (z : Stream). z.jitter) h))
+    let h = (its (goal.at.loop-i-preserved c).After-pnet_stream_at-met).stream in
+    let fits = c.requires in (
+      search rules,
+      (its (goal.at.loop-i-preserved c).After-pnet_stream_at-met).next,
+      filling_more _ l.invariant.2 (omega (arith, fits.1)) (ap (λ (z : Stream). z.master) h),
+      filling_more _ l.invariant.3 (omega (arith, fits.2)) (ap (λ (z : Stream). z.spacing) h),
+      filling_more _ l.invariant.4 (omega (arith, fits.3)) (ap (λ (z : Stream). z.jitter) h),
+    )
 
 pub shape_of-masters : goal.shape_of-masters
 shape_of-masters c = c.loop-i.invariant.2.long
@@ -48,4 +52,8 @@ returns c =
     let n = c.args.n in
     let l = c.loop-i in
     let e : l.i ≡ n = omega arith in
-    (filling_done n l.invariant.2 e, (filling_done n l.invariant.3 e, filling_done n l.invariant.4 e))
+    record {
+      masters_after = filling_done n l.invariant.2 e;
+      spacing_after = filling_done n l.invariant.3 e;
+      jitter_after = filling_done n l.invariant.4 e;
+    }

@@ -20,7 +20,7 @@ bounds-counts-master c = omega (arith, c.requires.late_bound.0 (omega arith))
 own-few : (c : After-own-1) → at c.args.counts.now (at c.args.masters.now (c.args.late - 1)) ≤ 80
 own-few c =
     let p = c.requires in
-    p.1.1 (at c.args.masters.now (c.args.late - 1)) (p.1.0 (omega arith))
+    p.late_bound.1 (at c.args.masters.now (c.args.late - 1)) (p.late_bound.0 (omega arith))
 
 pub overflow_cast-own : goal.overflow_cast-own
 overflow_cast-own c = omega (arith, own-few (goal.at.overflow_cast-own c).After-own-1)

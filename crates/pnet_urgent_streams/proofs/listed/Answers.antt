@@ -9,25 +9,22 @@ use Rattle.pnet_urgent_rules.proofs.Cases.{answer_taken, answer_refused, taken_o
 use Rattle.pnet_urgent_streams.proofs.Outcomes.{listed_refused}
 use Rattle.pnet_urgent_streams.proofs.listed.Goals as goal
 
--- TODO: what `read2.given` says is now in a field with a name of its own
 pub returns-then-bus_of-ne1 : goal.returns-then-bus_of-ne1
 returns-then-bus_of-ne1 c =
     let a = c.args in
-    let x = c.in-Accepted.given in
-    listed_refused (urgently a.s.now 800) 3 0 (taken_other (answer_taken a.s.now c.read_gathering-read.ensures.value x.1) 800 (λ k. c.if-bus_of-ne1.true (c.bus_of.ensures ∙ k))) a.masters.now a.places.now a.figure.now a.rounds.now a.deadlines.now
+    let x = c.in-Accepted in
+    listed_refused (urgently a.s.now 800) 3 0 (taken_other (answer_taken a.s.now c.read_gathering-read.ensures.value x.is) 800 (λ k. c.if-bus_of-ne1.true (c.bus_of.ensures ∙ k))) a.masters.now a.places.now a.figure.now a.rounds.now a.deadlines.now
 
--- TODO: what `read2.given` says is now in a field with a name of its own
 pub listed_of-requires : goal.listed_of-requires
 listed_of-requires c =
     let s = c.args.s.now in
     let g = c.read_gathering-read.ensures in
-    let x = c.in-Accepted.given in
+    let x = c.in-Accepted in
     let zeros : List ℕ = replicate 33 0 in
-    sheeted (answer_taken s g.0 x.1) (sym c.bus_of.ensures ∙ c.if-bus_of-ne1.false) zeros zeros g.1.0 g.1.1
+    sheeted (answer_taken s g.value x.is) (sym c.bus_of.ensures ∙ c.if-bus_of-ne1.false) zeros zeros g.counts_after g.longests_after
 
--- TODO: what `read.given` says is now in a field with a name of its own
 pub returns-in-Refused : goal.returns-in-Refused
 returns-in-Refused c =
     let a = c.args in
-    let x = c.in-Refused.given in
-    listed_refused (urgently a.s.now 800) x.0.0 x.0.1.0 (answer_refused a.s.now c.read_gathering-read.ensures.value x.1 800) a.masters.now a.places.now a.figure.now a.rounds.now a.deadlines.now
+    let x = c.in-Refused in
+    listed_refused (urgently a.s.now 800) x.no x.place (answer_refused a.s.now c.read_gathering-read.ensures.value x.is 800) a.masters.now a.places.now a.figure.now a.rounds.now a.deadlines.now

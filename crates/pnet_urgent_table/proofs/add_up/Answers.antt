@@ -1,4 +1,4 @@
-use Prim.Native.Nat.{◌+◌, ◌-◌}
+use Prim.Native.Nat.{◌+◌}
 use native.Mathlib.Omega.{arith}
 use Rattle.pnet_urgent_table.proofs.Blocks.{adding_none, adding_next, adding_more}
 use Rattle.pnet_urgent_table.proofs.add_up.Goals as goal

@@ -59,4 +59,7 @@ loop-next-preserved c =
 pub returns : goal.returns
 returns c =
     let on = c.loop-next.invariant in
-    (λ J asking. tallied_asking on (omega arith) J asking, λ J asking. tallied on (omega arith) J asking)
+    record {
+      by_index = λ J asking. tallied_asking on (omega arith) J asking;
+      by_index_2 = λ J asking. tallied on (omega arith) J asking;
+    }

@@ -5,26 +5,24 @@ use Rattle.report_beside.proofs.Beginning.{begun_on, begun_refused}
 use Rattle.report_beside.proofs.Kept.{begins}
 use Rattle.report_beside.proofs.begin.Goals as goal
 
--- TODO: what `streams.given` says is now in a field with a name of its own
 pub returns-in-Accepted : goal.returns-in-Accepted
 unfolding none
 returns-in-Accepted c =
     let a = c.args in
     let b = c.lay.ensures in
-    let x = c.in-Accepted.given in
-    let f = begun_on a.urgent a.out.now (laid a.urgent a.s.now) _ _ _ (sym b.0 ∙ x.1) c.start.ensures in (
-      (f.0, f.1, b.1.0, b.1.1.0, b.1.1.1.0, b.1.1.1.1, refl, refl, refl, refl, refl, refl, refl),
-      begins a.urgent a.s.now _ a.out.now _ _ _ _ _ _ f.0 f.1 b.1.0 b.1.1.0 b.1.1.1.0 b.1.1.1.1 refl,
-    )
+    let f = begun_on a.urgent a.out.now (laid a.urgent a.s.now) _ _ _ (sym b.value ∙ c.in-Accepted.is) c.start.ensures in
+    record {
+      fact = (f.0, f.1, b.masters_after, b.bound_after, b.spacing_after, b.jitter_after, refl, refl, refl, refl, refl, refl, refl);
+      fact_2 = begins a.urgent a.s.now _ a.out.now _ _ _ _ _ _ f.0 f.1 b.masters_after b.bound_after b.spacing_after b.jitter_after refl;
+    }
 
--- TODO: what `no.given` says is now in a field with a name of its own
 pub returns-in-Refused : goal.returns-in-Refused
 unfolding none
 returns-in-Refused c =
     let a = c.args in
     let b = c.lay.ensures in
-    let x = c.in-Refused.given in
-    let f = begun_refused a.urgent a.out.now (laid a.urgent a.s.now) _ _ _ _ (sym b.0 ∙ x.1) c.refuse_sheet.ensures.0 c.refuse_sheet.ensures.1 in (
-      (f.0, f.1, b.1.0, b.1.1.0, b.1.1.1.0, b.1.1.1.1, refl, refl, refl, refl, refl, refl, refl),
-      begins a.urgent a.s.now _ a.out.now _ _ _ _ _ _ f.0 f.1 b.1.0 b.1.1.0 b.1.1.1.0 b.1.1.1.1 refl,
-    )
+    let f = begun_refused a.urgent a.out.now (laid a.urgent a.s.now) _ _ _ _ (sym b.value ∙ c.in-Refused.is) c.refuse_sheet.ensures.0 c.refuse_sheet.ensures.1 in
+    record {
+      fact = (f.0, f.1, b.masters_after, b.bound_after, b.spacing_after, b.jitter_after, refl, refl, refl, refl, refl, refl, refl);
+      fact_2 = begins a.urgent a.s.now _ a.out.now _ _ _ _ _ _ f.0 f.1 b.masters_after b.bound_after b.spacing_after b.jitter_after refl;
+    }

@@ -2,7 +2,25 @@
 use Rattle.report_beside.proofs.lay.Goals as goal
 
 pub returns-then-urgent : goal.returns-then-urgent
-returns-then-urgent c = simp c.if-urgent.true c.figures.ensures
+returns-then-urgent c =
+    let e = c.if-urgent.true in
+    let f = c.figures.ensures in
+    record {
+      value = simp e f.value;
+      masters_after = simp e f.masters_after;
+      bound_after = simp e f.figure_after;
+      spacing_after = simp e f.spacing_after;
+      jitter_after = simp e f.jitter_after;
+    }
 
 pub returns : goal.returns
-returns c = simp c.if-urgent.false c.bounds.ensures
+returns c =
+    let e = c.if-urgent.false in
+    let f = c.bounds.ensures in
+    record {
+      value = simp e f.value;
+      masters_after = simp e f.masters_after;
+      bound_after = simp e f.bound_after;
+      spacing_after = simp e f.spacing_after;
+      jitter_after = simp e f.jitter_after;
+    }

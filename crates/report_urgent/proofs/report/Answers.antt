@@ -1,10 +1,10 @@
 -- `report_urgent::report` stores the whole report, and answers whether the sheet is accepted.
 use mathlib.Core.Path.{sym, ◌∙◌}
+use native.Mathlib.Omega.{arith}
 use Rattle.report_urgent.proofs.Stored.{stored, accepted_stored, refused_stored}
 use Rattle.report_urgent.proofs.Told.{accepted_told, refused_told}
 use Rattle.report_urgent.proofs.report.Goals as goal
 
--- TODO: what `put-urgent-arg.given.0.1` says is now in a field with a name of its own
 pub returns-in-Accepted : goal.returns-in-Accepted
 returns-in-Accepted c =
     let a = c.args in
@@ -12,7 +12,7 @@ returns-in-Accepted c =
     let w = c.put_urgent.ensures in
     accepted_stored a.s.now a.out.now
     (accepted_told a.s.now _ _ _ _ _ _ _ _ _ (sym l.0 ∙ c.in-Accepted.is) l.1 l.2 l.3 l.4 l.5)
-    (stored w.0 w.1 c.put_urgent-arg-1.given.0.1)
+    (stored w.0 w.1 (omega arith))
 
 pub returns-in-Refused : goal.returns-in-Refused
 returns-in-Refused c =
