@@ -13,10 +13,6 @@ use Rattle.pnet_search.proofs.search.Goals.{Else-next-w, Start}
 abbrev right : Start → ℕ → ℕ
 right c = right_in c.args.counts.now c.args.charges.now c.args.ends.now c.args.pairs.now c.args.n c.args.k
 
--- how often it moves at most
-abbrev most : Start → ℕ
-most c = 1 + (c.args.n - 1) * at c.args.counts.now c.args.k
-
 pub begin-requires : goal.begin-requires
 begin-requires c =
     let k = c.args.k in
@@ -46,8 +42,8 @@ returns-then-next-w c =
     let f = c.right_of-next in
     found p.2 k p.0 p.1 l.rounds l.w f.result l.invariant.0 f.ensures.0 c.if-next-w.true
 
--- TODO: a lemma needs the record `Start` out of `c`
-few : (c : Else-next-w) → c.loop-w.rounds ≤ most c.Start
+-- how often it moves at most
+few : (c : Else-next-w) → c.loop-w.rounds ≤ 1 + (c.args.n - 1) * at c.args.counts.now c.args.k
 few c =
     let p = c.requires in
     let l = c.loop-w in
