@@ -65,8 +65,8 @@ renewed c =
     let m = c.if-until-y in
     let few = c.requires.le_k.3.few in
     elim c.if-until-y.branch [
-        then-until-y w ↦ renewed_anew fresh y m.saved m.until w.saving_at-again.result.saved w.saving_at-again.result.until (omega arith) c.requires.le_k.2 w.if-until-y w.saving_at-again.ensures w.saved-is w.until-is
-      | else-until-y w ↦ renewed_still fresh y m.saved m.until w.if-until-y w.saved-is w.until-is
+        then-until-y w ↦ renewed_anew fresh y m.saved m.until w.saving_at-again.result.saved w.saving_at-again.result.until (omega arith) c.requires.le_k.2 w.if-until-y.true w.saving_at-again.ensures w.saved-is w.until-is
+      | else-until-y w ↦ renewed_still fresh y m.saved m.until w.if-until-y.false w.saved-is w.until-is
     ]
 
 -- so what is added is what is saved there, and small
@@ -127,4 +127,8 @@ overflow_sub-result c =
 
 pub returns : goal.returns
 unfolding right_in
-returns c = (omega (arith, done (goal.at.returns c).After-loop-y, bound (goal.at.returns c).Start), c.loop-y.invariant.3)
+returns c =
+    record {
+      value = omega (arith, done (goal.at.returns c).After-loop-y, bound (goal.at.returns c).Start);
+      fresh_2 = c.loop-y.invariant.3;
+    }
