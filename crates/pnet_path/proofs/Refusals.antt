@@ -268,6 +268,7 @@ module _ (P : Path) where
     line (later a (later b (later c (later d (here e))))) =
         let f = few.good a in
         too_late t f (times.good b) (dated.good c) ((senders f).good d) (in_time.bad e)
+    line (later a (later b (later c (later d (later _ past))))) = elim past [ ]
 
     no_line : Clear checks → Accepted P (total P)
     unfolding path_checks

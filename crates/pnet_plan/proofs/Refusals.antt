@@ -114,6 +114,7 @@ module _ (s : List ℕ) (la lb lc : ℕ) where
     line n p (later k (here r)) = no_room (on_bus k) (no_room_then la lb lc (masters_of H) r)
     line n p (later k (later r (here l))) =
         too_late (on_bus k) (room_then la lb lc (masters_of H) r) (first_fails (segment_of H) (leb-true (first_late (segment_of H)) (length H.streams) l))
+    line n p (later k (later r (later _ past))) = elim past [ ]
 
     no_line : Clear (plan_checks H la lb lc) → Accepted s la lb lc H
     unfolding plan_checks segment_of

@@ -26,8 +26,8 @@ use Rattle.sheet_record.specs.Kinds.{bus_of, size_of, decode}
 use Rattle.sheet_record.proofs.Parts.{pnet_first}
 use Rattle.sheet_ranges.proofs.Ranges.{segment_ranges}
 use Rattle.pnet_rules.specs.Segment.{segment_of}
-use Rattle.pnet_plan.specs.Planned.{first_late, plan_checks, planned_by, planned, plan_of as segmentPlan}
-use Rattle.profibus_plan.specs.Planned.{plan_of as ringPlan}
+use Rattle.pnet_plan.specs.Planned.{first_late, plan_checks, planned_by, planned, plan_of as segment_plan}
+use Rattle.profibus_plan.specs.Planned.{plan_of as ring_plan}
 use Rattle.worldfip_rules.specs.Traffic.{Traffic, slots, rows, miss_of, missing_of}
 use Rattle.worldfip_figures.specs.Declares.{traffic_of}
 use Rattle.worldfip_plan.specs.Answer as fip
@@ -37,7 +37,7 @@ use Rattle.report_sheet.specs.Whole.{segment_report, segment_accepts, ring_repor
 
 -- the report is made from that bus and the reading
 report_by : ℕ → Outcome → List ℕ
-report_by k o = cond (eqb k 3) (ring_report (ringPlan o)) (cond (eqb k 5) (table_report o) (segment_report (planned_by o 32 32 32)))
+report_by k o = cond (eqb k 3) (ring_report (ring_plan o)) (cond (eqb k 5) (table_report o) (segment_report (planned_by o 32 32 32)))
 
 report_by_law : (s : List ℕ) → report_of s ≡ report_by (first_bus s) (reading s)
 unfolding report_of report_by planned
@@ -46,8 +46,8 @@ report_by_law s = refl
 -- and so is whether the sheet is accepted
 accepts_by : ℕ → Outcome → Bool
 accepts_by k o =
-    cond (eqb k 3) (ring_accepts (ringPlan o))
-    (cond (eqb k 5) (table_accepts (fip.plan_of o 4096)) (segment_accepts (segmentPlan (planned_by o 32 32 32))))
+    cond (eqb k 3) (ring_accepts (ring_plan o))
+    (cond (eqb k 5) (table_accepts (fip.plan_of o 4096)) (segment_accepts (segment_plan (planned_by o 32 32 32))))
 
 accepts_by_law : (s : List ℕ) → accepts s ≡ accepts_by (first_bus s) (reading s)
 unfolding accepts accepts_by planned
@@ -77,7 +77,7 @@ module _ (s k : List ℕ) (S S' : Sheet) (was : reading s ≡ Read S) (now : rea
       )
 
   -- rings that the planner answers alike
-  pub rings_alike : bus_in S ≡ 3 → bus_in S' ≡ 3 → ringPlan (reading k) ≡ ringPlan (reading s) → (report_of k ≡ report_of s) × (accepts k ≡ accepts s)
+  pub rings_alike : bus_in S ≡ 3 → bus_in S' ≡ 3 → ring_plan (reading k) ≡ ring_plan (reading s) → (report_of k ≡ report_of s) × (accepts k ≡ accepts s)
   unfolding report_by accepts_by
   rings_alike b b' same =
       let f : first_bus s ≡ 3 = own_bus s S was ∙ b in
@@ -96,11 +96,11 @@ picks false false x = refl
 
 module _ (s : List ℕ) (n p : ℕ) (e : reading s ≡ Not n p) where
   pub refused_alike : report_of s ≡ refusal_text n p
-  unfolding report_by ring_report table_report segment_report ringPlan
+  unfolding report_by ring_report table_report segment_report ring_plan
   refused_alike = report_by_law s ∙ (ap (report_by (first_bus s)) e ∙ picks (eqb (first_bus s) 3) (eqb (first_bus s) 5) (refusal_text n p))
 
   pub refused_by_each : accepts s ≡ false
-  unfolding accepts_by ring_accepts table_accepts segment_accepts ringPlan fip.plan_of
+  unfolding accepts_by ring_accepts table_accepts segment_accepts ring_plan fip.plan_of
   refused_by_each = accepts_by_law s ∙ (ap (accepts_by (first_bus s)) e ∙ picks (eqb (first_bus s) 3) (eqb (first_bus s) 5) false)
 
 -- ---- A bounded buffer serves

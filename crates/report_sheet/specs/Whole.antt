@@ -12,15 +12,15 @@ use Rattle.sheet_rules.specs.Whole.{Outcome, reading}
 use Rattle.sheet_rules.specs.Whole.Outcome.{Read, Not}
 use Rattle.pnet_rules.specs.Segment.{Segment, segment_of, count, bound}
 use Rattle.pnet_rules.specs.Refined.{refined, rounds}
-use Rattle.pnet_plan.specs.Planned.{planned, plan_of as segmentPlan}
+use Rattle.pnet_plan.specs.Planned.{planned, plan_of as segment_plan}
 use Rattle.pnet_plan.specs.declared.answer.Plan.{Plan as SegmentPlan}
 use Rattle.pnet_plan.specs.declared.answer.Plan.TheVariants as segment
-use Rattle.profibus_plan.specs.Planned.{plan_of as ringPlan}
+use Rattle.profibus_plan.specs.Planned.{plan_of as ring_plan}
 use Rattle.profibus_plan.specs.declared.answer.Plan.{Plan as RingPlan}
 use Rattle.profibus_plan.specs.declared.answer.Plan.TheVariants as ring
 use Rattle.worldfip_rules.specs.Traffic.{Traffic, microcycle, slots, rows, row_of, identifier_at}
 use Rattle.worldfip_figures.specs.Declares.{traffic_of}
-use Rattle.worldfip_plan.specs.Answer.{plan_checks, plan_of as tablePlan}
+use Rattle.worldfip_plan.specs.Answer.{plan_checks, plan_of as table_plan}
 use Rattle.worldfip_plan.specs.declared.answer.Plan.{Plan as TablePlan}
 use Rattle.worldfip_plan.specs.declared.answer.Plan.TheVariants as table
 use Rattle.report_sheet.specs.declared.Reported.{Reported}
@@ -105,14 +105,14 @@ first_bus s = bus_of (kind_of (found_of s 0))
 -- reports that alike
 unfoldable pub report_of : List ℕ → List ℕ
 report_of s =
-    cond (eqb (first_bus s) profibus) (ring_report (ringPlan (reading s)))
+    cond (eqb (first_bus s) profibus) (ring_report (ring_plan (reading s)))
     (cond (eqb (first_bus s) worldfip) (table_report (reading s)) (segment_report (planned s 32 32 32)))
 
 -- the sheet is accepted: by that planner
 unfoldable pub accepts : List ℕ → Bool
 accepts s =
-    cond (eqb (first_bus s) profibus) (ring_accepts (ringPlan (reading s)))
-    (cond (eqb (first_bus s) worldfip) (table_accepts (tablePlan (reading s) 4096)) (segment_accepts (segmentPlan (planned s 32 32 32))))
+    cond (eqb (first_bus s) profibus) (ring_accepts (ring_plan (reading s)))
+    (cond (eqb (first_bus s) worldfip) (table_accepts (table_plan (reading s) 4096)) (segment_accepts (segment_plan (planned s 32 32 32))))
 
 -- a report of n bytes, of a sheet that is accepted or refused
 abbrev pub told : Bool → ℕ → Reported

@@ -2,9 +2,9 @@
 #![tactic(auto)]
 ghost use Rattle.std.specs.Prelude.{◌≡◌, false, ◌≤◌, length};
 ghost use Rattle.sheet_rules.specs.Whole.{reading};
-ghost use Rattle.profibus_plan.specs.Planned.{plan_of as ringPlan};
-ghost use Rattle.pnet_plan.specs.Planned.{planned, plan_of as segmentPlan};
-ghost use Rattle.worldfip_plan.specs.Answer.{plan_of as tablePlan};
+ghost use Rattle.profibus_plan.specs.Planned.{plan_of as ring_plan};
+ghost use Rattle.pnet_plan.specs.Planned.{planned, plan_of as segment_plan};
+ghost use Rattle.worldfip_plan.specs.Answer.{plan_of as table_plan};
 ghost use Rattle.text.specs.Text.{Zeros, Wrote, item, texts};
 ghost use Rattle.report_phrases.specs.Phrases.{refusal_text};
 ghost use Rattle.report_sheet.specs.Arrays.{master_at, segment_text};
@@ -80,7 +80,7 @@ fn refuse(out: &mut [u8], no: u8, place: usize) -> Reported
 
 // 32 places hold every segment, so 13 never shows.
 fn segment_report(s: &[u8], out: &mut [u8]) -> Reported
-    ensures { Reports out.old (segment_report (planned s.now 32 32 32)) (segment_accepts (segmentPlan (planned s.now 32 32 32))) out.new result }
+    ensures { Reports out.old (segment_report (planned s.now 32 32 32)) (segment_accepts (segment_plan (planned s.now 32 32 32))) out.new result }
 {
     let mut bound = [0u32; 32];
     let mut refined = [0u32; 32];
@@ -95,7 +95,7 @@ fn segment_report(s: &[u8], out: &mut [u8]) -> Reported
 }
 
 fn ring_report(s: &[u8], out: &mut [u8]) -> Reported
-    ensures { Reports out.old (ring_report (ringPlan (reading s.now))) (ring_accepts (ringPlan (reading s.now))) out.new result }
+    ensures { Reports out.old (ring_report (ring_plan (reading s.now))) (ring_accepts (ring_plan (reading s.now))) out.new result }
 {
     match profibus_plan::plan(s) {
         profibus_plan::Plan::Target { rotation, stream } => Reported::Accepted(put_ring(
@@ -139,7 +139,7 @@ fn put_table(
 
 // 4,096 places hold every table, so 13 never shows.
 fn table_report(s: &[u8], out: &mut [u8]) -> Reported
-    ensures { Reports out.old (table_report (reading s.now)) (table_accepts (tablePlan (reading s.now) 4096)) out.new result }
+    ensures { Reports out.old (table_report (reading s.now)) (table_accepts (table_plan (reading s.now) 4096)) out.new result }
 {
     let mut table = [0u64; 4096];
     match worldfip_plan::plan(s, &mut table) {

@@ -14,21 +14,17 @@ returns-then-late-n c =
     let start = c in
     let a = start.args in
     let j = c.judge-found in
-    returned_late start.requires.0 a.room start.requires.1 j.result.late j.ensures.1 c.if-late-n.true a.masters.now a.bound.now a.spacing.now a.jitter.now
+    let r = returned_late start.requires.0 a.room start.requires.1 j.result.late j.ensures.1 c.if-late-n.true a.masters.now a.bound.now a.spacing.now a.jitter.now in
+    record { value = r.0; masters_after = r.1.0; bound_after = r.1.1.0; spacing_after = r.1.1.1.0; jitter_after = r.1.1.1.1 }
 
--- TODO: what `by-stream-arg.given.0.1` says is now in a field with a name of its own
--- TODO: what `by-stream-arg2.given.0.1` says is now in a field with a name of its own
--- TODO: what `by-stream-arg3.given.0.1` says is now in a field with a name of its own
--- TODO: what `by-stream-arg4.given.0.1` says is now in a field with a name of its own
 pub by_stream-requires : goal.by_stream-requires
 by_stream-requires c =
     let h = c.requires.0 in
     let few = streams_few h.ready in
-    let long = c.by_stream-arg-1.given.0.1 in
-    let long-2 = c.by_stream-arg-2-1.given.0.1 in
-    let long-3 = c.by_stream-arg-3-1.given.0.1 in
-    let long-4 = c.by_stream-arg-4-1.given.0.1 in
-    ((h.ready, omega (arith, few, long), omega (arith, few, long-2), omega (arith, few, long-3), omega (arith, few, long-4)), (c.judge-found.ensures.0, counts_at h))
+    record {
+      ready = (h.ready, omega arith, omega arith, omega arith, omega arith);
+      turn_value = (c.judge-found.ensures.0, counts_at h);
+    }
 
 pub returns : goal.returns
 returns c =
@@ -36,5 +32,6 @@ returns c =
     let a = start.args in
     let j = c.judge-found in
     let over : a.n < j.result.late = omega (arith, c.if-late-n.false) in
-    returned_accepted start.requires.0 a.room start.requires.1 j.result.late j.ensures.1 over a.masters.now a.bound.now a.spacing.now a.jitter.now _ _ _ _
-    c.by_stream.ensures.masters_after c.by_stream.ensures.bound_after c.by_stream.ensures.spacing_after c.by_stream.ensures.jitter_after
+    let r = returned_accepted start.requires.0 a.room start.requires.1 j.result.late j.ensures.1 over a.masters.now a.bound.now a.spacing.now a.jitter.now _ _ _ _
+    c.by_stream.ensures.masters_after c.by_stream.ensures.bound_after c.by_stream.ensures.spacing_after c.by_stream.ensures.jitter_after in
+    record { value = r.0; masters_after = r.1.0; bound_after = r.1.1.0; spacing_after = r.1.1.1.0; jitter_after = r.1.1.1.1 }

@@ -43,30 +43,30 @@ pub overflow_cast-bound : goal.overflow_cast-bound
 overflow_cast-bound c = omega (arith, small (goal.at.overflow_cast-bound c).After-pnet_stream_at-met)
 
 pub bounds-counts-r : goal.bounds-counts-r
-bounds-counts-r c = omega (arith, small (goal.at.bounds-counts-r c).After-r-1)
+bounds-counts-r c = omega (arith, small (goal.at.bounds-counts-r c).After-pnet_stream_at-met)
 
 pub overflow_cast-bound-in-loop-i : goal.overflow_cast-bound-in-loop-i
-overflow_cast-bound-in-loop-i c = omega (arith, small (goal.at.overflow_cast-bound-in-loop-i c).After-r-1)
+overflow_cast-bound-in-loop-i c = omega (arith, small (goal.at.overflow_cast-bound-in-loop-i c).After-pnet_stream_at-met)
 
 pub overflow_mul-bound : goal.overflow_mul-bound
-overflow_mul-bound c = omega (arith, small (goal.at.overflow_mul-bound c).After-r-1)
+overflow_mul-bound c = omega (arith, small (goal.at.overflow_mul-bound c).After-pnet_stream_at-met)
 
 pub offset_bounds-bound-i : goal.offset_bounds-bound-i
-offset_bounds-bound-i c = omega (arith, small (goal.at.offset_bounds-bound-i c).After-r-1)
+offset_bounds-bound-i c = omega (arith, small (goal.at.offset_bounds-bound-i c).After-pnet_stream_at-met)
 
 pub offset_bounds-spacing-i : goal.offset_bounds-spacing-i
-offset_bounds-spacing-i c = omega (arith, small (goal.at.offset_bounds-spacing-i c).After-r-1)
+offset_bounds-spacing-i c = omega (arith, small (goal.at.offset_bounds-spacing-i c).After-pnet_stream_at-met)
 
 pub offset_bounds-jitter-i : goal.offset_bounds-jitter-i
-offset_bounds-jitter-i c = omega (arith, small (goal.at.offset_bounds-jitter-i c).After-r-1)
+offset_bounds-jitter-i c = omega (arith, small (goal.at.offset_bounds-jitter-i c).After-pnet_stream_at-met)
 
 pub loop-i-preserved : goal.loop-i-preserved
 loop-i-preserved c =
     let x = c in
     let l = x.loop-i in
-    let w = stream (goal.at.loop-i-preserved x).After-r-1 in
+    let w = stream (goal.at.loop-i-preserved x).After-pnet_stream_at-met in
     let fits = x.requires.ready in
-    (search rules, (its (goal.at.loop-i-preserved x).After-r-1).next, filling_more _ l.invariant.2 (omega (arith, fits.1)) w.master, filling_more _ l.invariant.3 (omega (arith, fits.2)) w.bounds, filling_more _ l.invariant.4 (omega (arith, fits.3)) w.spaced, filling_more _ l.invariant.5 (omega (arith, fits.4)) w.jittered)
+    (search rules, (its (goal.at.loop-i-preserved x).After-pnet_stream_at-met).next, filling_more _ l.invariant.2 (omega (arith, fits.1)) w.master, filling_more _ l.invariant.3 (omega (arith, fits.2)) w.bounds, filling_more _ l.invariant.4 (omega (arith, fits.3)) w.spaced, filling_more _ l.invariant.5 (omega (arith, fits.4)) w.jittered)
 
 pub shape_of-masters : goal.shape_of-masters
 shape_of-masters c = c.loop-i.invariant.2.long
@@ -85,4 +85,9 @@ returns c =
     let n = c.args.n in
     let l = c.loop-i in
     let e : l.i ≡ n = omega arith in
-    (filling_done n l.invariant.2 e, (filling_done n l.invariant.3 e, (filling_done n l.invariant.4 e, filling_done n l.invariant.5 e)))
+    record {
+      masters_after = filling_done n l.invariant.2 e;
+      bound_after = filling_done n l.invariant.3 e;
+      spacing_after = filling_done n l.invariant.4 e;
+      jitter_after = filling_done n l.invariant.5 e;
+    }

@@ -34,13 +34,13 @@ pub overflow_cast-bound : goal.overflow_cast-bound
 overflow_cast-bound c = omega (arith, stream (goal.at.overflow_cast-bound c).After-pnet_stream_at-met)
 
 pub bounds-counts-r : goal.bounds-counts-r
-bounds-counts-r c = omega (arith, stream (goal.at.bounds-counts-r c).After-r-1)
+bounds-counts-r c = omega (arith, stream (goal.at.bounds-counts-r c).After-pnet_stream_at-met)
 
 pub overflow_cast-bound-in-loop-i : goal.overflow_cast-bound-in-loop-i
-overflow_cast-bound-in-loop-i c = omega (arith, stream (goal.at.overflow_cast-bound-in-loop-i c).After-r-1)
+overflow_cast-bound-in-loop-i c = omega (arith, stream (goal.at.overflow_cast-bound-in-loop-i c).After-pnet_stream_at-met)
 
 pub overflow_mul-bound : goal.overflow_mul-bound
-overflow_mul-bound c = omega (arith, stream (goal.at.overflow_mul-bound c).After-r-1)
+overflow_mul-bound c = omega (arith, stream (goal.at.overflow_mul-bound c).After-pnet_stream_at-met)
 
 pub returns-then-r-bound : goal.returns-then-r-bound
 unfolding first_late
@@ -50,8 +50,8 @@ returns-then-r-bound c =
     let a = r.args in
     let p = r.requires in
     let S = segment_in a.s.now in
-    let hit = its_late p.0 (omega arith) r.pnet_stream_at-met.result (its (goal.at.returns-then-r-bound r).After-r-1) a.counts.now a.turn p.1.1 p.1.0 c.if-r-bound.true in
-    first_here (late S) S.number l.i l.invariant.2 (omega (arith, number_is p.0)) hit
+    let hit = its_late p.ready (omega arith) r.pnet_stream_at-met.result (its (goal.at.returns-then-r-bound r).After-pnet_stream_at-met) a.counts.now a.turn p.turn_value.1 p.turn_value.0 c.if-r-bound.true in
+    first_here (late S) S.number l.i l.invariant.2 (omega (arith, number_is p.ready)) hit
 
 pub loop-i-preserved : goal.loop-i-preserved
 loop-i-preserved c =
@@ -60,8 +60,8 @@ loop-i-preserved c =
     let a = r.args in
     let p = r.requires in (
       search rules,
-      (its (goal.at.loop-i-preserved r).After-r-1).next,
-      below_more _ _ l.invariant.2 (its_not_late p.0 (omega arith) r.pnet_stream_at-met.result (its (goal.at.loop-i-preserved r).After-r-1) a.counts.now a.turn p.1.1 p.1.0 (omega (arith, c.if-r-bound.false))),
+      (its (goal.at.loop-i-preserved r).After-pnet_stream_at-met).next,
+      below_more _ _ l.invariant.2 (its_not_late p.ready (omega arith) r.pnet_stream_at-met.result (its (goal.at.loop-i-preserved r).After-pnet_stream_at-met) a.counts.now a.turn p.turn_value.1 p.turn_value.0 (omega (arith, c.if-r-bound.false))),
     )
 
 pub overflow_add-result-2 : goal.overflow_add-result-2
@@ -75,4 +75,4 @@ returns c =
     let p = c.requires in
     let S = segment_in a.s.now in
     let e : l.i ≡ a.n = omega arith in
-    first_nowhere (late S) a.n l.i l.invariant.2 e ∙ ap (λ (k : ℕ). first_of (late S) k 1) (number_is p.0)
+    first_nowhere (late S) a.n l.i l.invariant.2 e ∙ ap (λ (k : ℕ). first_of (late S) k 1) (number_is p.ready)

@@ -12,7 +12,7 @@ v-is c = turn_is c.requires c.edition-edition.result c.edition-edition.ensures c
 pub first_late-late-requires : goal.first_late-late-requires
 first_late-late-requires c =
     let h = c.requires in
-    (h.ready, (v-is (goal.at.first_late-late-requires c).After-turn_of-turn, counts_at h))
+    record { ready = h.ready; turn_value = (v-is (goal.at.first_late-late-requires c).After-turn_of-turn, counts_at h) }
 
 pub returns : goal.returns
 returns c = (v-is (goal.at.returns c).After-turn_of-turn, c.first_late-late.ensures)

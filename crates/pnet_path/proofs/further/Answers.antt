@@ -11,17 +11,11 @@ pub returns-then-n-lt11 : goal.returns-then-n-lt11
 unfolding Ways.further
 returns-then-n-lt11 c = rw c.one_more.ensures
 
--- TODO: no step `well-formed` is known on the way there
 pub returns-else-n-lt11 : goal.returns-else-n-lt11
 unfolding Ways.further
 returns-else-n-lt11 c =
     let a = c.args in
     let w = a.way in
-    -- what is known of a way that is passed: each field in its order, a run with its length; here from the masters on
-    let known = c.well-formed.0.1.1.1.1.1.1 in
-    let masters : length w.masters ≡ 12 = sym (length-map w.masters _) ∙ known.0.1.0.1 in
-    let bounds : length w.bounds ≡ 12 = sym (length-map w.bounds _) ∙ known.1.0.1.0.1 in
-    let times : length w.times ≡ 11 = sym (length-map w.times _) ∙ known.1.1.0.1.0.1 in
     rw (
       c.one_more.ensures,
       set_out w.masters (w.segments + 1) a.master (omega arith),

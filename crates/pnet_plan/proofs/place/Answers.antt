@@ -18,7 +18,7 @@ use Rattle.pnet_plan.proofs.place.Goals as goal
 use Rattle.pnet_plan.proofs.place.Goals.{After-pnet_stream_at-met}
 
 pub loop-i-init : goal.loop-i-init
-loop-i-init c = let p = c.requires in (search rules, p.0.0.starts, p.1.1, below_none _, search rules)
+loop-i-init c = let p = c.requires in (search rules, p.ready.0.starts, p.grouped, below_none _, search rules)
 
 -- what is met is stream i + 1
 its : (c : After-pnet_stream_at-met)
@@ -40,28 +40,28 @@ pub overflow_cast-m : goal.overflow_cast-m
 overflow_cast-m c = omega (arith, master (goal.at.overflow_cast-m c).After-pnet_stream_at-met)
 
 pub bounds-counts-m : goal.bounds-counts-m
-bounds-counts-m c = omega (arith, master (goal.at.bounds-counts-m c).After-r-1)
+bounds-counts-m c = omega (arith, master (goal.at.bounds-counts-m c).After-pnet_stream_at-met)
 
 -- its master's count and V are small
 count_small : (c : After-pnet_stream_at-met) → at c.args.counts.now c.pnet_stream_at-met.result.found.a ≤ 80
 count_small c =
     let p = c.requires in
-    omega (arith, p.1.0.1 c.pnet_stream_at-met.result.found.a (master c), (declares p.0.0).counts c.pnet_stream_at-met.result.found.a)
+    omega (arith, p.turn_value.1 c.pnet_stream_at-met.result.found.a (master c), (declares p.ready.0).counts c.pnet_stream_at-met.result.found.a)
 
 v-small : (c : After-pnet_stream_at-met) → c.args.turn ≤ 51040
 v-small c =
     let a = c.args in
     let p = c.requires in
-    omega (arith, p.1.0.0, turn_at_most (segment_in a.s.now) (declares p.0.0))
+    omega (arith, p.turn_value.0, turn_at_most (segment_in a.s.now) (declares p.ready.0))
 
 pub overflow_cast-bound : goal.overflow_cast-bound
-overflow_cast-bound c = omega (arith, count_small (goal.at.overflow_cast-bound c).After-r-1)
+overflow_cast-bound c = omega (arith, count_small (goal.at.overflow_cast-bound c).After-pnet_stream_at-met)
 
 pub overflow_mul-bound : goal.overflow_mul-bound
 overflow_mul-bound c =
     let r = c in
     let a = r.args in
-    omega (arith, mul-le-mul {n₁ = at a.counts.now r.pnet_stream_at-met.result.found.a} {m₁ = a.turn} {n₂ = 80} {m₂ = 51040} (count_small (goal.at.overflow_mul-bound r).After-r-1) (v-small (goal.at.overflow_mul-bound r).After-r-1))
+    omega (arith, mul-le-mul {n₁ = at a.counts.now r.pnet_stream_at-met.result.found.a} {m₁ = a.turn} {n₂ = 80} {m₂ = 51040} (count_small (goal.at.overflow_mul-bound r).After-pnet_stream_at-met) (v-small (goal.at.overflow_mul-bound r).After-pnet_stream_at-met))
 
 pub returns-then-r-bound : goal.returns-then-r-bound
 unfolding first_late
@@ -71,66 +71,66 @@ returns-then-r-bound c =
     let a = r.args in
     let p = r.requires in
     let S = segment_in a.s.now in
-    let hit = its_late p.0.0 (omega arith) r.pnet_stream_at-met.result (its (goal.at.returns-then-r-bound r).After-r-1) a.counts.now a.turn p.1.0.1 p.1.0.0 c.if-r-bound.true in
-    (first_here (late S) S.number l.i l.invariant.3 (omega (arith, number_is p.0.0)) hit, λ over. absurd (omega arith))
+    let hit = its_late p.ready.0 (omega arith) r.pnet_stream_at-met.result (its (goal.at.returns-then-r-bound r).After-pnet_stream_at-met) a.counts.now a.turn p.turn_value.1 p.turn_value.0 c.if-r-bound.true in
+    (first_here (late S) S.number l.i l.invariant.3 (omega (arith, number_is p.ready.0)) hit, λ over. absurd (omega arith))
 
 pub offset_bounds-ends-m : goal.offset_bounds-ends-m
-offset_bounds-ends-m c = omega (arith, master (goal.at.offset_bounds-ends-m c).After-r-1)
+offset_bounds-ends-m c = omega (arith, master (goal.at.offset_bounds-ends-m c).After-pnet_stream_at-met)
 
 pub bounds-ends-m : goal.bounds-ends-m
-bounds-ends-m c = omega (arith, master (goal.at.bounds-ends-m c).After-struct_known-1)
+bounds-ends-m c = omega (arith, master (goal.at.bounds-ends-m c).After-pnet_stream_at-met)
 
 pub overflow_cast-p : goal.overflow_cast-p
-overflow_cast-p c = omega (arith, few (goal.at.overflow_cast-p c).After-struct_known-1)
+overflow_cast-p c = omega (arith, few (goal.at.overflow_cast-p c).After-pnet_stream_at-met)
 
 pub overflow_mul-p : goal.overflow_mul-p
-overflow_mul-p c = omega (arith, few (goal.at.overflow_mul-p c).After-struct_known-1)
+overflow_mul-p c = omega (arith, few (goal.at.overflow_mul-p c).After-pnet_stream_at-met)
 
 pub offset_bounds-pairs-p : goal.offset_bounds-pairs-p
-offset_bounds-pairs-p c = omega (arith, few (goal.at.offset_bounds-pairs-p c).After-struct_known-1)
+offset_bounds-pairs-p c = omega (arith, few (goal.at.offset_bounds-pairs-p c).After-pnet_stream_at-met)
 
 pub bounds-pairs-p : goal.bounds-pairs-p
-bounds-pairs-p c = omega (arith, few (goal.at.bounds-pairs-p c).After-struct_known-1)
+bounds-pairs-p c = omega (arith, few (goal.at.bounds-pairs-p c).After-pnet_stream_at-met)
 
 pub overflow_add-pairs : goal.overflow_add-pairs
-overflow_add-pairs c = omega (arith, few (goal.at.overflow_add-pairs c).After-struct_known-1)
+overflow_add-pairs c = omega (arith, few (goal.at.overflow_add-pairs c).After-pnet_stream_at-met)
 
 pub offset_bounds-pairs-p-in-loop-i : goal.offset_bounds-pairs-p-in-loop-i
-offset_bounds-pairs-p-in-loop-i c = omega (arith, few (goal.at.offset_bounds-pairs-p-in-loop-i c).After-struct_known-1)
+offset_bounds-pairs-p-in-loop-i c = omega (arith, few (goal.at.offset_bounds-pairs-p-in-loop-i c).After-pnet_stream_at-met)
 
 pub bounds-pairs-p-in-loop-i : goal.bounds-pairs-p-in-loop-i
 bounds-pairs-p-in-loop-i c =
     let r = c in
     let f = r.pnet_stream_at-met.result.found in
     let l = r.loop-i in
-    omega (arith, few (goal.at.bounds-pairs-p-in-loop-i r).After-struct_known-1, length-set l.pairs (2 * at l.ends f.a) f.c)
+    omega (arith, few (goal.at.bounds-pairs-p-in-loop-i r).After-pnet_stream_at-met, length-set l.pairs (2 * at l.ends f.a) f.c)
 
 pub overflow_add-ends : goal.overflow_add-ends
-overflow_add-ends c = omega (arith, few (goal.at.overflow_add-ends c).After-struct_known-1)
+overflow_add-ends c = omega (arith, few (goal.at.overflow_add-ends c).After-pnet_stream_at-met)
 
 pub offset_bounds-ends-m-in-loop-i : goal.offset_bounds-ends-m-in-loop-i
-offset_bounds-ends-m-in-loop-i c = omega (arith, few (goal.at.offset_bounds-ends-m-in-loop-i c).After-struct_known-1)
+offset_bounds-ends-m-in-loop-i c = omega (arith, few (goal.at.offset_bounds-ends-m-in-loop-i c).After-pnet_stream_at-met)
 
 pub bounds-ends-m-in-loop-i : goal.bounds-ends-m-in-loop-i
-bounds-ends-m-in-loop-i c = omega (arith, few (goal.at.bounds-ends-m-in-loop-i c).After-struct_known-1)
+bounds-ends-m-in-loop-i c = omega (arith, few (goal.at.bounds-ends-m-in-loop-i c).After-pnet_stream_at-met)
 
 pub offset_bounds-slacks-m : goal.offset_bounds-slacks-m
-offset_bounds-slacks-m c = omega (arith, few (goal.at.offset_bounds-slacks-m c).After-struct_known-1)
+offset_bounds-slacks-m c = omega (arith, few (goal.at.offset_bounds-slacks-m c).After-pnet_stream_at-met)
 
 pub bounds-slacks-m : goal.bounds-slacks-m
-bounds-slacks-m c = omega (arith, few (goal.at.bounds-slacks-m c).After-way_told-1)
+bounds-slacks-m c = omega (arith, few (goal.at.bounds-slacks-m c).After-pnet_stream_at-met)
 
 -- J is below T
 pub overflow_sub-r : goal.overflow_sub-r
 overflow_sub-r c =
     let r = c in
-    omega (arith, its_jitter r.requires.ready.0 (omega arith) r.pnet_stream_at-met.result (its (goal.at.overflow_sub-r r).After-way_told-1))
+    omega (arith, its_jitter r.requires.ready.0 (omega arith) r.pnet_stream_at-met.result (its (goal.at.overflow_sub-r r).After-pnet_stream_at-met))
 
 pub offset_bounds-slacks-m-in-loop-i : goal.offset_bounds-slacks-m-in-loop-i
-offset_bounds-slacks-m-in-loop-i c = omega (arith, few (goal.at.offset_bounds-slacks-m-in-loop-i c).After-way_told-1)
+offset_bounds-slacks-m-in-loop-i c = omega (arith, few (goal.at.offset_bounds-slacks-m-in-loop-i c).After-pnet_stream_at-met)
 
 pub bounds-slacks-m-in-loop-i : goal.bounds-slacks-m-in-loop-i
-bounds-slacks-m-in-loop-i c = omega (arith, few (goal.at.bounds-slacks-m-in-loop-i c).After-way_told-1)
+bounds-slacks-m-in-loop-i c = omega (arith, few (goal.at.bounds-slacks-m-in-loop-i c).After-pnet_stream_at-met)
 
 pub loop-i-preserved : goal.loop-i-preserved
 loop-i-preserved c =
@@ -141,10 +141,10 @@ loop-i-preserved c =
     let f = r.pnet_stream_at-met.result.found in
     let place = 2 * at l.ends f.a in (
       search rules,
-      (its (goal.at.loop-i-preserved r).After-way_told-1).next,
-      grouped_next p.0.0 (omega arith) r.pnet_stream_at-met.result (its (goal.at.loop-i-preserved r).After-way_told-1) l.invariant.2 c.smaller.result (omega (arith, c.smaller.ensures)),
+      (its (goal.at.loop-i-preserved r).After-pnet_stream_at-met).next,
+      grouped_next p.ready.0 (omega arith) r.pnet_stream_at-met.result (its (goal.at.loop-i-preserved r).After-pnet_stream_at-met) l.invariant.2 c.smaller.result (omega (arith, c.smaller.ensures)),
       below_more _ _ l.invariant.3
-          (its_not_late p.0.0 (omega arith) r.pnet_stream_at-met.result (its (goal.at.loop-i-preserved r).After-way_told-1) a.counts.now a.turn p.1.0.1 p.1.0.0 (omega (arith, c.if-r-bound.false))),
+          (its_not_late p.ready.0 (omega arith) r.pnet_stream_at-met.result (its (goal.at.loop-i-preserved r).After-pnet_stream_at-met) a.counts.now a.turn p.turn_value.1 p.turn_value.0 (omega (arith, c.if-r-bound.false))),
       length-set (set l.pairs place f.c) (place + 1) f.e ∙ (length-set l.pairs place f.c ∙ l.invariant.4),
     )
 
@@ -156,4 +156,4 @@ returns c =
     let p = c.requires in
     let S = segment_in a.s.now in
     let e : l.i ≡ a.streams = omega arith in
-    (first_nowhere (late S) a.streams l.i l.invariant.3 e ∙ ap (λ (k : ℕ). first_of (late S) k 1) (number_is p.0.0), λ over. subst (λ (k : ℕ). Grouped S k l.ends l.slacks l.pairs) e l.invariant.2)
+    (first_nowhere (late S) a.streams l.i l.invariant.3 e ∙ ap (λ (k : ℕ). first_of (late S) k 1) (number_is p.ready.0), λ over. subst (λ (k : ℕ). Grouped S k l.ends l.slacks l.pairs) e l.invariant.2)

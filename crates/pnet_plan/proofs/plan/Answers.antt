@@ -13,14 +13,14 @@ use Rattle.sheet_read.proofs.Taken.{Taken, taken, not_taken}
 use Rattle.pnet_plan.proofs.Bytes.{sheeted, streams_few}
 use Rattle.pnet_plan.proofs.Cases.{planned_unread, planned_other, planned_short, returned_refused}
 use Rattle.pnet_plan.proofs.plan.Goals as goal
-use Rattle.pnet_plan.proofs.plan.Goals.{In-Accepted-2}
+use Rattle.pnet_plan.proofs.plan.Goals.{In-Accepted}
 
 -- what the reader is lent
 abbrev zeros : List ℕ
 zeros = replicate 33 0
 
 -- what the reader took
-took : (c : In-Accepted-2)
+took : (c : In-Accepted)
     → Taken c.args.s.now c.in-Accepted.head c.in-Accepted.streams c.in-Accepted.first
 took c =
     taken c.args.s.now c.in-Accepted.head c.in-Accepted.streams c.in-Accepted.first
@@ -29,40 +29,44 @@ took c =
 pub returns-then-bus_of-ne1 : goal.returns-then-bus_of-ne1
 returns-then-bus_of-ne1 c =
     let a = c.args in
-    let t = took (goal.at.returns-then-bus_of-ne1 c).In-Accepted-2 in
+    let t = took (goal.at.returns-then-bus_of-ne1 c).In-Accepted in
     let o = planned_other a.s.now (length a.bound.now) (length a.refined.now) (length a.rounds.now) (sheet_in a.s.now) t.reads (λ k. c.if-bus_of-ne1.true (c.bus_of.ensures ∙ (ap (λ (r : Record). bus_of r.kind) t.begins ∙ k))) in
     returned_refused a.s.now a.bound.now a.refined.now a.rounds.now 3 0 o
 
--- TODO: what `read2.given` says is now in a field with a name of its own
 pub returns-then-bound-n : goal.returns-then-bound-n
 returns-then-bound-n c =
     let a = c.args in
-    let x = c.in-Accepted.given in
-    let t = took (goal.at.returns-then-bound-n c).In-Accepted-2 in
+    let x = c.in-Accepted in
+    let t = took (goal.at.returns-then-bound-n c).In-Accepted in
     let bus = ap (λ (r : Record). bus_of r.kind) (sym t.begins) ∙ (sym c.bus_of.ensures ∙ c.if-bus_of-ne1.false) in
-    let short : (x.0.0.a ≤ length a.bound.now → x.0.0.a ≤ length a.refined.now → x.0.0.a ≤ length a.rounds.now → ⊥) =
+    let short : (x.head.a ≤ length a.bound.now → x.head.a ≤ length a.refined.now → x.head.a ≤ length a.rounds.now → ⊥) =
     λ l m r. ⊎_elim (λ w. omega (arith, ltb-true)) (⊎_elim (λ w. omega (arith, ltb-true)) (λ w. omega (arith, ltb-true))) c.then-bound-n.branch in
-    let o = planned_short a.s.now (length a.bound.now) (length a.refined.now) (length a.rounds.now) (sheet_in a.s.now) t.reads bus x.0.0.a (ap (λ (r : Record). r.a) t.begins) short in
-    returned_refused a.s.now a.bound.now a.refined.now a.rounds.now 13 x.0.0.a o
+    let o = planned_short a.s.now (length a.bound.now) (length a.refined.now) (length a.rounds.now) (sheet_in a.s.now) t.reads bus x.head.a (ap (λ (r : Record). r.a) t.begins) short in
+    returned_refused a.s.now a.bound.now a.refined.now a.rounds.now 13 x.head.a o
 
 pub plan_segment-requires : goal.plan_segment-requires
 plan_segment-requires c =
-    let t = took (goal.at.plan_segment-requires c).In-Accepted-2 in
+    let t = took (goal.at.plan_segment-requires c).In-Accepted in
     let g = c.read_gathering-read.ensures in
-    let h = sheeted t (sym c.bus_of.ensures ∙ c.if-bus_of-ne1.false) zeros zeros g.1.0 g.1.1 in
-    ((h, omega (arith, c.if-streams-le-FEW.true)), (c.if-bound-n.false, ltb-false _ _ c.if-refined-n.false-raw, ltb-false _ _ c.if-rounds-n.false-raw))
+    let h = sheeted t (sym c.bus_of.ensures ∙ c.if-bus_of-ne1.false) zeros zeros g.counts_after g.longests_after in
+    record {
+      sheeted = (h, omega (arith, c.if-streams-le-FEW.true));
+      n_in_bounds = (c.if-bound-n.false, omega arith, omega arith);
+    }
 
 pub plan_segment-requires-in-Accepted : goal.plan_segment-requires-in-Accepted
 plan_segment-requires-in-Accepted c =
-    let t = took (goal.at.plan_segment-requires-in-Accepted c).In-Accepted-2 in
+    let t = took (goal.at.plan_segment-requires-in-Accepted c).In-Accepted in
     let g = c.read_gathering-read.ensures in
-    let h = sheeted t (sym c.bus_of.ensures ∙ c.if-bus_of-ne1.false) zeros zeros g.1.0 g.1.1 in
-    ((h, omega (arith, streams_few h.ready)), (c.if-bound-n.false, ltb-false _ _ c.if-refined-n.false-raw, ltb-false _ _ c.if-rounds-n.false-raw))
+    let h = sheeted t (sym c.bus_of.ensures ∙ c.if-bus_of-ne1.false) zeros zeros g.counts_after g.longests_after in
+    record {
+      sheeted = (h, omega (arith, streams_few h.ready));
+      n_in_bounds = (c.if-bound-n.false, omega arith, omega arith);
+    }
 
--- TODO: what `read.given` says is now in a field with a name of its own
 pub returns-in-Refused : goal.returns-in-Refused
 returns-in-Refused c =
     let a = c.args in
-    let x = c.in-Refused.given in
-    let o = planned_unread a.s.now (length a.bound.now) (length a.refined.now) (length a.rounds.now) x.0.0 x.0.1.0 (not_taken a.s.now x.0.0 x.0.1.0 (sym c.read_gathering-read.ensures.value ∙ x.1)) in
-    returned_refused a.s.now a.bound.now a.refined.now a.rounds.now x.0.0 x.0.1.0 o
+    let x = c.in-Refused in
+    let o = planned_unread a.s.now (length a.bound.now) (length a.refined.now) (length a.rounds.now) x.no x.place (not_taken a.s.now x.no x.place (sym c.read_gathering-read.ensures.value ∙ x.is)) in
+    returned_refused a.s.now a.bound.now a.refined.now a.rounds.now x.no x.place o

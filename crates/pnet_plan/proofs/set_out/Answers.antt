@@ -43,10 +43,10 @@ few c =
     p.1 (c.loop-y.y + 1) (omega (arith, p.0))
 
 pub overflow_cast-end : goal.overflow_cast-end
-overflow_cast-end c = omega (arith, few (goal.at.overflow_cast-end c).After-way_told-in-loop-y-3-1)
+overflow_cast-end c = omega (arith, few (goal.at.overflow_cast-end c).After-charge_of-charge)
 
 pub overflow_add-end : goal.overflow_add-end
-overflow_add-end c = omega (arith, few (goal.at.overflow_add-end c).After-way_told-in-loop-y-3-1, c.requires.n_bound.0)
+overflow_add-end c = omega (arith, few (goal.at.overflow_add-end c).After-charge_of-charge, c.requires.n_bound.0)
 
 pub loop-y-preserved : goal.loop-y-preserved
 loop-y-preserved c =
@@ -55,7 +55,7 @@ loop-y-preserved c =
     let p = c.requires.n_bound in
     let f = c.floor_of-floor in (
       search rules,
-      omega (arith, few (goal.at.loop-y-preserved c).After-way_told-in-loop-y-3-1),
+      omega (arith, few (goal.at.loop-y-preserved c).After-charge_of-charge),
       omega (arith, upto_more (at a.counts.now) l.y),
       set_out_more l.invariant.3 c.charge_of-charge.result.0 l.end (omega (arith, p.0))
           (charge_is a.counts.now a.longests.now a.n a.edition p.2 f.result c.charge_of-charge.result (l.y + 1) f.ensures c.charge_of-charge.ensures (omega arith) (omega (arith, p.0))) l.invariant.2,

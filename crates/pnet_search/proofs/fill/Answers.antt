@@ -51,4 +51,4 @@ returns c =
     let n = c.args.n in
     let l = c.loop-i in
     let e : l.i ≡ n = omega arith in
-    (filling_done n l.invariant.1 e, (filling_done n l.invariant.2 e, filling_done n l.invariant.3 e))
+    record { bound_after = filling_done n l.invariant.1 e; refined_after = filling_done n l.invariant.2 e; rounds_after = filling_done n l.invariant.3 e }

@@ -1,19 +1,15 @@
 -- `saving_at` meets its contract: what a look leaves of s, times what a visit costs beyond 10. W and R(y) are each at most 80·V, so the window
 -- fits; it is longer than W by R(y), and so is the one that the look reaches.
-use Prim.Native.Nat.{ℕ, ◌+◌, ◌*◌, ◌≤◌, min}
+use Prim.Native.Nat.{◌+◌, ◌*◌, ◌≤◌, min}
 use native.Mathlib.Omega.{arith}
 use Rattle.pnet_turn.specs.Turn.{at}
 use Rattle.pnet_search.specs.Arrays.{asked_at}
 use Rattle.pnet_search.proofs.Arrays.{left_same, saved_small, product_small}
 use Rattle.pnet_search.proofs.saving_at.Goals as goal
-use Rattle.pnet_search.proofs.saving_at.Goals.{After-charge-1, Start}
+use Rattle.pnet_search.proofs.saving_at.Goals.{After-charge-1}
 
--- R(y), and that it is small
-abbrev bound : Start → ℕ
-bound c = at c.args.counts.now c.args.y * c.args.turn
-
--- TODO: a lemma needs the record `After-count-1` out of `c`
-waited : (c : After-charge-1) → bound c.After-count-1 ≤ 4083200
+-- R(y) is small
+waited : (c : After-charge-1) → at c.args.counts.now c.args.y * c.args.turn ≤ 4083200
 waited c =
     let a = c.args in
     let p = c.requires in
@@ -35,13 +31,17 @@ overflow_mul-saved c =
     let a = c.args in
     omega (arith, saved_small a.s c.look-seen.result.asked (at a.charges.now a.y) (omega arith) (omega arith))
 
--- what y asks of the s visits
-abbrev asks : Start → ℕ → ℕ
-asks c v = min c.args.s (asked_at c.args.counts.now c.args.ends.now c.args.pairs.now c.args.turn c.args.y v)
-
+-- what y asks of the s visits stays the same as long as the look's window
 pub returns : goal.returns
 unfolding asked_at
 returns c =
-    let s = c in
-    let e = c.look-seen.ensures in
-    (omega arith, λ v l h. left_same {b = asks (goal.at.returns s).After-count-1 v} s.args.s (at s.args.charges.now s.args.y) (e.2 (v + bound (goal.at.returns s).After-count-1) (omega arith) (omega arith)))
+    let a = c.args in
+    let e = c.look-seen.ensures in (
+      omega arith,
+      λ v l h.
+        left_same
+        {b = min a.s (asked_at a.counts.now a.ends.now a.pairs.now a.turn a.y v)}
+        a.s
+        (at a.charges.now a.y)
+        (e.2 (v + at a.counts.now a.y * a.turn) (omega arith) (omega arith)),
+    )

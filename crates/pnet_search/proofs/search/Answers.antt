@@ -13,17 +13,14 @@ use Rattle.pnet_search.proofs.search.Goals.{Else-next-w, Start}
 abbrev right : Start → ℕ → ℕ
 right c = right_in c.args.counts.now c.args.charges.now c.args.ends.now c.args.pairs.now c.args.n c.args.k
 
--- how often it moves at most
-abbrev most : Start → ℕ
-most c = 1 + (c.args.n - 1) * at c.args.counts.now c.args.k
-
 pub begin-requires : goal.begin-requires
 begin-requires c =
     let k = c.args.k in
-    let p = c.requires in (
-      (p.2.few, turn_small p.2, omega (arith, p.2.few), (p.2.each k p.0 p.1).count_to, refl, refl),
-      λ y lo hi. ((p.2.each y lo hi).count_to, (p.2.each y lo hi).charge_from, (p.2.each y lo hi).charge_to, p.3.covers y lo hi),
-    )
+    let p = c.requires in
+    record {
+      n_bound = (p.2.few, turn_small p.2, omega (arith, p.2.few), (p.2.each k p.0 p.1).count_to, refl, refl);
+      by_index = λ y lo hi. ((p.2.each y lo hi).count_to, (p.2.each y lo hi).charge_from, (p.2.each y lo hi).charge_to, p.3.covers y lo hi);
+    }
 
 pub loop-w-init : goal.loop-w-init
 loop-w-init c =
@@ -36,7 +33,7 @@ right_of-next-requires c =
     let k = c.args.k in
     let p = c.requires in
     let l = c.loop-w in
-    ((p.0, p.1, moving_small p.2 k p.0 p.1 l.rounds l.w l.invariant.0, p.2), l.invariant.1)
+    record { le_k = (p.0, p.1, moving_small p.2 k p.0 p.1 l.rounds l.w l.invariant.0, p.2); fresh = l.invariant.1 }
 
 pub returns-then-next-w : goal.returns-then-next-w
 returns-then-next-w c =
@@ -44,10 +41,10 @@ returns-then-next-w c =
     let p = c.requires in
     let l = c.loop-w in
     let f = c.right_of-next in
-    found p.2 k p.0 p.1 l.rounds l.w f.result l.invariant.0 f.ensures.0 c.if-next-w.true
+    found p.2 k p.0 p.1 l.rounds l.w f.result l.invariant.0 f.ensures.value c.if-next-w.true
 
--- TODO: a lemma needs the record `Start` out of `c`
-few : (c : Else-next-w) → c.loop-w.rounds ≤ most c.Start
+-- how often it moves at most
+few : (c : Else-next-w) → c.loop-w.rounds ≤ 1 + (c.args.n - 1) * at c.args.counts.now c.args.k
 few c =
     let p = c.requires in
     let l = c.loop-w in
@@ -67,6 +64,6 @@ loop-w-preserved c =
     let p = c.requires in
     let l = c.loop-w in
     let f = c.right_of-next in (
-      moving_more 0 (right (goal.at.loop-w-preserved c).Start) l.rounds l.w f.result l.invariant.0 f.ensures.0 c.if-next-w.false,
-      fresh_later f.ensures.1 f.result (moving_rises p.2 k p.0 p.1 l.rounds l.w f.result l.invariant.0 f.ensures.0),
+      moving_more 0 (right (goal.at.loop-w-preserved c).Start) l.rounds l.w f.result l.invariant.0 f.ensures.value c.if-next-w.false,
+      fresh_later f.ensures.fresh_2 f.result (moving_rises p.2 k p.0 p.1 l.rounds l.w f.result l.invariant.0 f.ensures.value),
     )

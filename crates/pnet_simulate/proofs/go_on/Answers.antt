@@ -18,7 +18,7 @@ loop-v-preserved c =
       v.ensures.0 ∙ (ap (visited a.n a.owner.now a.cycle.now) l.invariant.1 ∙ sym (visited_times_more a.n a.owner.now a.cycle.now _ l.v)),
       omega arith,
       v.ensures.2,
-      v.auto.1.1.1.1.0 ∙ l.invariant.4,
+      v.auto.answered ∙ l.invariant.4,
     )
 
 pub shape_of-answered : goal.shape_of-answered

@@ -1,5 +1,4 @@
 use Prim.Native.Nat.{◌-◌}
-use mathlib.Core.Logic.{⊎_elim}
 use native.Mathlib.Omega.{arith}
 use lib.ListN.{length}
 use borrow.Author.Count.{below_more}
@@ -7,6 +6,7 @@ use Rattle.common.proofs.Firsts.{found_first, found_none}
 use Rattle.pnet_simulate.specs.Simulated.{waits, oldest_of}
 use Rattle.pnet_simulate.proofs.Waits.{waits_at, waits_elsewhere, waits_no_more}
 use Rattle.pnet_simulate.proofs.oldest.Goals as goal
+use Rattle.pnet_simulate.proofs.oldest.Goals.{else-owner-p, then-owner-p}
 
 pub loop-p-init : goal.loop-p-init
 loop-p-init c = (omega arith, λ j l. absurd (omega arith))
@@ -24,10 +24,10 @@ loop-p-preserved c =
     let a = c.args in
     let l = c.loop-p in (
       omega arith,
-      below_more _ _ l.invariant.1 (⊎_elim
-          (λ w. waits_no_more a.owner.now a.answered.now a.m l.p w.0.taken w.2.left)
-          (λ w. waits_elsewhere a.owner.now a.answered.now a.m l.p w.left)
-          c.if-owner-p.branch),
+      below_more _ _ l.invariant.1 (elim c.if-owner-p.branch [
+          then-owner-p w ↦ waits_no_more a.owner.now a.answered.now a.m l.p w.if-owner-p.true w.if-answered-p-eq0.false
+        | else-owner-p w ↦ waits_elsewhere a.owner.now a.answered.now a.m l.p w.if-owner-p.false
+      ]),
     )
 
 pub returns : goal.returns

@@ -17,7 +17,7 @@ pub returns-then-not-is_sound : goal.returns-then-not-is_sound
 returns-then-not-is_sound c =
     let s = c.is_sound in
     let no = sym s.ensures ∙ not-true s.result c.if-not-is_sound.true-raw in
-    (simulated_none _ _ _ _ _ _ no, λ e. let z : ◌≡◌ {A = ℕ} 0 1 = absurd (never (sym no ∙ e)) in absurd (omega arith))
+    record { answered_after = simulated_none _ _ _ _ _ _ no; runs = λ e. absurd (never (sym no ∙ e)) }
   where
     never : false ≡ true → ⊥
     never z = let y : ◌≡◌ {A = ℕ} 0 1 = cc in omega arith
@@ -32,7 +32,6 @@ clear-requires c = (sound_then _ _ _ _ _ (passed (goal.at.clear-requires c).Else
 pub behind-requires : goal.behind-requires
 behind-requires c = let s = sound_then _ _ _ _ _ (passed (goal.at.behind-requires c).Else-not-is_sound) in (omega arith, s.k_to)
 
--- TODO: `auto` goes by name now
 pub go_on-requires : goal.go_on-requires
 go_on-requires c =
     let s = sound_then _ _ _ _ _ (passed (goal.at.go_on-requires c).Else-not-is_sound) in
@@ -44,6 +43,9 @@ returns c =
     let g = c.go_on in
     let p = passed (goal.at.returns c).Else-not-is_sound in
     let first = begun_is a.n a.owner.now a.cycle.now a.k a.visits a.answered.now _ _ c.behind.ensures.0 c.clear.ensures in
-    let r = simulated_is a.n a.owner.now a.cycle.now a.k a.visits a.answered.now (bus_of g.result g.new.1.1.1.1.1.0) p
+    let r = simulated_is a.n a.owner.now a.cycle.now a.k a.visits a.answered.now (bus_of g.result g.new.answered) p
     (g.ensures ∙ ap (λ (b : Bus). visited_times a.n a.owner.now a.cycle.now b a.visits) first) in
-    (r, λ e. subst (Told (segment_by a.n a.owner.now a.cycle.now)) (sym r) (simulated_told a.n a.owner.now a.cycle.now a.k a.visits a.answered.now e))
+    record {
+      answered_after = r;
+      runs = λ e. subst (Told (segment_by a.n a.owner.now a.cycle.now)) (sym r) (simulated_told a.n a.owner.now a.cycle.now a.k a.visits a.answered.now e);
+    }

@@ -33,45 +33,39 @@ unfolding lines_of
 short w b t total deadline few s d = no_path_longer (item w.masters) (count_at w.bounds) (count_at w.times) b t (w.segments - 1) total deadline few s d
 
 pub returns-then-out-lt-MOST_TEXT : goal.returns-then-out-lt-MOST_TEXT
-returns-then-out-lt-MOST_TEXT c = no_room _ _ _ c.if-out-lt-MOST_TEXT.true
+returns-then-out-lt-MOST_TEXT c =
+    let r = no_room _ _ _ c.if-out-lt-MOST_TEXT.true in
+    record { value = r.0; out_after = r.1 }
 
 pub returns-then-way : goal.returns-then-way
 returns-then-way c =
-    let s = c in
-    let start = s in
-    written false (refused_report start.args.way start.args.deadline s.if-way.true) (no_sheet_refusal_longer _ _ _) s.if-out-lt-MOST_TEXT.false
-    c.put_sheet_refusal.ensures
+    let a = c.args in
+    let r = written false (refused_report a.way a.deadline c.if-way.true) (no_sheet_refusal_longer _ _ _) c.if-out-lt-MOST_TEXT.false c.put_sheet_refusal.ensures in
+    record { value = r.0; out_after = r.1 }
 
 pub put_path-requires : goal.put_path-requires
-put_path-requires c =
-    let told = c in
-    let start = told in
-    few_segments start.args.way start.args.deadline told.if-way.false _ (sym c.in-Within.is ∙ told.answer-crossing.ensures)
+put_path-requires c = few_segments c.args.way c.args.deadline c.if-way.false _ (sym c.in-Within.is ∙ c.answer-crossing.ensures)
 
--- TODO: no step `well-formed` is known on the way there
--- TODO: what `known-told.given.0.1.1.0.1` says is now in a field with a name of its own
 pub returns-in-Within : goal.returns-in-Within
 returns-in-Within c =
-    let told = c in
-    let s = told in
-    let start = s in
+    let a = c.args in
     -- what is known of a way that is passed: each field in its order, a run with what is known of its elements; here from the masters on
-    let known = start.well-formed.1.0.1.1.1.1.1.1 in
-    let b : (i : ℕ) → (count_at start.args.way.bounds i).0 < 2 ^ 32 = λ i. counts-small start.args.way.bounds known.1.0.0 i known.1.0.1.1 in
-    let t : (i : ℕ) → (count_at start.args.way.times i).0 < 2 ^ 32 = λ i. counts-small start.args.way.times known.1.1.0.0 i known.1.1.0.1.1 in
-    let d : start.args.deadline.0 < 2 ^ 32 = start.well-formed.1.1.0.1.1.0.1 in
+    let known = c.well_formed.1.0.1.1.1.1.1.1 in
+    let b : (i : ℕ) → (count_at a.way.bounds i).0 < 2 ^ 32 = λ i. counts-small a.way.bounds known.1.0.0 i known.1.0.1.1 in
+    let t : (i : ℕ) → (count_at a.way.times i).0 < 2 ^ 32 = λ i. counts-small a.way.times known.1.1.0.0 i known.1.1.0.1.1 in
+    let d : a.deadline.0 < 2 ^ 32 = omega arith in
     let x = c.in-Within in
-    let small : x.given.0.0.0 < 2 ^ 32 = c.in-Within.given.0.1.1.0.1 in
-    let is = sym x.given.1 ∙ told.answer-crossing.ensures in
-    let few = few_segments start.args.way start.args.deadline s.if-way.false _ is in
-    written true (answered_report start.args.way start.args.deadline s.if-way.false _ is)
-    (short start.args.way b t x.given.0.0 start.args.deadline (omega (arith, few.1)) small d) s.if-out-lt-MOST_TEXT.false c.put_path.ensures
+    let small : x.total.0 < 2 ^ 32 = omega arith in
+    let is = sym x.is ∙ c.answer-crossing.ensures in
+    let few = few_segments a.way a.deadline c.if-way.false _ is in
+    let r = written true (answered_report a.way a.deadline c.if-way.false _ is)
+    (short a.way b t x.total a.deadline (omega (arith, few.1)) small d) c.if-out-lt-MOST_TEXT.false c.put_path.ensures in
+    record { value = r.0; out_after = r.1 }
 
 pub returns-in-Refused : goal.returns-in-Refused
 returns-in-Refused c =
-    let told = c in
-    let s = told in
-    let start = s in
-    written false
-    (answered_report start.args.way start.args.deadline s.if-way.false _ (sym c.in-Refused.is ∙ told.answer-crossing.ensures))
-    (no_path_refusal_longer _ _) s.if-out-lt-MOST_TEXT.false c.put_path_refusal.ensures
+    let a = c.args in
+    let r = written false
+    (answered_report a.way a.deadline c.if-way.false _ (sym c.in-Refused.is ∙ c.answer-crossing.ensures))
+    (no_path_refusal_longer _ _) c.if-out-lt-MOST_TEXT.false c.put_path_refusal.ensures in
+    record { value = r.0; out_after = r.1 }

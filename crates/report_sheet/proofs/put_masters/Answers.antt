@@ -10,24 +10,6 @@ pub loop-i-init : goal.loop-i-init
 unfolding texts
 loop-i-init c = (search rules, wrote_none)
 
--- TODO: no step `well-formed` is known on the way there
-pub offset_bounds-bound-i : goal.offset_bounds-bound-i
-offset_bounds-bound-i c =
-    let start = c in
-    omega (arith, start.well-formed.1.1.0, start.requires)
-
--- TODO: no step `well-formed` is known on the way there
-pub offset_bounds-refined-i : goal.offset_bounds-refined-i
-offset_bounds-refined-i c =
-    let start = c in
-    omega (arith, start.well-formed.1.1.1.0, start.requires)
-
--- TODO: no step `well-formed` is known on the way there
-pub offset_bounds-rounds-i : goal.offset_bounds-rounds-i
-offset_bounds-rounds-i c =
-    let start = c in
-    omega (arith, start.well-formed.1.1.1.1.0, start.requires)
-
 pub loop-i-preserved : goal.loop-i-preserved
 unfolding master_at
 loop-i-preserved c =

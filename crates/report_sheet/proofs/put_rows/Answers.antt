@@ -10,10 +10,6 @@ pub loop-m-init : goal.loop-m-init
 unfolding texts
 loop-m-init c = (search rules, wrote_none)
 
--- TODO: no step `well-formed` is known on the way there
-pub offset_bounds-rows-m : goal.offset_bounds-rows-m
-offset_bounds-rows-m c = omega (arith, c.well-formed.1.1.0, c.requires)
-
 pub loop-m-preserved : goal.loop-m-preserved
 unfolding row_at
 loop-m-preserved c =

@@ -8,7 +8,11 @@ use Rattle.report_sheet.proofs.report.Goals as goal
 
 pub returns-then-out-lt-MOST_TEXT : goal.returns-then-out-lt-MOST_TEXT
 unfolding answer_of run_of
-returns-then-out-lt-MOST_TEXT c = (simp (lt-ltb _ most_text c.if-out-lt-MOST_TEXT.true), simp (lt-ltb _ most_text c.if-out-lt-MOST_TEXT.true))
+returns-then-out-lt-MOST_TEXT c = 
+    record {
+      value = simp (lt-ltb _ most_text c.if-out-lt-MOST_TEXT.true);
+      out_after = simp (lt-ltb _ most_text c.if-out-lt-MOST_TEXT.true);
+    }
 
 pub returns : goal.returns
 unfolding answer_of run_of
@@ -16,4 +20,4 @@ returns c =
     let s = c.args.s.now in
     let room = c.if-out-lt-MOST_TEXT.false in
     let w = reports_front c.put_report.ensures (omega (arith, no_report_longer s, room)) in
-    (simp (le-ltb _ most_text room) w.0, simp (le-ltb _ most_text room) w.1)
+    record { value = simp (le-ltb _ most_text room) w.0; out_after = simp (le-ltb _ most_text room) w.1 }

@@ -14,12 +14,11 @@ use Rattle.report_sheet.proofs.segment_report.Goals as goal
 abbrev zeros : List ℕ
 zeros = replicate 32 0
 
--- TODO: `auto` goes by name now
 pub put_segment-requires : goal.put_segment-requires
 put_segment-requires c =
     let f = segment_of_runs c.args.s.now _ _ _ _ _ zeros zeros zeros (sym c.in-Accepted.is ∙ c.plan.ensures.0) c.plan.ensures.1 c.plan.ensures.2 c.plan.ensures.3 in
-    let k = c.plan.auto.bound in
-    (omega (arith, f.0, k.1.0), omega (arith, f.0, k.1.1.0), omega (arith, f.0, k.1.1.1.0))
+    let a = c.plan.auto in
+    (omega (arith, f.0, a.bound), omega (arith, f.0, a.refined), omega (arith, f.0, a.rounds))
 
 pub returns-in-Accepted : goal.returns-in-Accepted
 unfolding segment_accepts

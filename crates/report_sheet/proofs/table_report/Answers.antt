@@ -14,11 +14,10 @@ use Rattle.report_sheet.proofs.table_report.Goals as goal
 abbrev zeros : List ℕ
 zeros = replicate 4096 0
 
--- TODO: `auto` goes by name now
 pub put_table-requires : goal.put_table-requires
 put_table-requires c =
     let f = table_of_run _ _ _ _ _ _ zeros refl (sym c.in-Accepted.is ∙ c.plan.ensures.value) c.plan.ensures.rows_after c.identifiers-names.ensures in
-    omega (arith, f.0, c.plan.auto.1.0)
+    omega (arith, f.0, c.plan.auto)
 
 pub returns-in-Accepted : goal.returns-in-Accepted
 unfolding table_accepts
