@@ -12,7 +12,7 @@ use Rattle.common.proofs.Firsts.{first_hit}
 use Rattle.worldfip_sets.specs.Sets.{bit, lowest}
 use Rattle.worldfip_sets.proofs.Members.{bit_small, bit_none, same_members, Lowest}
 use Rattle.worldfip_sets.proofs.Picks.{lowest_is, lowest_picks}
-use Rattle.worldfip_rules.specs.Build.{new, by_rank, pending, miss_at, miss_row}
+use Rattle.worldfip_rules.specs.Build.{new, by_rank, miss_at, miss_row}
 use Rattle.worldfip_rules.specs.Traffic.{Traffic, Declared, variable_of, rows, asked_of, pending_of, late_of, miss_of, missing_of}
 use Rattle.worldfip_rules.specs.Misses.{Miss, Named}
 use Rattle.worldfip_rules.proofs.Steps.{rank_picking, late_bit, late_below}

@@ -1,5 +1,6 @@
 // Sets of at most 64 variables as numbers, and the highest common factor of two periods.
 #![tactic(auto)]
+
 ghost use Rattle.std.specs.Prelude.{◌≡◌, ◌<◌, ◌^◌};
 ghost use Rattle.worldfip_sets.specs.Sets.{alone, lowest, left, served};
 ghost use Rattle.worldfip_sets.specs.Remainder.{Common};
