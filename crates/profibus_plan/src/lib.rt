@@ -1,5 +1,6 @@
 // The PROFIBUS planner, page 01 'PROFIBUS rotation time', and page 02 'Ask 8'.
 #![tactic(auto)]
+
 pub mod answer;
 
 ghost use Rattle.std.specs.Prelude.{◌≡◌, ℕ, ◌≤◌, get_or};

@@ -1,6 +1,7 @@
 // What the table of a WorldFIP sheet goes by, page 01 'WorldFIP table': microcycle, slots and rows, and the variables by rank; or the refusal that comes before any row
 // is built.
 #![tactic(auto)]
+
 mod periods;
 
 ghost use Rattle.std.specs.Prelude.{◌≡◌};

@@ -1,15 +1,15 @@
-use Prim.Native.Nat.{ℕ, ◌+◌, ◌-◌, ◌≤◌}
+use Prim.Native.Nat.{ℕ, ◌+◌, ◌-◌, ◌≤◌, ◌<◌}
+use mathlib.Core.List.{List}
 use mathlib.Core.Path.{sym, ap, ◌∙◌}
 use native.Mathlib.Omega.{arith}
 use lib.ListN.{get_or}
 use Rattle.common.specs.Sums.{upto}
 use Rattle.common.proofs.Sums.{upto_none, upto_more}
 use Rattle.profibus_plan.proofs.together.Goals as goal
-use Rattle.profibus_plan.proofs.together.Goals.{After-total-1}
 
 -- the next master's
-short : (c : After-total-1) → get_or c.args.messages.now (c.loop-y.y + 1) 0 ≤ 100000
-short c = c.requires.1 (c.loop-y.y + 1) (omega arith) (omega arith)
+short : (messages : List ℕ) {n : ℕ} → ((y : ℕ) → 1 ≤ y → y ≤ n → get_or messages y 0 ≤ 100000) → (y : ℕ) → y < n → get_or messages (y + 1) 0 ≤ 100000
+short messages within y l = within (y + 1) (omega arith) (omega arith)
 
 pub loop-y-init : goal.loop-y-init
 loop-y-init c = (omega arith, upto_none _, omega arith)
@@ -18,16 +18,16 @@ pub bounds-messages-y : goal.bounds-messages-y
 bounds-messages-y c = omega (arith, c.requires.0)
 
 pub overflow_cast-total : goal.overflow_cast-total
-overflow_cast-total c = omega (arith, short (goal.at.overflow_cast-total c).After-total-1)
+overflow_cast-total c = omega (arith, short _ c.requires.1 c.loop-y.y c.loop-y-test.true)
 
 pub overflow_add-total : goal.overflow_add-total
-overflow_add-total c = omega (arith, short (goal.at.overflow_add-total c).After-total-1, c.requires.0)
+overflow_add-total c = omega (arith, short _ c.requires.1 c.loop-y.y c.loop-y-test.true, c.requires.0)
 
 pub loop-y-preserved : goal.loop-y-preserved
 loop-y-preserved c =
     let l = c.loop-y in
     let messages = c.args.messages.now in
-    (omega arith, ap (λ (x : ℕ). x + get_or messages (l.y + 1) 0) l.invariant.1 ∙ sym (upto_more (λ k. get_or messages k 0) l.y), omega (arith, short (goal.at.loop-y-preserved c).After-total-1))
+    (omega arith, ap (λ (x : ℕ). x + get_or messages (l.y + 1) 0) l.invariant.1 ∙ sym (upto_more (λ k. get_or messages k 0) l.y), omega (arith, short _ c.requires.1 c.loop-y.y c.loop-y-test.true))
 
 pub returns : goal.returns
 returns c =

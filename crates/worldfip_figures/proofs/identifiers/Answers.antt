@@ -13,27 +13,28 @@ use Rattle.worldfip_figures.proofs.Turns.{zero_run}
 use Rattle.worldfip_figures.proofs.Tied.{few, places_within}
 use Rattle.worldfip_figures.proofs.Passing.{sheeted, other_name, name_is}
 use Rattle.worldfip_figures.proofs.identifiers.Goals as goal
-use Rattle.worldfip_figures.proofs.identifiers.Goals.{Else-bus_of-ne5, In-Accepted-2}
+use Rattle.worldfip_figures.proofs.identifiers.Goals.{Else-bus_of-ne5}
 
 -- what the reader took
-took : (c : In-Accepted-2)
+took : (c : Else-bus_of-ne5)
     → Taken c.args.s.now c.in-Accepted.head c.in-Accepted.streams c.in-Accepted.first
 took c =
     taken c.args.s.now c.in-Accepted.head c.in-Accepted.streams c.in-Accepted.first
     (sym c.read.ensures ∙ c.in-Accepted.is)
 
 -- is a WorldFIP sheet
--- TODO: a lemma needs the record `In-Accepted-2` out of `c`
 ready : (c : Else-bus_of-ne5) → Ready c.args.s.now worldfip c.in-Accepted.first c.in-Accepted.streams
-ready c = taken_ready (took c.In-Accepted-2) (sym c.bus_of.ensures ∙ c.if-bus_of-ne5.false)
+ready c = taken_ready (took c) (sym c.bus_of.ensures ∙ c.if-bus_of-ne5.false)
 
 -- with its E
-exchange : (c : In-Accepted-2) → c.in-Accepted.head.a ≡ (sheet_in c.args.s.now).head.a
+exchange : (c : Else-bus_of-ne5) → c.in-Accepted.head.a ≡ (sheet_in c.args.s.now).head.a
 exchange c = ap (λ (r : Record). r.a) (took c).begins
 
 pub returns-then-bus_of-ne5 : goal.returns-then-bus_of-ne5
 returns-then-bus_of-ne5 c =
-    let t = took (goal.at.returns-then-bus_of-ne5 c).In-Accepted-2 in
+    let t =
+    taken c.args.s.now c.in-Accepted.head c.in-Accepted.streams c.in-Accepted.first
+    (sym c.read.ensures ∙ c.in-Accepted.is) in
     let S = sheet_in c.args.s.now in
     let other : (bus_in S ≡ worldfip → ⊥) = λ (e : bus_in S ≡ worldfip). c.if-bus_of-ne5.true (c.bus_of.ensures ∙ (ap (λ (r : Record). bus_of r.kind) t.begins ∙ e)) in
     zero_run (identifier_of (reading c.args.s.now)) (λ r. ap (λ (o : Outcome). identifier_of o r) t.reads ∙ other_name S other r)
@@ -43,14 +44,14 @@ gather-v-requires c = ready (goal.at.gather-v-requires c).Else-bus_of-ne5
 
 pub by_rank-places-requires : goal.by_rank-places-requires
 by_rank-places-requires c =
-    let p = sheeted (ready (goal.at.by_rank-places-requires c).Else-bus_of-ne5) (exchange (goal.at.by_rank-places-requires c).In-Accepted-2) c.gather-v.ensures in
+    let p = sheeted (ready (goal.at.by_rank-places-requires c).Else-bus_of-ne5) (exchange (goal.at.by_rank-places-requires c).Else-bus_of-ne5) c.gather-v.ensures in
     (p.there, few p)
 
 pub names_by_rank-requires : goal.names_by_rank-requires
 names_by_rank-requires c =
     let g = c.gather-v.ensures in
-    let p = sheeted (ready (goal.at.names_by_rank-requires c).Else-bus_of-ne5) (exchange (goal.at.names_by_rank-requires c).In-Accepted-2) g in
-    ((few p, omega (arith, few p, g.names_long)), places_within p c.by_rank-places.ensures)
+    let p = sheeted (ready (goal.at.names_by_rank-requires c).Else-bus_of-ne5) (exchange (goal.at.names_by_rank-requires c).Else-bus_of-ne5) g in
+    record { n_bound = (few p, omega (arith, few p, g.names_long)); within = places_within p c.by_rank-places.ensures }
 
 pub returns-in-Refused : goal.returns-in-Refused
 unfolding identifier_of
@@ -62,5 +63,5 @@ returns-in-Refused c =
 pub returns-else-bus_of-ne5 : goal.returns-else-bus_of-ne5
 returns-else-bus_of-ne5 c =
     let q = c.names_by_rank.ensures in
-    let is = name_is (ready (goal.at.returns-else-bus_of-ne5 c).Else-bus_of-ne5) (exchange (goal.at.returns-else-bus_of-ne5 c).In-Accepted-2) c.gather-v.ensures c.by_rank-places.ensures q.1 in
+    let is = name_is (ready (goal.at.returns-else-bus_of-ne5 c).Else-bus_of-ne5) (exchange (goal.at.returns-else-bus_of-ne5 c).Else-bus_of-ne5) c.gather-v.ensures c.by_rank-places.ensures q.1 in
     tab_places (identifier_of (reading c.args.s.now)) c.names_by_rank.result 64 q.0 (λ r l. is r)

@@ -7,40 +7,35 @@ use Rattle.worldfip_figures.specs.Held.{held}
 use Rattle.worldfip_figures.proofs.Measured.{stops_10, stops_11, goes_on}
 use Rattle.worldfip_figures.proofs.Tied.{few, places_within, places_are, micro_is, whole, slots_are, none_fits, some_fit, rows_are, periods_are}
 use Rattle.worldfip_figures.proofs.measure.Goals as goal
-use Rattle.worldfip_figures.proofs.measure.Goals.{After-microcycle-c, After-rows_of-rows, Else-c-e, Start}
+use Rattle.worldfip_figures.proofs.measure.Goals.{After-microcycle-c, After-rows_of-rows, Start}
 
 -- ---- What is known on the way
 abbrev traffic : Start → Traffic
 traffic c = held c.args.ps.now c.args.n c.args.e
 
--- TODO: a lemma needs the record `Start` out of `c`
-micro : (c : After-microcycle-c) → c.microcycle-c.result ≡ microcycle (traffic c.Start)
+micro : (c : After-microcycle-c) → c.microcycle-c.result ≡ microcycle (held c.args.ps.now c.args.n c.args.e)
 micro c = c.microcycle-c.ensures ∙ micro_is c.requires
 
--- TODO: a lemma needs the record `After-microcycle-c` out of `c`
--- TODO: a lemma needs the record `Start` out of `c`
-some : (c : Else-c-e) → slots (traffic c.Start) ≡ 0 → ⊥
-some c = some_fit c.requires (micro c.After-microcycle-c) c.if-c-e.false
+-- a slot at least, and the rows, or 4,097
+some : (c : After-rows_of-rows) → slots (held c.args.ps.now c.args.n c.args.e) ≡ 0 → ⊥
+some c = some_fit c.requires (c.microcycle-c.ensures ∙ micro_is c.requires) c.if-c-e.false
 
--- the rows, or 4,097
--- TODO: a lemma needs the record `After-microcycle-c` out of `c`
--- TODO: a lemma needs the record `Start` out of `c`
--- TODO: no step `rows_of_lem` is known on the way there
-counted : (c : After-rows_of-rows) → c.rows_of_lem.result ≡ min 4097 (rows (traffic c.Start))
-counted c = c.rows_of_lem.ensures ∙ ap (min 4097) (rows_are c.requires (micro c.After-microcycle-c))
+counted : (c : After-rows_of-rows) → c.rows_of-rows.result ≡ min 4097 (rows (held c.args.ps.now c.args.n c.args.e))
+counted c = c.rows_of-rows.ensures ∙ ap (min 4097) (rows_are c.requires (c.microcycle-c.ensures ∙ micro_is c.requires))
 
 pub returns-then-c-e : goal.returns-then-c-e
 returns-then-c-e c =
-    let s = c in
-    c.stop.ensures ∙ stops_10 (traffic (goal.at.returns-then-c-e s).Start) (none_fits s.requires (micro (goal.at.returns-then-c-e c).After-microcycle-c) c.if-c-e.true)
+    let at = goal.at.returns-then-c-e c in
+    c.stop.ensures ∙ stops_10 (traffic at.Start) (none_fits c.requires (micro at.After-microcycle-c) c.if-c-e.true)
 
 pub rows_of-rows-requires : goal.rows_of-rows-requires
 rows_of-rows-requires c = whole c.requires (micro (goal.at.rows_of-rows-requires c).After-microcycle-c)
 
 pub returns-then-rows-gt4096 : goal.returns-then-rows-gt4096
 returns-then-rows-gt4096 c =
+    let at = goal.at.returns-then-rows-gt4096 c in
     c.stop-then-rows-gt4096.ensures
-    ∙ stops_11 (traffic (goal.at.returns-then-rows-gt4096 c).Start) (some (goal.at.returns-then-rows-gt4096 c).Else-c-e) (omega (arith, counted (goal.at.returns-then-rows-gt4096 c).After-rows_of-rows, c.if-rows-gt4096.true))
+    ∙ stops_11 (traffic at.Start) (some at.After-rows_of-rows) (omega (arith, counted at.After-rows_of-rows, c.if-rows-gt4096.true))
 
 pub by_rank-places-requires : goal.by_rank-places-requires
 by_rank-places-requires c = (c.requires.there, few c.requires)
@@ -49,7 +44,7 @@ pub in_rows-periods-requires : goal.in_rows-periods-requires
 in_rows-periods-requires c =
     let p = c.requires in
     let w = whole p (micro (goal.at.in_rows-periods-requires c).After-microcycle-c) in
-    ((w.few, w.there, w.some), places_within p c.by_rank-places.ensures)
+    record { n_bound = (w.few, w.there, w.some); within = places_within p c.by_rank-places.ensures }
 
 pub nonzero_div-slots : goal.nonzero_div-slots
 unfolding held plain
@@ -58,12 +53,12 @@ nonzero_div-slots c = c.requires.declares.exchange_in.0
 pub returns : goal.returns
 unfolding held plain
 returns c =
-    let s = c in
-    let m = micro (goal.at.returns c).After-microcycle-c in
-    let e = counted (goal.at.returns c).After-rows_of-rows in
+    let at = goal.at.returns c in
+    let m = micro at.After-microcycle-c in
+    let e = counted at.After-rows_of-rows in
     let l = c.if-rows-gt4096.false in
     let v = c.by_rank-places.ensures in
     let q = c.in_rows-periods.ensures in
-    goes_on (traffic (goal.at.returns s).Start) (some (goal.at.returns c).Else-c-e) (omega (arith, e, l)) _ _ _ _ _ _ refl m (slots_are s.requires m) (omega (arith, e, l))
-    (places_are s.requires v)
-    (periods_are s.requires m v q.0 q.1)
+    goes_on (traffic at.Start) (some at.After-rows_of-rows) (omega (arith, e, l)) _ _ _ _ _ _ refl m (slots_are c.requires m) (omega (arith, e, l))
+    (places_are c.requires v)
+    (periods_are c.requires m v q.0 q.1)
