@@ -286,8 +286,8 @@ module _ (T J : ℕ → ℕ) where
   unfolding early
   lead_in_time {i = i} {e = e} es says c x =
       let mine : e.stream ≡ i = says.stream_is ∙ c in
-      let soon-not : ltb (J e.stream) (new_lead T J e es e.stream) ≡ false = rw (eq-eqb e.kind 16 says.kind_is) at x in
-      rw (← mine) (ltb-false (J e.stream) (new_lead T J e es e.stream) soon-not)
+      let soon_not : ltb (J e.stream) (new_lead T J e es e.stream) ≡ false = rw (eq-eqb e.kind 16 says.kind_is) at x in
+      rw (← mine) (ltb-false (J e.stream) (new_lead T J e es e.stream) soon_not)
 
   dues_begun : {z t i : ℕ} {ts : List ℕ} {came : List Request} {es : List Event} → Recorded z t ts es → Dues (first ts) i came es
       → Dues (first (t ∷ ts)) i came es
@@ -311,7 +311,7 @@ module _ (T J : ℕ → ℕ) where
 
   -- a request of stream i comes at t, and not too soon
   module _ {z f t i : ℕ} {came : List Request} {e : Event} {es : List Event} (says : Is 16 i e) (r : Timed z (e ∷ es) f t) (p : Dues f i came es)
-      (in-time : new_lead T J e es i ≤ J i) where
+      (in_time : new_lead T J e es i ≤ J i) where
     abbrev new_due : ℕ
     new_due = t + new_lead T J e es i
 
@@ -324,7 +324,7 @@ module _ (T J : ℕ → ℕ) where
     dues_arrive : (o : ℕ) → o ≡ i → Dues f i (request o t ∷ came) (e ∷ es)
     dues_arrive o own = record {
       due = new_due ∷ p.due;
-      kept = asks {r = request o t} new_due own (omega arith) (omega (arith, in-time)) (λ v j. inr (behind_all v j)) p.kept;
+      kept = asks {r = request o t} new_due own (omega arith) (omega (arith, in_time)) (λ v j. inr (behind_all v j)) p.kept;
       last_is = λ v j. (omega (arith, asked_now, true_clock r), ⊎_elim (λ (c : v ≡ new_due). at v (omega arith)) (λ (c : Memᴰ v p.due). at v (omega (arith, behind_all v c))) (mathlib.Core.List.Memᴰ.cases_cons j));
     }
       where
@@ -332,7 +332,7 @@ module _ (T J : ℕ → ℕ) where
         asked_now = asked_here i e es says.kind_is says.stream_is
 
         lead_now : lead T J (e ∷ es) i ≡ new_lead T J e es i
-        lead_now = lead_here i e es says.kind_is says.stream_is T J ∙ kept_in_time (J i) _ in-time
+        lead_now = lead_here i e es says.kind_is says.stream_is T J ∙ kept_in_time (J i) _ in_time
 
         at : (v : ℕ) → v ≤ new_due → v + 1 ≤ asked (e ∷ es) i + f + lead T J (e ∷ es) i
         at v l = omega (arith, l, asked_now, lead_now, true_clock r, in_order r)
@@ -349,24 +349,24 @@ module _ (T J : ℕ → ℕ) where
   dues : {D : Discipline} {S : Segment} {t : ℕ} {y : Token} {q : ℕ → D.State} {came : List Request} {went : List Answer} (z : ℕ) (run : RunBy D S t y q came went)
       → Close (instants_of run) → Timely T J (log_of z run) → (i : ℕ) → Dues (first (instants_of run)) i came (log_of z run)
   unfolding log_of instants_of early
-  dues z (start a b c) close timed-all i = record { due = []; kept = quiet; last_is = λ v j. absurd (mathlib.Core.List.Memᴰ.not-nil j) }
-  dues z (complete run p) close (also x timed-all) i =
+  dues z (start a b c) close timed_all i = record { due = []; kept = quiet; last_is = λ v j. absurd (mathlib.Core.List.Memᴰ.not-nil j) }
+  dues z (complete run p) close (also x timed_all) i =
       let before = close_before close in
-      dues_still _ (λ k s. omega arith) (dues_begun (recorded z run before) (dues z run before timed-all i))
-  dues z (arrive {i = o} run settled b) close (also x timed-all) i =
+      dues_still _ (λ k s. omega arith) (dues_begun (recorded z run before) (dues z run before timed_all i))
+  dues z (arrive {i = o} run settled b) close (also x timed_all) i =
       let before = close_before close in
       let past = recorded z run before in
-      dues_next (record { kind_is = refl; stream_is = refl }) (timed (recorded_next refl past close)) x i (dues_begun past (dues z run before timed-all i))
-  dues z (move run o p) close timed-all i = dues z run close timed-all i
-  dues z (travel e run) close timed-all i = dues z run close timed-all i
-  dues z (work e run) close timed-all i = dues z run close timed-all i
-  dues z (serve e x c run p a b k f g o) close timed-all i = dues z run close timed-all i
-  dues z (skip e run p a b) close timed-all i = dues z run close timed-all i
+      dues_next (record { kind_is = refl; stream_is = refl }) (timed (recorded_next refl past close)) x i (dues_begun past (dues z run before timed_all i))
+  dues z (move run o p) close timed_all i = dues z run close timed_all i
+  dues z (travel e run) close timed_all i = dues z run close timed_all i
+  dues z (work e run) close timed_all i = dues z run close timed_all i
+  dues z (serve e x c run p a b k f g o) close timed_all i = dues z run close timed_all i
+  dues z (skip e run p a b) close timed_all i = dues z run close timed_all i
 
 -- of each stream, with the spacing T i and the jitter J i
 pub timely_kept : (T J : ℕ → ℕ) {D : Discipline} {S : Segment} {t : ℕ} {y : Token} {q : ℕ → D.State} {came : List Request} {went : List Answer} (z : ℕ) (run : RunBy D S t y q came went)
     → Close (instants_of run) → Timely T J (log_of z run) → (i : ℕ) → (due : List ℕ) × Kept (T i) (J i) i came due
-timely_kept T J z run close timed-all i = let p = dues T J z run close timed-all i in (p.due, p.kept)
+timely_kept T J z run close timed_all i = let p = dues T J z run close timed_all i in (p.due, p.kept)
 
 -- ---- Requests that are open
 
@@ -399,4 +399,4 @@ module _ {D : Discipline} {K : Keeps D} (C : Counts D K) {S : Segment} {k i B : 
         by (yes some) =
             let w = C.some (q k) i some in
             rw (le-ltb B (clock es - asked es i) (aged w.0 w.1 w.2)) (and-false (not (eqb (left fresh es i) 0)))
-        by (no none-waits) = let idle = (matches C P z run kind).idle (omega (arith, none-waits)) in rw idle
+        by (no none_waits) = let idle = (matches C P z run kind).idle (omega (arith, none_waits)) in rw idle

@@ -81,44 +81,44 @@ at_place_law f N k old from to = let e : k - 1 + 1 ≡ k = omega arith in filled
 
 -- ---- The answer and the three runs
 
-module _ (s lent-R lent-W lent-rounds : List ℕ) where
+module _ (s lent_R lent_W lent_rounds : List ℕ) where
   -- what the planner makes of the bytes
   abbrev outcome : Outcome
-  outcome = planned s (length lent-R) (length lent-W) (length lent-rounds)
+  outcome = planned s (length lent_R) (length lent_W) (length lent_rounds)
 
   -- 'Stream i of k passes if R(k) is at most D.' A sheet is accepted exactly if the bytes read as a P-NET sheet, each run has N places, and each
   -- stream passes
-  pub pnet_accepted_exactly : (H : Sheet) → (outcome ≡ Read H) ↔ Accepted s (length lent-R) (length lent-W) (length lent-rounds) H
-  pnet_accepted_exactly = pnet.accepted_exactly s (length lent-R) (length lent-W) (length lent-rounds)
+  pub pnet_accepted_exactly : (H : Sheet) → (outcome ≡ Read H) ↔ Accepted s (length lent_R) (length lent_W) (length lent_rounds) H
+  pnet_accepted_exactly = pnet.accepted_exactly s (length lent_R) (length lent_W) (length lent_rounds)
 
-  answers_read : (H : Sheet) → Accepted s (length lent-R) (length lent-W) (length lent-rounds) H
-      → Answers s lent-R lent-W lent-rounds (plan_of (Read H)) (run_of (Read H) bound lent-R) (run_of (Read H) refined lent-W) (run_of (Read H) rounds lent-rounds)
+  answers_read : (H : Sheet) → Accepted s (length lent_R) (length lent_W) (length lent_rounds) H
+      → Answers s lent_R lent_W lent_rounds (plan_of (Read H)) (run_of (Read H) bound lent_R) (run_of (Read H) refined lent_W) (run_of (Read H) rounds lent_rounds)
   unfolding segment_of
   answers_read H a =
       let S = segment_of H in
       let N = masters_of H in
-      let each : (k : ℕ) → 1 ≤ k → k ≤ N → Figures S k (get_or (run_of (Read H) bound lent-R) (k - 1) 0) (get_or (run_of (Read H) refined lent-W) (k - 1) 0) (get_or (run_of (Read H) rounds lent-rounds) (k - 1) 0) =
+      let each : (k : ℕ) → 1 ≤ k → k ≤ N → Figures S k (get_or (run_of (Read H) bound lent_R) (k - 1) 0) (get_or (run_of (Read H) refined lent_W) (k - 1) 0) (get_or (run_of (Read H) rounds lent_rounds) (k - 1) 0) =
       λ k from to.
-      rw (at_place_law (bound S) N k lent-R from to, at_place_law (refined S) N k lent-W from to, at_place_law (rounds S) N k lent-rounds from to) (published S k from to) in
+      rw (at_place_law (bound S) N k lent_R from to, at_place_law (refined S) N k lent_W from to, at_place_law (rounds S) N k lent_rounds from to) (published S k from to) in
       accepted a each
-      (kept_filled (at_place (bound S)) N lent-R a.room.for_bound)
-      (kept_filled (at_place (refined S)) N lent-W a.room.for_refined)
-      (kept_filled (at_place (rounds S)) N lent-rounds a.room.for_rounds)
+      (kept_filled (at_place (bound S)) N lent_R a.room.for_bound)
+      (kept_filled (at_place (refined S)) N lent_W a.room.for_refined)
+      (kept_filled (at_place (rounds S)) N lent_rounds a.room.for_rounds)
 
   -- the planner answers as the page says, and leaves in the runs what the page says
-  pub pnet_answers_as_published : Answers s lent-R lent-W lent-rounds (plan_of outcome) (run_of outcome bound lent-R) (run_of outcome refined lent-W) (run_of outcome rounds lent-rounds)
+  pub pnet_answers_as_published : Answers s lent_R lent_W lent_rounds (plan_of outcome) (run_of outcome bound lent_R) (run_of outcome refined lent_W) (run_of outcome rounds lent_rounds)
   pnet_answers_as_published = by outcome refl
     where
-      by : (o : Outcome) → outcome ≡ o → Answers s lent-R lent-W lent-rounds (plan_of o) (run_of o bound lent-R) (run_of o refined lent-W) (run_of o rounds lent-rounds)
+      by : (o : Outcome) → outcome ≡ o → Answers s lent_R lent_W lent_rounds (plan_of o) (run_of o bound lent_R) (run_of o refined lent_W) (run_of o rounds lent_rounds)
       by (Read H) e = answers_read H ((pnet_accepted_exactly H).0 e)
-      by (Not n p) e = refused ((pnet.refused_exactly s (length lent-R) (length lent-W) (length lent-rounds) n p).0 e)
+      by (Not n p) e = refused ((pnet.refused_exactly s (length lent_R) (length lent_W) (length lent_rounds) n p).0 e)
 
   -- and no other answer, and no other numbers in the runs, are as the page says
-  pub no_other_pnet_answer : {answer : Plan} {R W m : List ℕ} → Answers s lent-R lent-W lent-rounds answer R W m
-      → (answer ≡ plan_of outcome) × (R ≡ run_of outcome bound lent-R) × (W ≡ run_of outcome refined lent-W) × (m ≡ run_of outcome rounds lent-rounds)
+  pub no_other_pnet_answer : {answer : Plan} {R W m : List ℕ} → Answers s lent_R lent_W lent_rounds answer R W m
+      → (answer ≡ plan_of outcome) × (R ≡ run_of outcome bound lent_R) × (W ≡ run_of outcome refined lent_W) × (m ≡ run_of outcome rounds lent_rounds)
   unfolding segment_of
   no_other_pnet_answer (refused {n} {p} g) =
-      let e = (pnet.refused_exactly s (length lent-R) (length lent-W) (length lent-rounds) n p).1 g in
+      let e = (pnet.refused_exactly s (length lent_R) (length lent_W) (length lent_rounds) n p).1 g in
       rw e (refl, refl, refl, refl)
   no_other_pnet_answer (accepted {H = H} {R = R} {W = W} {rounds = m} a each kR kW km) =
       let e = (pnet_accepted_exactly H).1 a in
@@ -128,7 +128,7 @@ module _ (s lent-R lent-W lent-rounds : List ℕ) where
       λ k from to. one_each S k (each k from to) (published S k from to) in
       rw e (
         refl,
-        same_run N kR (kept_filled (at_place (bound S)) N lent-R a.room.for_bound) (λ k from to. (one k from to).0 ∙ sym (at_place_law (bound S) N k lent-R from to)),
-        same_run N kW (kept_filled (at_place (refined S)) N lent-W a.room.for_refined) (λ k from to. (one k from to).1 ∙ sym (at_place_law (refined S) N k lent-W from to)),
-        same_run N km (kept_filled (at_place (rounds S)) N lent-rounds a.room.for_rounds) (λ k from to. (one k from to).2 ∙ sym (at_place_law (rounds S) N k lent-rounds from to)),
+        same_run N kR (kept_filled (at_place (bound S)) N lent_R a.room.for_bound) (λ k from to. (one k from to).0 ∙ sym (at_place_law (bound S) N k lent_R from to)),
+        same_run N kW (kept_filled (at_place (refined S)) N lent_W a.room.for_refined) (λ k from to. (one k from to).1 ∙ sym (at_place_law (refined S) N k lent_W from to)),
+        same_run N km (kept_filled (at_place (rounds S)) N lent_rounds a.room.for_rounds) (λ k from to. (one k from to).2 ∙ sym (at_place_law (rounds S) N k lent_rounds from to)),
       )

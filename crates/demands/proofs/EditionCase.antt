@@ -16,7 +16,7 @@ use Rattle.pnet_rules.specs.Refined.{rounds, refined}
 use Rattle.pnet_plan.specs.Planned.{planned, run_of}
 use Rattle.pnet_run.specs.Run.{Request, Answer, Queues, Token, Run}
 use Rattle.pnet_run.specs.Promise.{Spaced, Answered, Reached}
-use Rattle.pnet_run.proofs.Editions.{R-under-2, no_run_takes_R_under_2}
+use Rattle.pnet_run.proofs.Editions.{r_under_2, no_run_takes_R_under_2}
 use Rattle.demands.proofs.Demand3.{written, written_is_bound, each_request_is_answered_within_the_written_bound}
 use Rattle.demands.proofs.Corrected.{written_refined, written_refined_is_W, each_request_is_answered_within_the_written_refined_figure}
 
@@ -57,7 +57,7 @@ each_request_is_answered_within_500 run spaced =
     rw is_500 at (each_request_is_answered_within_the_written_bound bytes lent lent lent sheet accepts 1 (omega arith) (omega arith) run spaced)
   where
     is_500 : written bytes lent lent lent sheet accepts 1 (omega arith) (omega arith) ≡ 500
-    is_500 = written_is_bound bytes lent lent lent sheet accepts 1 (omega arith) (omega arith) ∙ R-under-2
+    is_500 = written_is_bound bytes lent lent lent sheet accepts 1 (omega arith) (omega arith) ∙ r_under_2
 
 -- and within the refined figure, where all masters keep their spacing
 pub each_request_is_answered_within_260 : {now : ℕ} {token : Token} {queues : Queues} {came : List Request} {went : List Answer}
@@ -70,4 +70,4 @@ each_request_is_answered_within_260 run spaced =
     is_260 = written_refined_is_W bytes lent lent lent sheet accepts 1 (omega arith) (omega arith)
 
 pub no_run_takes_500 : Reached (bp 500) second 1 → ⊥
-no_run_takes_500 = rw R-under-2 at no_run_takes_R_under_2
+no_run_takes_500 = rw r_under_2 at no_run_takes_R_under_2

@@ -261,8 +261,8 @@ module _ {D : Discipline} {K : Keeps D} (C : Counts D K) where
           none_kept : (r : Request) → K.In (q k) r → i ≡ r.of → ⊥
           none_kept r j e =
               let apart = kept_apart P.short (came_in_order (arrive run settled b)) (P.keeps (request i t ∷ came) s).1 in
-              let in-time = (P.waits t y q came went run (P.earlier (request i t) came s) r j (sym e)).before settled in
-              omega (arith, P.fits, in-time, apart_latest apart refl r.since (rw e (kept_came K run k r j)))
+              let in_time = (P.waits t y q came went run (P.earlier (request i t) came s) r j (sym e)).before settled in
+              omega (arith, P.fits, in_time, apart_latest apart refl r.since (rw e (kept_came K run k r j)))
 
           by : Dec (0 < C.many (q k) i) → C.many (q k) i ≡ 0
           by (yes l) = let p = C.some (q k) i l in absurd (none_kept p.0 p.1 p.2)

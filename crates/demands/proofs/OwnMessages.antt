@@ -20,7 +20,7 @@ use Rattle.profibus_plan.specs.declared.answer.Plan.TheVariants as plan
 use Rattle.profibus_plan.specs.Planned.{plan_of, Answers}
 use Rattle.profibus_plan.specs.Planned.Answers.{another_bus, fails, limited}
 use Rattle.profibus_plan.proofs.Answers.{plan_answers, plan_limited}
-use Rattle.demands.proofs.Rewritten.{M-is-every-masters, the_sum_is_n_times_M}
+use Rattle.demands.proofs.Rewritten.{m_is_every_masters, the_sum_is_n_times_M}
 
 -- the ring of S, of kind 3, with a longest message of at most M for each master
 pub record OwnMessages (S S' : Sheet) : Type 0 where
@@ -42,7 +42,7 @@ pub record Raised (S S' : Sheet) (ttr : ℕ) : Type 0 where
 module _ (s s' : List ℕ) (S S' : Sheet) (was_read : reading s ≡ Read S) (is_read : reading s' ≡ Read S') (own : OwnMessages S S') where
   shortened : Shortened (ring_of S) (ring_of S')
   shortened =
-      shortened_ring S S' own.masters own.latency (λ y lo hi. omega (arith, M-is-every-masters S own.with_M y, own.messages y lo hi)) own.streams
+      shortened_ring S S' own.masters own.latency (λ y lo hi. omega (arith, m_is_every_masters S own.with_M y, own.messages y lo hi)) own.streams
 
   pub own_messages_raise_TTR : (ttr i : ℕ) → plan_of (reading s) ≡ plan.Target (ring_bp ttr) i → Raised S S' ttr
   own_messages_raise_TTR ttr i planned = split (plan_answers s S (reading_read s S was_read)) (rw was_read at planned)

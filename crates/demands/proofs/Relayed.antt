@@ -189,6 +189,6 @@ module _ (P : Path) (c : ℕ) (accepts : crossed P ≡ crossing.Within (bp c)) w
 
     -- a figure within which every reply is there is at least the cost
     pub no_lower_cost_would_be_true : (figure : ℕ) → ((a b : ℕ) → Exchange P a b → b ≤ a + figure) → c ≤ figure
-    no_lower_cost_would_be_true figure within-it =
+    no_lower_cost_would_be_true figure within_it =
         let x = some_exchange_takes_exactly_the_cost in
-        omega (arith, within-it x.0 (x.0 + c) (x.1 x.0 (le_refl x.0)))
+        omega (arith, within_it x.0 (x.0 + c) (x.1 x.0 (le_refl x.0)))

@@ -32,13 +32,13 @@ use Rattle.report_sheet.proofs.Alike.{read_alike, rings_alike}
 
 -- ---- 'mean M for every master'
 
-module _ (S : Sheet) (old-ring : S.head.kind ≡ 3) where
-  pub M-is-every-masters : (y : ℕ) → message_of S y ≡ S.head.c
-  M-is-every-masters y = message_of_ring S y (λ nine. omega arith)
+module _ (S : Sheet) (old_ring : S.head.kind ≡ 3) where
+  pub m_is_every_masters : (y : ℕ) → message_of S y ≡ S.head.c
+  m_is_every_masters y = message_of_ring S y (λ nine. omega arith)
 
   -- so their sum is page 01's n·M, and TTR is what it was
   pub the_sum_is_n_times_M : messages (ring_of S) ≡ masters_of S * S.head.c
-  the_sum_is_n_times_M = messages_of_one S old-ring
+  the_sum_is_n_times_M = messages_of_one S old_ring
 
 -- ---- 'rewritten keeps its meaning, not its bytes'
 

@@ -68,17 +68,17 @@ plain_name : (k : ℕ) → Plain (name_of k)
 unfolding name_of
 plain_name k = plain_both (plain_if (word "M") refl) (plain_places 2 k)
 
-plain_line : (k : ℕ) (R : BitPeriods) (R-ns : Nanos) (W : BitPeriods) (W-ns : Nanos) (m : ℕ) → Plain (line_of k R R-ns W W-ns m)
-plain_line k R R-ns W W-ns m =
+plain_line : (k : ℕ) (R : BitPeriods) (R_ns : Nanos) (W : BitPeriods) (W_ns : Nanos) (m : ℕ) → Plain (line_of k R R_ns W W_ns m)
+plain_line k R R_ns W W_ns m =
     plain_both (plain_name k)
     (plain_both (plain_if (word " bound ") refl)
     (plain_both (plain_decimal R.0)
     (plain_both (plain_if (word " bp ") refl)
-    (plain_both (plain_decimal R-ns.0)
+    (plain_both (plain_decimal R_ns.0)
     (plain_both (plain_if (word " ns refined ") refl)
     (plain_both (plain_decimal W.0)
     (plain_both (plain_if (word " bp ") refl)
-    (plain_both (plain_decimal W-ns.0) (plain_both (plain_if (word " ns ") refl) (plain_both (plain_decimal m) (plain_if (word " rounds") refl)))))))))))
+    (plain_both (plain_decimal W_ns.0) (plain_both (plain_if (word " ns ") refl) (plain_both (plain_decimal m) (plain_if (word " rounds") refl)))))))))))
 
 -- a name has two digits of its number
 one_name : (k j : ℕ) (x y : List ℕ) → k < 100 → j < 100 → name_of k · x ≡ name_of j · y → k ≡ j
@@ -158,8 +158,8 @@ module _ (s : List ℕ) (H : Sheet) (accepts : planned s 32 32 32 ≡ Read H) wh
   unfolding report_of segment_report
   report_is =
       let bus = ((accepted_exactly s 32 32 32 H).0 accepts).on_bus in
-      let is-pnet : first_bus s ≡ 1 = own_bus s H bus.reads ∙ bus.pnet in
-      rw (is-pnet, accepts)
+      let is_pnet : first_bus s ≡ 1 = own_bus s H bus.reads ∙ bus.pnet in
+      rw (is_pnet, accepts)
 
   -- master k of 1..N has streams: 'Masters without streams have no line.'
   pub what_the_report_shows_is_kept : (k : ℕ) → 1 ≤ k → k ≤ masters_of H → 1 ≤ count (segment_of H) k
@@ -168,10 +168,10 @@ module _ (s : List ℕ) (H : Sheet) (accepts : planned s 32 32 32 ≡ Read H) wh
   what_the_report_shows_is_kept k from to some =
       let S = segment_of H in
       let passed = (accepted_exactly s 32 32 32 H).0 accepts in
-      let as-demanded : Accepted S = accepted_on_bus s H passed.on_bus passed.passes in
+      let as_demanded : Accepted S = accepted_on_bus s H passed.on_bus passed.passes in
       record {
         line = rw report_is (stands S k from to some);
         only = λ rest plain there. one_line S k (masters_few s H accepts) to rest plain (rw report_is at there);
-        bound_kept = λ run spaced. both (each_request_is_answered_within_the_bound H as-demanded k run spaced);
-        refined_kept = λ run spaced. both (each_request_is_answered_within_the_refined_figure H as-demanded k run spaced);
+        bound_kept = λ run spaced. both (each_request_is_answered_within_the_bound H as_demanded k run spaced);
+        refined_kept = λ run spaced. both (each_request_is_answered_within_the_refined_figure H as_demanded k run spaced);
       }

@@ -15,8 +15,8 @@ use Rattle.report_phrases.specs.Phrases.{name_of}
 
 -- 'M01 bound 1000 bp 13020834 ns refined 760 bp 9895834 ns 1 rounds'
 abbrev pub line_of : ℕ → BitPeriods → Nanos → BitPeriods → Nanos → ℕ → List ℕ
-line_of k R R-ns W W-ns rounds =
-    name_of k · word " bound " · decimal R.0 · word " bp " · decimal R-ns.0 · word " ns refined " · decimal W.0 · word " bp " · decimal W-ns.0
+line_of k R R_ns W W_ns rounds =
+    name_of k · word " bound " · decimal R.0 · word " bp " · decimal R_ns.0 · word " ns refined " · decimal W.0 · word " bp " · decimal W_ns.0
     · word " ns " · decimal rounds · word " rounds"
 
 -- the line stands in the text, behind another line: 'each line ended by one newline'

@@ -46,9 +46,9 @@ declared edition = declared_if_few (under edition) (omega arith) (omega arith) (
 
 -- ---- Edition 1: some run takes exactly R
 
-R-under-1 : bound (under 1) 1 ≡ 260
+r_under_1 : bound (under 1) 1 ≡ 260
 unfolding segment_of bound
-R-under-1 = refl
+r_under_1 = refl
 
 even : Even (under 1) 1
 unfolding segment_of count
@@ -63,13 +63,13 @@ even = record {
 
 pub some_run_takes_260_under_1 : Reached (bp 260) (under 1) 1
 unfolding count segment_of
-some_run_takes_260_under_1 = rw R-under-1 at (some_run_takes_exactly_the_bound (sheet 1) (declared 1) 1 (omega arith) even)
+some_run_takes_260_under_1 = rw r_under_1 at (some_run_takes_exactly_the_bound (sheet 1) (declared 1) 1 (omega arith) even)
 
 -- ---- Edition 2: none does
 
-pub R-under-2 : bound (under 2) 1 ≡ 500
+pub r_under_2 : bound (under 2) 1 ≡ 500
 unfolding segment_of bound
-R-under-2 = refl
+r_under_2 = refl
 
 pub accepted_under_2 : Accepted (under 2)
 unfolding segment_of late
@@ -85,4 +85,4 @@ each_is_within_260_under_2 = record { ever = λ run spaced. rw sum_of_H at (each
 
 pub no_run_takes_R_under_2 : Reached (bp (bound (under 2) 1)) (under 2) 1 → ⊥
 no_run_takes_R_under_2 x =
-    omega (arith, R-under-2, (each_is_within_260_under_2.ever x.run (x.spaced 1)).in_time (answer x.slow _) x.exact x.own)
+    omega (arith, r_under_2, (each_is_within_260_under_2.ever x.run (x.spaced 1)).in_time (answer x.slow _) x.exact x.own)

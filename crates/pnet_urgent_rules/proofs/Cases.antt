@@ -108,12 +108,12 @@ module _ {s : List ℕ} {head : Record} {n first : ℕ} (took : Taken s head n f
 
 -- ---- A sheet with room for its streams, whose first stream that is not accepted is found
 
-module _ {s : List ℕ} {first n : ℕ} (ready : Ready s pnet first n) (room : ℕ) (fits : n ≤ room) (place : ℕ) (is-first : place ≡ first_unmet (segment_of (sheet_in s))) where
+module _ {s : List ℕ} {first n : ℕ} (ready : Ready s pnet first n) (room : ℕ) (fits : n ≤ room) (place : ℕ) (is_first : place ≡ first_unmet (segment_of (sheet_in s))) where
   few : length (sheet_in s).streams ≤ room
   few = omega (arith, ready.number)
 
   pub ready_unmet : place ≤ n → urgently s room ≡ Not 21 place
-  ready_unmet l = urgently_unmet s room (sheet_in s) ready.reads ready.on_bus few place is-first (omega (arith, ready.number))
+  ready_unmet l = urgently_unmet s room (sheet_in s) ready.reads ready.on_bus few place is_first (omega (arith, ready.number))
 
   pub ready_read : n < place → urgently s room ≡ Read (sheet_in s)
-  ready_read l = urgently_read s room (sheet_in s) ready.reads ready.on_bus few (omega (arith, ready.number, is-first))
+  ready_read l = urgently_read s room (sheet_in s) ready.reads ready.on_bus few (omega (arith, ready.number, is_first))

@@ -18,11 +18,11 @@ factor_same : (t a b : ℕ) → 1 ≤ t → t * a ≡ t * b → a ≡ b
 factor_same t a b some e = sym (mul-div_cancel_left a some) ∙ (ap (λ (x : ℕ). x / t) e ∙ mul-div_cancel_left b some)
 
 -- f is the right side in slots
-module _ (S : Segment) (i : ℕ) (some : 1 ≤ turn S) (f : ℕ → ℕ) (in-slots : (n : ℕ) → right S i (turn S * n) ≡ turn S * f n) where
+module _ (S : Segment) (i : ℕ) (some : 1 ≤ turn S) (f : ℕ → ℕ) (in_slots : (n : ℕ) → right S i (turn S * n) ≡ turn S * f n) where
   pub slot_values : (m : ℕ) → value_from (turn S) (right S i) m ≡ turn S * value_from 1 f m
   unfolding value_from
   slot_values zero = sym (mul-one (turn S))
-  slot_values (suc m) = ap (right S i) (slot_values m) ∙ in-slots (value_from 1 f m)
+  slot_values (suc m) = ap (right S i) (slot_values m) ∙ in_slots (value_from 1 f m)
 
   -- the two searches stand still together
   still_in_slots : (m : ℕ) → value_from (turn S) (right S i) m ≡ value_from (turn S) (right S i) (suc m) → value_from 1 f m ≡ value_from 1 f (suc m)
@@ -43,7 +43,7 @@ module _ (S : Segment) (i : ℕ) (some : 1 ≤ turn S) (f : ℕ → ℕ) (in-slo
       }
 
   -- where the search in slots settles in time
-  module _ (m n : ℕ) (s : Settles 1 f m) (is : n ≡ value_from 1 f m) (in-time : turn S * n ≤ (S.stream i).deadline) where
+  module _ (m n : ℕ) (s : Settles 1 f m) (is : n ≡ value_from 1 f m) (in_time : turn S * n ≤ (S.stream i).deadline) where
     value_is : value_from (turn S) (right S i) m ≡ turn S * n
     value_is = slot_values m ∙ ap (λ (x : ℕ). turn S * x) (sym is)
 

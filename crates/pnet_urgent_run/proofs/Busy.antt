@@ -78,7 +78,7 @@ pub spaced_before : (S : Segment) (i : ℕ) {r : Request} {came : List Request} 
 spaced_before S i spaced j u a b = kept_before (spaced j u a b).1
 
 module _ (S : Segment) (declared : Declared S) (h : ℕ → ℕ) (cover : Covers h free S) (U : ℕ → Type 0) (k i x : ℕ) (urgent : U k) (mine : Belongs S k i)
-    (enough : turn_by h S * (1 + blocked S i + ahead_in S i x) ≤ x) (in-time : x ≤ (S.stream i).deadline) where
+    (enough : turn_by h S * (1 + blocked S i + ahead_in S i x) ≤ x) (in_time : x ≤ (S.stream i).deadline) where
   1≤k : 1 ≤ k
   1≤k = (in_ring declared mine).0
 
@@ -198,7 +198,7 @@ module _ (S : Segment) (declared : Declared S) (h : ℕ → ℕ) (cover : Covers
 
   -- ---- A request is handed down
 
-  module _ {t : ℕ} {y : Token} {now after : Held} {came : List Request} (I : Inv t y now came) (free-stack : length now.stack < 1) (down : HandsDown S (U k) now after)
+  module _ {t : ℕ} {y : Token} {now after : Held} {came : List Request} (I : Inv t y now came) (free_stack : length now.stack < 1) (down : HandsDown S (U k) now after)
       (own : (p : Request) → InHeld now p → Belongs S k p.of) where
     -- where something urgent waits, it is urgent
     handed_urgent : 1 ≤ urgent_in now → counts down.handed.of ≡ true
@@ -261,7 +261,7 @@ module _ (S : Segment) (declared : Declared S) (h : ℕ → ℕ) (cover : Covers
 
     counted_on : (s : ℕ) → t < s + x → came_in s (new ∷ came) ≤ 1 + ahead_in S i x
     counted_on s l =
-        arrived_most S declared i x mine.from_one mine.to_last in-time s (new ∷ came) spaced (came_in_order (arrive z settled own))
+        arrived_most S declared i x mine.from_one mine.to_last in_time s (new ∷ came) spaced (came_in_order (arrive z settled own))
         (λ p c. omega (arith, came_past (arrive z settled own) p c))
 
     more : (s : ℕ) → came_in s (new ∷ came) ≡ when (counts j && leb s t) 1 + came_in s came
@@ -270,7 +270,7 @@ module _ (S : Segment) (declared : Declared S) (h : ℕ → ℕ) (cover : Covers
     -- of a stream that does not count, wherever it goes
     arrive_other : counts j ≡ false → (after : Held) → urgent_in after ≡ urgent_in (q k) → to_serve after ≡ to_serve (q k)
         → ((p : Request) → InHeld after p → counts p.of ≡ true → InHeld (q k) p) → Inv t y after (new ∷ came)
-    arrive_other e after same-urgent same_many was = record {
+    arrive_other e after same_urgent same_many was = record {
       token = I.token;
       busy = λ some.
           let b = I.busy (omega arith) in

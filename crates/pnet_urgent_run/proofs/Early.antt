@@ -64,9 +64,9 @@ early_run =
     let at_1 : By besides 500 0 1 (serving 1 209) kept_at_1 _ [] = under_way besides (omega arith) in
     let third : By besides 500 0 1 (serving 1 209) _ _ [] =
     down besides 500 0 (request 2 0 ∷ []) (request 3 0) [] at_1 at_work (omega arith) refl here (alone three (request 3 0)) in
-    let too-late : By besides 500 0 1 (serving 1 209) _ came [] = arrive third at_work (stream_1 500 0) in
+    let too_late : By besides 500 0 1 (serving 1 209) _ came [] = arrive third at_work (stream_1 500 0) in
     let sent : Sends (held (request 2 0 ∷ request 3 0 ∷ []) (request 1 1 ∷ [])) (request 2 0) (held (request 3 0 ∷ []) (request 1 1 ∷ [])) = record { sent = refl; others = refl } in
-    let at-210 : By besides 500 0 210 (toward 1 40) _ came _ = complete (work {c = 0} 209 too-late) sent in
+    let at-210 : By besides 500 0 210 (toward 1 40) _ came _ = complete (work {c = 0} 209 too_late) sent in
     let at-460 : By besides 500 0 460 (toward 1 40) _ came _ = lap besides 500 0 (request 3 0) [] (request 1 1 ∷ []) at-210 refl refl in
     (_, served besides 500 0 (request 1 1) [] at-460 (omega arith) refl here (alone three (request 1 1)) refl)
 

@@ -36,7 +36,7 @@ use Rattle.pnet_urgent_run.proofs.Busy.{spaced_before, waits_in_time}
 -- V by any charge that covers the longest visit to each master. Only stream i's own D is used, and of the streams behind i nothing is
 
 module _ (S : Segment) (declared : Declared S) (h : ℕ → ℕ) (cover : Covers h free S) (i x : ℕ) (from : 1 ≤ i) (to : i ≤ S.number)
-    (enough : turn_by h S * (1 + blocked S i + ahead_in S i x) ≤ x) (in-time : x ≤ (S.stream i).deadline) where
+    (enough : turn_by h S * (1 + blocked S i + ahead_in S i x) ≤ x) (met_in_time : x ≤ (S.stream i).deadline) where
   abbrev own_master : ℕ
   own_master = (S.stream i).master
 
@@ -49,7 +49,7 @@ module _ (S : Segment) (declared : Declared S) (h : ℕ → ℕ) (cover : Covers
   waits : (U : ℕ → Type 0) → U own_master → (t : ℕ) (y : Token) (q : ℕ → Held) (came : List Request) (went : List Answer) → RunBy (stacked S U) S t y q came went
       → SpacedUpTo S i came → (r : Request) → InHeld (q own_master) r → r.of ≡ i → NotLate x r.since t y
   waits U urgent t y q came went z s r j e =
-      waits_in_time S declared h cover U own_master i x urgent mine enough in-time z s r j (rw e (heeded_itself S i))
+      waits_in_time S declared h cover U own_master i x urgent mine enough met_in_time z s r j (rw e (heeded_itself S i))
 
   earlier : (r : Request) (came : List Request) → SpacedUpTo S i (r ∷ came) → SpacedUpTo S i came
   earlier r came s = spaced_before S i s

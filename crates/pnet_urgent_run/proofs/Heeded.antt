@@ -146,7 +146,7 @@ arrived_more f n lo r came a b = omega (arith, upto_but_one before after n r.of 
     own false y c = refl
 
 -- where those streams keep their spacing, at most 1 of i itself and x/T of each ahead come within x
-module _ (S : Segment) (declared : Declared S) (i x : ℕ) (from : 1 ≤ i) (to : i ≤ S.number) (in-time : x ≤ (S.stream i).deadline) where
+module _ (S : Segment) (declared : Declared S) (i x : ℕ) (from : 1 ≤ i) (to : i ≤ S.number) (in_time : x ≤ (S.stream i).deadline) where
   pub arrived_most : (lo : ℕ) (came : List Request) → SpacedUpTo S i came → InOrder came → ((r : Request) → Memᴰ r came → r.since < lo + x)
       → arrived (heeded S i) S.number lo came ≤ 1 + ahead_in S i x
   unfolding arrived heeded ahead_in

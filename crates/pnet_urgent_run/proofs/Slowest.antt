@@ -51,7 +51,7 @@ some_of f (suc n) e = go (some_of f n) (f (suc n)) refl e
     go before true h z = (suc n, omega arith, omega arith, h)
     go before false h z = let x = before (λ q. z (omega arith)) in (x.0, x.1, omega (arith, x.2), x.3)
 
-module _ (S : Segment) (declared : Declared S) (first-edition : S.edition ≡ 1)
+module _ (S : Segment) (declared : Declared S) (first_edition : S.edition ≡ 1)
     (alike : (m a b : ℕ) → Belongs S m a → Belongs S m b → (S.stream a).cycle ≡ (S.stream b).cycle) (i : ℕ) (from : 1 ≤ i) (to : i ≤ S.number) where
   abbrev k : ℕ
   k = (S.stream i).master
@@ -60,7 +60,7 @@ module _ (S : Segment) (declared : Declared S) (first-edition : S.edition ≡ 1)
   after_k = next S.masters k
 
   abbrev At : ℕ → Held → List Answer → Type 0
-  At t now went = Stage S declared first-edition alike i from to t (toward after_k 40) now went
+  At t now went = Stage S declared first_edition alike i from to t (toward after_k 40) now went
 
   abbrev itself : ℕ → Bool
   itself j = eqb j i
@@ -85,7 +85,7 @@ module _ (S : Segment) (declared : Declared S) (first-edition : S.edition ≡ 1)
 
   one_turn : {t : ℕ} {w : List Request} {went : List Answer} (x : Picked S w) → At t (held [] w) went
       → (before : List Answer) × At (t + turn S) (held [] x.rest) (answer x.picked (t + turn S) ∷ before)
-  one_turn x g = turned S declared first-edition alike i from to (handed_down S declared first-edition alike i from to g x.out x.most)
+  one_turn x g = turned S declared first_edition alike i from to (handed_down S declared first_edition alike i from to g x.out x.most)
 
   -- where none ahead waits, it is i's
   last_one : {t : ℕ} {w : List Request} {went : List Answer} (x : Picked S w) → tally (ahead S i) w ≡ 0 → Each w → At t (held [] w) went → Done (t + 1 * turn S)
@@ -245,18 +245,18 @@ module _ (S : Segment) (declared : Declared S) (first-edition : S.edition ≡ 1)
     there = λ l. absurd (omega (arith, from, l));
   }
 
-  module _ (j : ℕ) (1≤j : 1 ≤ j) (j≤n : j ≤ S.number) (less-urgent : ahead S j i ≡ true) where
+  module _ (j : ℕ) (1≤j : 1 ≤ j) (j≤n : j ≤ S.number) (less_urgent : ahead S j i ≡ true) where
     abbrev blocker : Request
     blocker = request j 0
 
     its_master : Belongs S k j
-    its_master = record { from_one = 1≤j; to_last = j≤n; own = sym (ahead_then S j i less-urgent).one_master }
+    its_master = record { from_one = 1≤j; to_last = j≤n; own = sym (ahead_then S j i less_urgent).one_master }
 
     -- it is not one of those up to i
     not_up : UpTo S i j → ⊥
     not_up =
-        ⊎_elim (λ (e : j ≡ i). true≢false (sym (rw e at less-urgent) ∙ ahead_itself S i))
-        (λ (e : ahead S i j ≡ true). true≢false (sym e ∙ ahead_one_way S j i less-urgent))
+        ⊎_elim (λ (e : j ≡ i). true≢false (sym (rw e at less_urgent) ∙ ahead_itself S i))
+        (λ (e : ahead S i j ≡ true). true≢false (sym e ∙ ahead_one_way S j i less_urgent))
 
     abbrev come : ℕ → Held
     come = put (λ y. held [] []) k (held [] (blocker ∷ []))
@@ -305,7 +305,7 @@ module _ (S : Segment) (declared : Declared S) (first-edition : S.edition ≡ 1)
           let p = some_of (λ j. ahead S j i) S.number (eqb-false (behind S i) 0 e) in
           let g = all_asked S.number (omega arith) (one_asked p.0 p.1 p.2 p.3) in
           let time : 0 + turn S + suc (rank S i) * turn S ≡ turn S * (1 + 1 + rank S i) = omega arith in
-          rw time at (drained g (turned S declared first-edition alike i from to (stage_of g)).1)
+          rw time at (drained g (turned S declared first_edition alike i from to (stage_of g)).1)
 
   pub some_run_takes : ReachedFor (bp (turn S * (1 + blocked S i + rank S i))) S i
   some_run_takes = record {
@@ -354,7 +354,7 @@ pub no_lower_figure_would_be_true : (S : Segment) → Declared S → S.edition �
     → ((m a b : ℕ) → Belongs S m a → Belongs S m b → (S.stream a).cycle ≡ (S.stream b).cycle)
     → (i : ℕ) → 1 ≤ i → i ≤ S.number → unmet S i ≡ false → OnceEach S i (figure S i)
     → ReachedFor (bp (figure S i)) S i × ((Q : BitPeriods) → SafeFor Q S i → figure S i ≤ Q.0)
-no_lower_figure_would_be_true S declared first-edition alike i from to accepted once =
+no_lower_figure_would_be_true S declared first_edition alike i from to accepted once =
     let some = turn_some S declared in
     let met = (declared_met S declared i).0 accepted in
     let is = met_is_figure S i some met in
@@ -362,5 +362,5 @@ no_lower_figure_would_be_true S declared first-edition alike i from to accepted 
     let positive : 1 ≤ figure S i = omega (arith, solves, some) in
     let reached : ReachedFor (bp (figure S i)) S i =
     rw (solves ∙ ap (λ (n : ℕ). turn S * (1 + blocked S i + n)) (once_is_rank S declared i (figure S i) positive once))
-    (some_run_takes S declared first-edition alike i from to) in
+    (some_run_takes S declared first_edition alike i from to) in
     (reached, λ Q safe. reached_is_least (bp (figure S i)) Q reached safe)

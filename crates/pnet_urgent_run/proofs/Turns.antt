@@ -28,7 +28,7 @@ use Rattle.pnet_urgent_run.proofs.Progress.{alone}
 pub up_to_master : (S : Segment) (i j : ℕ) → UpTo S i j → (S.stream j).master ≡ (S.stream i).master
 up_to_master S i j = ⊎_elim (λ (e : j ≡ i). ap (λ (n : ℕ). (S.stream n).master) e) (λ (e : ahead S i j ≡ true). (ahead_then S i j e).one_master)
 
-module _ (S : Segment) (declared : Declared S) (first-edition : S.edition ≡ 1)
+module _ (S : Segment) (declared : Declared S) (first_edition : S.edition ≡ 1)
     (alike : (m a b : ℕ) → Belongs S m a → Belongs S m b → (S.stream a).cycle ≡ (S.stream b).cycle) (i : ℕ) (from : 1 ≤ i) (to : i ≤ S.number) where
   abbrev k : ℕ
   k = (S.stream i).master
@@ -180,7 +180,7 @@ module _ (S : Segment) (declared : Declared S) (first-edition : S.edition ≡ 1)
 
   turn_first : turn S ≡ upto (hold S) N
   unfolding turn turn_by
-  turn_first = ap (λ (h : ℕ → ℕ). upto h N) (charged_first S (λ e. omega (arith, first-edition)))
+  turn_first = ap (λ (h : ℕ → ℕ). upto h N) (charged_first S (λ e. omega (arith, first_edition)))
 
   -- k's request is answered V after the token left k
   pub turned : {t : ℕ} {r : Request} {w : List Request} {went : List Answer} → Stage t (toward (next N k) 40) (held (r ∷ []) w) went
