@@ -6,7 +6,7 @@ use Rattle.common.proofs.Firsts.{found_first, found_none}
 use Rattle.pnet_simulate.specs.Simulated.{waits, oldest_of}
 use Rattle.pnet_simulate.proofs.Waits.{waits_at, waits_elsewhere, waits_no_more}
 use Rattle.pnet_simulate.proofs.oldest.Goals as goal
-use Rattle.pnet_simulate.proofs.oldest.Goals.{else-owner-p, then-owner-p}
+use Rattle.pnet_simulate.proofs.oldest.Goals.{else-owner-p, then-owner-p+else-answered-p-eq0}
 
 pub loop-p-init : goal.loop-p-init
 loop-p-init c = (omega arith, λ j l. absurd (omega arith))
@@ -25,7 +25,7 @@ loop-p-preserved c =
     let l = c.loop-p in (
       omega arith,
       below_more _ _ l.invariant.1 (elim c.if-owner-p.branch [
-          then-owner-p w ↦ waits_no_more a.owner.now a.answered.now a.m l.p w.if-owner-p.true w.if-answered-p-eq0.false
+          then-owner-p+else-answered-p-eq0 w ↦ waits_no_more a.owner.now a.answered.now a.m l.p w.if-owner-p.true w.if-answered-p-eq0.false
         | else-owner-p w ↦ waits_elsewhere a.owner.now a.answered.now a.m l.p w.if-owner-p.false
       ]),
     )

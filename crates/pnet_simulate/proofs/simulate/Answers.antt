@@ -4,7 +4,6 @@ use mathlib.Core.Path.{◌≡◌, sym, ap, ◌∙◌, subst}
 use mathlib.Core.Bool.{true, false}
 use native.Mathlib.Omega.{arith}
 use lib.ListN.{length}
-use borrow.Author.Tests.{not-true, not-false}
 use Rattle.pnet_simulate.specs.Simulated.{Bus, bus_of, visited_times, sound}
 use Rattle.pnet_simulate.specs.Told.{segment_by, Told}
 use Rattle.pnet_simulate.proofs.Sound.{sound_then}
@@ -16,7 +15,7 @@ use Rattle.pnet_simulate.proofs.simulate.Goals.{Else-not-is_sound}
 pub returns-then-not-is_sound : goal.returns-then-not-is_sound
 returns-then-not-is_sound c =
     let s = c.is_sound in
-    let no = sym s.ensures ∙ not-true s.result c.if-not-is_sound.true-raw in
+    let no = sym s.ensures ∙ c.if-not-is_sound.true in
     record { answered_after = simulated_none _ _ _ _ _ _ no; runs = λ e. absurd (never (sym no ∙ e)) }
   where
     never : false ≡ true → ⊥
@@ -24,7 +23,7 @@ returns-then-not-is_sound c =
 
 -- past the test
 passed : (c : Else-not-is_sound) → sound c.args.n c.args.owner.now c.args.cycle.now c.args.k (length c.args.answered.now) ≡ true
-passed c = let s = c.is_sound in sym s.ensures ∙ not-false s.result c.if-not-is_sound.false-raw
+passed c = let s = c.is_sound in sym s.ensures ∙ c.if-not-is_sound.false
 
 pub clear-requires : goal.clear-requires
 clear-requires c = (sound_then _ _ _ _ _ (passed (goal.at.clear-requires c).Else-not-is_sound)).places
