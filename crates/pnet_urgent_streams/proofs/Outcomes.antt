@@ -89,10 +89,6 @@ planned_refused s room told e = refused_not (urgently s room) (sym told ∙ e)
 pub figured_alike : (o k : Outcome) → o ≡ k → (x y z u : List ℕ) {r : Plan} {a b c d : List ℕ} → Figured o x y z u r a b c d → Figured k x y z u r a b c d
 figured_alike o k e x y z u {r} {a} {b} {c} {d} h = subst (λ (q : Outcome). Figured q x y z u r a b c d) e h
 
--- the same facts, one clause for each
-pub nested : {A B C D E : Type 0} → A × B × C × D × E → A × (B × (C × (D × E)))
-nested h = (h.0, (h.1, (h.2, (h.3, h.4))))
-
 -- the planner has answered, its shortest run as long as the largest sheet
 module _ (s : List ℕ) (room : ℕ) (most : room ≡ 800) {r : Plan} (told : r ≡ plan_of (urgently s room)) (x y z u : List ℕ) {b : List ℕ} (eb : b ≡ stream_run (urgently s room) figure y) where
   pub figured_told : {n p : ℕ} → r ≡ plan.Refused n p → Figured (urgently s 800) x y z u (plan.Refused n p) x b z u

@@ -4,20 +4,22 @@ use Rattle.sheet_read.proofs.Taken.{taken_ready}
 use Rattle.pnet_plan.proofs.Bytes.{streams_few}
 use Rattle.pnet_urgent_rules.specs.Planned.{urgently}
 use Rattle.pnet_urgent_rules.proofs.Cases.{answer_taken, answer_refused, taken_other, taken_short}
-use Rattle.pnet_urgent_streams.proofs.Outcomes.{nested, figured_refused, figured_alike, rooms_alike}
+use Rattle.pnet_urgent_streams.proofs.Outcomes.{figured_refused, figured_alike, rooms_alike}
 use Rattle.pnet_urgent_streams.proofs.figures.Goals as goal
 
 pub returns-then-bus_of-ne1 : goal.returns-then-bus_of-ne1
 returns-then-bus_of-ne1 c =
     let a = c.args in
     let x = c.in-Accepted in
-    nested (figured_refused (urgently a.s.now a.room) 3 0 (taken_other (answer_taken a.s.now c.read-read.ensures x.is) a.room (λ k. c.if-bus_of-ne1.true (c.bus_of.ensures ∙ k))) a.masters.now a.figure.now a.spacing.now a.jitter.now)
+    let f = figured_refused (urgently a.s.now a.room) 3 0 (taken_other (answer_taken a.s.now c.read-read.ensures x.is) a.room (λ k. c.if-bus_of-ne1.true (c.bus_of.ensures ∙ k))) a.masters.now a.figure.now a.spacing.now a.jitter.now in
+    record { value = f.0; masters_after = f.1; figure_after = f.2; spacing_after = f.3; jitter_after = f.4 }
 
 pub returns-then-room-streams : goal.returns-then-room-streams
 returns-then-room-streams c =
     let a = c.args in
     let x = c.in-Accepted in
-    nested (figured_refused (urgently a.s.now a.room) 13 x.streams (taken_short (answer_taken a.s.now c.read-read.ensures x.is) a.room (sym c.bus_of.ensures ∙ c.if-bus_of-ne1.false) c.if-room-streams.true) a.masters.now a.figure.now a.spacing.now a.jitter.now)
+    let f = figured_refused (urgently a.s.now a.room) 13 x.streams (taken_short (answer_taken a.s.now c.read-read.ensures x.is) a.room (sym c.bus_of.ensures ∙ c.if-bus_of-ne1.false) c.if-room-streams.true) a.masters.now a.figure.now a.spacing.now a.jitter.now in
+    record { value = f.0; masters_after = f.1; figure_after = f.2; spacing_after = f.3; jitter_after = f.4 }
 
 pub figures_of-requires : goal.figures_of-requires
 figures_of-requires c =
@@ -29,13 +31,15 @@ pub returns-in-Refused : goal.returns-in-Refused
 returns-in-Refused c =
     let a = c.args in
     let x = c.in-Refused in
-    nested (figured_refused (urgently a.s.now a.room) x.no x.place (answer_refused a.s.now c.read-read.ensures x.is a.room) a.masters.now a.figure.now a.spacing.now a.jitter.now)
+    let f = figured_refused (urgently a.s.now a.room) x.no x.place (answer_refused a.s.now c.read-read.ensures x.is a.room) a.masters.now a.figure.now a.spacing.now a.jitter.now in
+    record { value = f.0; masters_after = f.1; figure_after = f.2; spacing_after = f.3; jitter_after = f.4 }
 
 pub returns-else-room-streams : goal.returns-else-room-streams
 returns-else-room-streams c =
     let a = c.args in
     let x = c.in-Accepted in
     let ready = taken_ready (answer_taken a.s.now c.read-read.ensures x.is) (sym c.bus_of.ensures ∙ c.if-bus_of-ne1.false) in
-    nested
-    (figured_alike (urgently a.s.now 800) (urgently a.s.now a.room) (rooms_alike ready 800 a.room (streams_few ready) c.if-room-streams.false) a.masters.now a.figure.now a.spacing.now a.jitter.now
-    c.figures_of.ensures)
+    let f =
+    figured_alike (urgently a.s.now 800) (urgently a.s.now a.room) (rooms_alike ready 800 a.room (streams_few ready) c.if-room-streams.false) a.masters.now a.figure.now a.spacing.now a.jitter.now
+    c.figures_of.ensures in
+    record { value = f.0; masters_after = f.1; figure_after = f.2; spacing_after = f.3; jitter_after = f.4 }
