@@ -17,8 +17,8 @@ asked c = given c.args.q.now c.args.n c.args.s c.args.rows
 best : (c : After-first_of-r) → c.first_of-r.result < c.args.n
 unfolding given
 best c =
-    let s = c in
-    best_within (asked s) c.build-late.ensures.0 s.requires.usable.0.few c.if-late-ne0.true c.first_of-r.result c.first_of-r.ensures.0
+    let s = c.args in
+    best_within (given s.q.now s.n s.s s.rows) c.build-late.ensures.value c.requires.usable.0.few c.if-late-ne0.true c.first_of-r.result c.first_of-r.ensures.0
 
 pub bounds-v-r : goal.bounds-v-r
 bounds-v-r c =
@@ -32,16 +32,14 @@ overflow_add-result c =
 
 pub returns-then-late-ne0 : goal.returns-then-late-ne0
 returns-then-late-ne0 c =
-    let s = c in
-    missed_one (asked (goal.at.returns-then-late-ne0 s).Start) c.build-late.ensures.0 s.args.v.now s.args.out.now c.first_of-r.result c.if-late-ne0.true c.first_of-r.ensures.0
+    let m = missed_one (asked (goal.at.returns-then-late-ne0 c).Start) c.build-late.ensures.value c.args.v.now c.args.out.now c.first_of-r.result c.if-late-ne0.true c.first_of-r.ensures.0 in
+    record { value = m.0; out_after = m.1 }
 
--- TODO: `c.before.before.before.before.before.before.before.before.before.before.before.before.before.before` goes further back than the code does
--- TODO: no step `build` is known on the way there
--- TODO: no step `if1` is known on the way there
 pub returns : goal.returns
 unfolding given
 returns c =
-    let s = c.before.before.before.before.before.before.before.before.before.before.before.before.before.before in
-    let b = c.build.ensures in
-    let none = c.if1.false in
-    missed_none (asked (goal.at.returns s).Start) b.0 s.args.v.now s.args.out.now _ none (c.copy.ensures ∙ filled_same _ (row (asked (goal.at.returns s).Start) by_rank) _ s.args.out.now (b.1 none))
+    let A = asked (goal.at.returns c).Start in
+    let b = c.build-late.ensures in
+    let none = c.if-late-ne0.false in
+    let m = missed_none A b.value c.args.v.now c.args.out.now _ none (c.copy.ensures ∙ filled_same _ (row A by_rank) _ c.args.out.now (b.m_after none)) in
+    record { value = m.0; out_after = m.1 }

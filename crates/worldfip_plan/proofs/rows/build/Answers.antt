@@ -23,10 +23,10 @@ pub offset_bounds-t-m : goal.offset_bounds-t-m
 offset_bounds-t-m c = omega (arith, c.requires.cleared)
 
 pub bounds-t-m : goal.bounds-t-m
-bounds-t-m c = omega (arith, c.requires.cleared, c.mark_all.auto.1.1.1.0)
+bounds-t-m c = omega (arith, c.requires.cleared, c.mark_all.auto.t)
 
 pub shape_of-t-then-late-ne0 : goal.shape_of-t-then-late-ne0
-shape_of-t-then-late-ne0 c = c.loop-m.invariant.1 ∙ c.mark_all.auto.1.1.1.0
+shape_of-t-then-late-ne0 c = c.loop-m.invariant.1 ∙ c.mark_all.auto.t
 
 pub returns-then-late-ne0 : goal.returns-then-late-ne0
 unfolding given
@@ -34,16 +34,17 @@ returns-then-late-ne0 c =
     let s = c in
     let l = c.loop-m in
     let a = given s.args.q.now s.args.n s.args.s s.args.rows in
-    let e = (l.invariant.5 l.m (omega arith) (omega arith) ∙ requests_new s.args.q.now s.args.n s.args.s s.args.rows l.m) in (
-      missing_here a l.m l.invariant.3 (omega arith) (miss_yes a s.requires.usable.few l.m l.pending _ l.invariant.2 e c.if-late-ne0.true) _ (late_is a s.requires.usable.few l.m l.pending _ l.invariant.2 e),
-      λ z. absurd (c.if-late-ne0.true z),
-    )
+    let e = (l.invariant.5 l.m (omega arith) (omega arith) ∙ requests_new s.args.q.now s.args.n s.args.s s.args.rows l.m) in
+    record {
+      value = missing_here a l.m l.invariant.3 (omega arith) (miss_yes a s.requires.usable.few l.m l.pending _ l.invariant.2 e c.if-late-ne0.true) _ (late_is a s.requires.usable.few l.m l.pending _ l.invariant.2 e);
+      m_after = λ z. absurd (c.if-late-ne0.true z);
+    }
 
 pub offset_bounds-t-m-in-loop-m : goal.offset_bounds-t-m-in-loop-m
 offset_bounds-t-m-in-loop-m c = omega (arith, c.requires.cleared)
 
 pub bounds-t-m-in-loop-m : goal.bounds-t-m-in-loop-m
-bounds-t-m-in-loop-m c = omega (arith, c.requires.cleared, c.mark_all.auto.1.1.1.0)
+bounds-t-m-in-loop-m c = omega (arith, c.requires.cleared, c.mark_all.auto.t)
 
 pub overflow_add-m : goal.overflow_add-m
 overflow_add-m c = omega (arith, c.requires.cleared)
@@ -53,7 +54,7 @@ unfolding given
 loop-m-preserved c =
     let s = c in
     let l = c.loop-m in
-    let k = c.mark_all.auto.1.1.1.0 in
+    let k = c.mark_all.auto.t in
     let a = given s.args.q.now s.args.n s.args.s s.args.rows in
     let e = (l.invariant.5 l.m (omega arith) (omega arith) ∙ requests_new s.args.q.now s.args.n s.args.s s.args.rows l.m) in
     let y = c.row_of-served.result in
@@ -67,7 +68,7 @@ loop-m-preserved c =
     )
 
 pub shape_of-t : goal.shape_of-t
-shape_of-t c = c.loop-m.invariant.1 ∙ c.mark_all.auto.1.1.1.0
+shape_of-t c = c.loop-m.invariant.1 ∙ c.mark_all.auto.t
 
 pub returns : goal.returns
 unfolding given
@@ -75,4 +76,4 @@ returns c =
     let s = c in
     let l = c.loop-m in
     let a = given s.args.q.now s.args.n s.args.s s.args.rows in
-    (missing_nowhere a l.m l.invariant.3 (omega arith), λ z k h. l.invariant.4 k (omega arith))
+    record { value = missing_nowhere a l.m l.invariant.3 (omega arith); m_after = λ z k h. l.invariant.4 k (omega arith) }

@@ -14,7 +14,7 @@ unfolding requests set_of
 loop-r-init c =
     let p = c.requires in
     let a = c.args in
-    (search rules, refl, λ e. refl, λ m l. marked_none a.q.now m 0 (get_or a.t.now m 0) 0 refl ∙ p.1.none m)
+    (search rules, refl, λ e. refl, λ m l. marked_none a.q.now m 0 (get_or a.t.now m 0) 0 refl ∙ p.cleared.none m)
 
 pub offset_bounds-q-r : goal.offset_bounds-q-r
 offset_bounds-q-r c = omega (arith, c.requires.usable)
@@ -51,7 +51,7 @@ loop-r-preserved-then-q-r c =
     let y = c.single-group in
     let k = c.mark in (
       omega arith,
-      k.auto.1.1.1.0 ∙ l.invariant.1,
+      k.auto.t ∙ l.invariant.1,
       λ e. refl,
       λ m b. group_marked q m l.r (get_or l.t m 0) _ _ (k.ensures m b) (marked_more q m l.r (get_or l.t m 0) l.group y.result (y.ensures ∙ alone_is l.r (omega (arith, s.requires.usable))) (l.invariant.3 m b)),
     )
