@@ -12,7 +12,7 @@ use Rattle.units.specs.Units.{bp, capped}
 use Rattle.units.specs.declared.BitPeriods.{BitPeriods}
 use Rattle.pnet_rules.specs.Segment.{Segment, charge, count, longest, hold, largest, charged, turn_by, turn}
 use Rattle.pnet_rules.specs.Limits.{Declared}
-use Rattle.pnet_rules.proofs.Holds.{longest_at_most, turn_at_most}
+use Rattle.pnet_rules.proofs.Holds.{turn_at_most}
 use Rattle.pnet_turn.specs.Turn.{at, hold_in, largest_in, charged_in, turn_of, floor_of, charge_of}
 
 module _ (counts longests : List ℕ) (N edition : ℕ) where

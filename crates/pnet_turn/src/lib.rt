@@ -1,6 +1,7 @@
 // The turn of the token, page 01 'P-NET bounds': H and V, from what reading a sheet gathered of its masters; and what a master is charged under an
 // edition, page 02 'Ask 10'.
 #![tactic(auto)]
+
 ghost use Rattle.std.specs.Prelude.{◌≡◌, ◌≤◌, min, max, eqb};
 ghost use Rattle.common.specs.Sums.{when};
 ghost use Rattle.units.specs.Units.{capped};
