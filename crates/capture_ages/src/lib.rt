@@ -1,6 +1,7 @@
 // How long a request has been open, and how far ahead of the earliest instant at which it can be due it came, by a clock of 64 bits that goes on
 // where the tester's counter runs over: what one record does to it.
 #![tactic(auto)]
+
 ghost use Rattle.std.specs.Prelude.{◌≡◌, ◌+◌, ◌%◌, ◌^◌, not, ◌&&◌, if◌then◌else◌, ◌==◌, nat_eq, nat_lt};
 ghost use Rattle.common.specs.Sums.{when};
 ghost use Rattle.capture_ages.specs.Ages.{lead_behind, kept_lead};

@@ -1,6 +1,7 @@
 // A tester's capture beside the bounds of a P-NET sheet, page 02 'Ask 1', for one that stands in memory as a whole: the same as taking
 // it piece by piece.
 #![tactic(auto)]
+
 ghost use Rattle.std.specs.Prelude.{◌≡◌, ◌+◌, ◌≤◌, min, length, get_or};
 ghost use Rattle.common.specs.Runs.{filled};
 ghost use Rattle.pnet_plan.specs.Planned.{plan_of};

@@ -1,5 +1,6 @@
 // The records of a capture, page 02 'Ask 1'.
 #![tactic(auto)]
+
 ghost use Rattle.std.specs.Prelude.{◌≡◌, ◌+◌, ◌<◌, ◌≤◌, true, length};
 ghost use Rattle.units.specs.Units.{bp};
 ghost use Rattle.sheet_record.specs.Numbers.{be};

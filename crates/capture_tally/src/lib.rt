@@ -1,6 +1,7 @@
 // A tester's capture, page 02 'Ask 1', taken piece by piece: `take` goes over a piece once, and what it keeps is one place for each
 // stream of five runs.
 #![tactic(auto)]
+
 ghost use Rattle.std.specs.Prelude.{◌≡◌, ℕ, ◌<◌, ◌≤◌, min, max, length, nat_lt, slice_index};
 ghost use Rattle.common.specs.Checks.{verdict};
 ghost use Rattle.common.specs.Sums.{when};

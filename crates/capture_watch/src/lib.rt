@@ -2,6 +2,7 @@
 // A clock of 64 bits goes on where the tester's counter runs over; what is kept beside it is, for each stream, the clock at its last request and
 // that request's lead.
 #![tactic(auto)]
+
 ghost use Rattle.std.specs.Prelude.{◌≡◌, ◌/◌, length};
 ghost use Rattle.capture_log.specs.Records.{size};
 ghost use Rattle.capture_watch.specs.Follow;

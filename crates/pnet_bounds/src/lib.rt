@@ -1,5 +1,6 @@
 // The bounds of a P-NET sheet without a search, for a capture, page 02 'Ask 1': each stream's master, its master's R, its T and its J.
 #![tactic(auto)]
+
 ghost use Rattle.std.specs.Prelude.{◌≡◌, ℕ, ◌≤◌, length};
 ghost use Rattle.common.specs.Runs.{filled};
 ghost use Rattle.sheet_record.specs.Kinds.{pnet};

@@ -1,6 +1,7 @@
 // What a path over so many gateways answers, page 02 'Ask 4', by R of its segments, the forwarding times of its gateways and its deadline. Its
 // runs of bit periods go by value: a reference to an array of structs would be proved by hand.
 #![tactic(auto)]
+
 ghost use Rattle.std.specs.Prelude.{◌≡◌, ◌+◌, ◌*◌, ◌≤◌, ◌<◌};
 ghost use Rattle.common.specs.Sums.{first_of};
 ghost use Rattle.pnet_crossing.specs.Cost.{segment_step, gateway_step, is_too_long, crossing_by, kept, no_bound};

@@ -1,5 +1,6 @@
 // A P-NET sheet judged without a search: V under its edition, and the first stream that 8 is given for.
 #![tactic(auto)]
+
 ghost use Rattle.std.specs.Prelude.{◌≡◌, ℕ, ◌≤◌};
 ghost use Rattle.sheet_record.specs.Kinds.{pnet};
 ghost use Rattle.sheet_rules.specs.Ready.{Ready};

@@ -1,6 +1,7 @@
 // A path over several P-NET segments, page 02 'Ask 4'. It is handed over segment by segment, each with the gateway that leads to it, so
 // a list of forwarding times of another length cannot be said, and no run is lent. What is kept has a place for each of eleven segments.
 #![tactic(auto)]
+
 ghost use Rattle.std.specs.Prelude.{◌≡◌, ◌-◌};
 ghost use Rattle.pnet_path.specs.Ways;
 ghost use Rattle.pnet_path.specs.Ways.{started, one_more_of, over_to, answer_of};

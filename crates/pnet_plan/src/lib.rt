@@ -1,5 +1,6 @@
 // The P-NET planner, page 01 'P-NET bounds'.
 #![tactic(auto)]
+
 pub mod answer;
 
 ghost use Rattle.std.specs.Prelude.{◌≡◌, ℕ, ◌*◌, ◌≤◌, ◌<◌, length};

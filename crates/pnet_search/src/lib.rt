@@ -1,5 +1,6 @@
 // The refined search, page 01 'P-NET bounds': R, W and rounds of a segment's masters, from the arrays in which the planner sets the segment out.
 #![tactic(auto)]
+
 ghost use Rattle.std.specs.Prelude.{◌≡◌, ℕ, ◌+◌, ◌-◌, ◌*◌, ◌≤◌, ◌<◌, min, length};
 ghost use Rattle.common.specs.Runs.{filled};
 ghost use Rattle.pnet_turn.specs.Turn.{at};

@@ -1,5 +1,6 @@
 // What the sheet of one segment of a path says, page 02 'Ask 4': R of the master that sends there, without a search.
 #![tactic(auto)]
+
 ghost use Rattle.std.specs.Prelude.{◌≡◌, leb};
 ghost use Rattle.common.specs.Sums.{when};
 ghost use Rattle.pnet_turn.specs.Turn.{at};

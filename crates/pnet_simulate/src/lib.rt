@@ -1,6 +1,7 @@
 // The bus of page 01, 'How a P-NET run goes', at its slowest: every stream asks once, at 0, when the token has just left master k;
 // each reaction takes 7 bp and each message all of its C.
 #![tactic(auto)]
+
 ghost use Rattle.std.specs.Prelude.{◌≡◌, true, ◌+◌, ◌≤◌, ◌<◌, ◌^◌, max, length, eqb, get_or};
 ghost use Rattle.common.specs.Runs.{filled};
 ghost use Rattle.common.specs.Sums.{first_of};

@@ -1,6 +1,7 @@
 // The search for x of one master's streams, page 02 'Ask 11', in slots: x is V·n, n slots. The values of all the searches are read off one table, which is laid out a block of
 // slots at a time.
 #![tactic(auto)]
+
 ghost use Rattle.std.specs.Prelude.{◌≡◌, ℕ, ◌+◌, ◌/◌, ◌≤◌, ◌<◌, min, max, length};
 ghost use Rattle.pnet_turn.specs.Turn.{at};
 ghost use Rattle.pnet_urgent_search.specs.Walks.{blocked_at, slots_for, Urgency, Found};

@@ -1,5 +1,6 @@
 // Each stream of a P-NET sheet whose urgent requests go first, page 02 'Ask 11', for a report and for a capture.
 #![tactic(auto)]
+
 pub mod answer;
 
 ghost use Rattle.std.specs.Prelude.{◌≡◌, ℕ, ◌-◌, ◌*◌, ◌≤◌, length, leb};

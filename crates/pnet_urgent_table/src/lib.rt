@@ -1,6 +1,7 @@
 // How often the streams of one master ask, laid out on one block of slots after the other, page 02 'Ask 11'. One function of the slot serves the search of every stream of the
 // master; it is counted once, without a division for each slot.
 #![tactic(auto)]
+
 ghost use Rattle.std.specs.Prelude.{◌≡◌, ℕ, ◌+◌, ◌≤◌, ◌<◌, length};
 ghost use Rattle.common.specs.Sums.{sum};
 ghost use Rattle.pnet_turn.specs.Turn.{at};

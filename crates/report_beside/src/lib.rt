@@ -2,6 +2,7 @@
 // last ended by a record: `begin` with the sheet, `hear` each piece, `report` behind the last. What is kept between is one place for each
 // stream in eleven runs, which the caller lends to all three.
 #![tactic(auto)]
+
 ghost use Rattle.std.specs.Prelude.{◌≡◌, List, Bool, ℕ, ◌+◌, ◌^◌, ◌<◌, ltb, length};
 ghost use Rattle.pnet_bounds.specs.Bounded.{master_of, spacing_of, jitter_of, stream_run};
 ghost use Rattle.pnet_plan.specs.Planned.{plan_of};

@@ -1,6 +1,7 @@
 // The report of a tester's capture beside the bounds of a P-NET sheet, page 02 'Ask 1' and 'Ask 11'. What does not fit into the lent run is left
 // out; each function answers the place just after what it wrote.
 #![tactic(auto)]
+
 ghost use Rattle.std.specs.Prelude.{◌≡◌, ◌*◌, ◌≤◌, min, length};
 ghost use Rattle.text.specs.Text.{Zeros, Wrote, item, texts};
 ghost use Rattle.report_capture.specs.Shown.{most_capture, most_line, counts_text, stream_line, stream_at, heading, capture_text, capture_refusal};

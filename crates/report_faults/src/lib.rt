@@ -1,6 +1,7 @@
 // What is wrong in a tester's capture beside the bounds of a P-NET sheet, page 02 'Ask 1', as the last lines of its report say it. What does
 // not fit into the lent run is left out; each function that writes answers the place just after what it wrote.
 #![tactic(auto)]
+
 ghost use Rattle.std.specs.Prelude.{◌≡◌, ◌≤◌, min};
 ghost use Rattle.text.specs.Text.{Wrote, item};
 ghost use Rattle.report_faults.specs.Faults;

@@ -1,6 +1,7 @@
 // The report's lines, page 01 'Sheets worked by hand', built from fixed byte strings and numbers. Each function writes into a lent
 // run from a place on and answers the place just after; what does not fit is left out.
 #![tactic(auto)]
+
 ghost use Rattle.text.specs.Text.{Wrote, item, texts};
 ghost use Rattle.report_lines.specs.Lines.{master_line, master_text, ring_text, name_text, name_at, row_line, table_head};
 

@@ -1,6 +1,7 @@
 // The report of a path over several P-NET segments, page 02 'Ask 4'. What does not fit into the lent run is left out; each inner function
 // answers the place just after what it wrote.
 #![tactic(auto)]
+
 ghost use Rattle.std.specs.Prelude.{◌≡◌, ◌≤◌, length};
 ghost use Rattle.text.specs.Text.{Zeros, Wrote, item, texts};
 ghost use Rattle.report_path.specs.Told.{most_path, hop_lines};

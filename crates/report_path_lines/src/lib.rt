@@ -1,6 +1,7 @@
 // The lines of a path's report, page 02 'Ask 4', one by one. What does not fit into the lent run is left out; each function answers the place
 // just after what it wrote.
 #![tactic(auto)]
+
 ghost use Rattle.std.specs.Prelude.{◌++◌};
 ghost use Rattle.text.specs.Text.{Wrote, word};
 ghost use Rattle.report_phrases.specs.Phrases.{in_bp};

@@ -1,5 +1,6 @@
 // The report of a plan as text, page 01 'Sheets worked by hand'.
 #![tactic(auto)]
+
 ghost use Rattle.std.specs.Prelude.{◌≡◌, false, ◌≤◌, length};
 ghost use Rattle.sheet_rules.specs.Whole.{reading};
 ghost use Rattle.profibus_plan.specs.Planned.{plan_of as ring_plan};

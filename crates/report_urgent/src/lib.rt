@@ -1,5 +1,6 @@
 // The report of a P-NET sheet whose urgent requests go first, page 02 'Ask 11', from the bytes of the sheet.
 #![tactic(auto)]
+
 ghost use Rattle.std.specs.Prelude.{◌≡◌, length};
 ghost use Rattle.report_phrases.specs.Phrases.{refusal_text};
 ghost use Rattle.text.specs.Text.{over};

@@ -1,6 +1,7 @@
 // The report of a P-NET sheet whose urgent requests go first, page 02 'Ask 11', from what is known of each stream. What does not fit into the lent run is
 // left out; each function that writes answers the place just after what it wrote.
 #![tactic(auto)]
+
 ghost use Rattle.std.specs.Prelude.{◌≡◌, ◌-◌, ◌*◌, ◌≤◌, min, length};
 ghost use Rattle.text.specs.Text.{Zeros, Wrote, item, texts};
 ghost use Rattle.report_urgent_lines.specs.Lines.{most_urgent, most_line, figure_text, deadline_text, stream_line, stream_at, late_line, late_text, urgent_text};

@@ -1,5 +1,6 @@
 // One record of a sheet as a line of text, page 02 'Ask 14': `pnet-stream,1,203 bp,1000 bp,1000 bp`.
 #![tactic(auto)]
+
 ghost use Rattle.std.specs.Prelude.{◌≡◌};
 ghost use Rattle.text.specs.Text.{item, Wrote};
 ghost use Rattle.sheet_line.specs.Lines.{has_word, line_text, others, line_by};

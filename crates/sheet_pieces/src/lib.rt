@@ -1,6 +1,7 @@
 // A sheet as text, page 02 'Ask 14': a text may be long, and comes piece by piece: `start`, `take` each piece, `end`. What is kept between is one line and the
 // front of the sheet, in two runs that the caller lends.
 #![tactic(auto)]
+
 ghost use Rattle.std.specs.Prelude.{◌≡◌, ◌≤◌, length};
 ghost use Rattle.text.specs.Text.{Zeros};
 ghost use Rattle.sheet_pieces.specs.Steps;

@@ -1,5 +1,6 @@
 // The record that a line of text says, page 02 'Ask 14'. The line is taken for that of the only record that it can be, and that record's line, written by sheet_line, is held against it.
 #![tactic(auto)]
+
 ghost use Rattle.std.specs.Prelude.{◌≡◌, ◌≤◌, length, drop};
 ghost use Rattle.sheet_line.specs.Lines;
 ghost use Rattle.sheet_said.specs.Said;

@@ -1,5 +1,6 @@
 // A sheet as text, page 02 'Ask 14': export and import of the whole. A text that comes piece by piece is taken below, in sheet_pieces.
 #![tactic(auto)]
+
 ghost use Rattle.std.specs.Prelude.{◌≡◌, length};
 ghost use Rattle.text.specs.Text.{Zeros, Wrote};
 ghost use Rattle.sheet_rules.specs.Ready.{sheet_in};

@@ -41,11 +41,11 @@ returns-then-bound-n c =
     let bus = ap (λ (r : Record). bus_of r.kind) (sym t.begins) ∙ (sym c.bus_of.ensures ∙ c.if-bus_of-ne1.false) in
     let short : (x.head.a ≤ length a.bound.now → x.head.a ≤ length a.refined.now → x.head.a ≤ length a.rounds.now → ⊥) =
     λ l m r.
-      elim c.then-bound-n.branch [
-          goal.then-bound-n-via-then-bound-n w ↦ omega arith
-        | goal.then-bound-n-via-else-bound-n+then-refined-n w ↦ omega arith
-        | goal.then-bound-n-via-else-bound-n+else-refined-n+then-rounds-n w ↦ omega arith
-      ] in
+    elim c.then-bound-n.branch [
+      | goal.then-bound-n-via-then-bound-n w ↦ omega arith
+      | goal.then-bound-n-via-else-bound-n+then-refined-n w ↦ omega arith
+      | goal.then-bound-n-via-else-bound-n+else-refined-n+then-rounds-n w ↦ omega arith
+    ] in
     let o = planned_short a.s.now (length a.bound.now) (length a.refined.now) (length a.rounds.now) (sheet_in a.s.now) t.reads bus x.head.a (ap (λ (r : Record). r.a) t.begins) short in
     returned_refused a.s.now a.bound.now a.refined.now a.rounds.now 13 x.head.a o
 

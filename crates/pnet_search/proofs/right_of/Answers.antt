@@ -65,7 +65,7 @@ renewed c =
     let m = c.if-until-y in
     let few = c.requires.le_k.3.few in
     elim c.if-until-y.branch [
-        then-until-y w ↦ renewed_anew fresh y m.saved m.until w.saving_at-again.result.saved w.saving_at-again.result.until (omega arith) c.requires.le_k.2 w.if-until-y.true w.saving_at-again.ensures w.saved-is w.until-is
+      | then-until-y w ↦ renewed_anew fresh y m.saved m.until w.saving_at-again.result.saved w.saving_at-again.result.until (omega arith) c.requires.le_k.2 w.if-until-y.true w.saving_at-again.ensures w.saved-is w.until-is
       | else-until-y w ↦ renewed_still fresh y m.saved m.until w.if-until-y.false w.saved-is w.until-is
     ]
 

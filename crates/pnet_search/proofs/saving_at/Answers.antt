@@ -39,9 +39,9 @@ returns c =
     let e = c.look-seen.ensures in (
       omega arith,
       λ v l h.
-        left_same
-        {b = min a.s (asked_at a.counts.now a.ends.now a.pairs.now a.turn a.y v)}
-        a.s
-        (at a.charges.now a.y)
-        (e.2 (v + at a.counts.now a.y * a.turn) (omega arith) (omega arith)),
+          left_same
+          {b = min a.s (asked_at a.counts.now a.ends.now a.pairs.now a.turn a.y v)}
+          a.s
+          (at a.charges.now a.y)
+          (e.2 (v + at a.counts.now a.y * a.turn) (omega arith) (omega arith)),
     )

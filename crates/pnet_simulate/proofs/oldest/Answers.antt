@@ -25,7 +25,7 @@ loop-p-preserved c =
     let l = c.loop-p in (
       omega arith,
       below_more _ _ l.invariant.1 (elim c.if-owner-p.branch [
-          then-owner-p+else-answered-p-eq0 w ↦ waits_no_more a.owner.now a.answered.now a.m l.p w.if-owner-p.true w.if-answered-p-eq0.false
+        | then-owner-p+else-answered-p-eq0 w ↦ waits_no_more a.owner.now a.answered.now a.m l.p w.if-owner-p.true w.if-answered-p-eq0.false
         | else-owner-p w ↦ waits_elsewhere a.owner.now a.answered.now a.m l.p w.if-owner-p.false
       ]),
     )

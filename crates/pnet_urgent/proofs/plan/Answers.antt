@@ -26,7 +26,7 @@ returns-then-places-streams c =
     let x = c.in-Accepted in
     let room = room_of a.places.now a.figure.now a.rounds.now in
     let short : room < x.streams = elim c.then-places-streams.branch [
-      then-places-streams-via-then-places-streams w ↦ omega arith
+      | then-places-streams-via-then-places-streams w ↦ omega arith
       | then-places-streams-via-else-places-streams+then-figure-streams w ↦ omega arith
       | then-places-streams-via-else-places-streams+else-figure-streams+then-rounds-streams w ↦ omega arith
     ] in

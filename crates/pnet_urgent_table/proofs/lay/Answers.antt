@@ -21,9 +21,9 @@ counted-long c = c.tally_all.auto.table ∙ (c.clear.auto.table ∙ c.requires.s
 
 pub add_up-requires : goal.add_up-requires
 add_up-requires c = (
-    counted-long (goal.at.add_up-requires c).After-tally_all,
-    λ t h. omega (arith, risen_sum c.tally_all.ensures.risen t h, c.requires.due.1, queued_small c.requires.slow.0 (c.args.a + t) (omega arith) c.args.k (omega arith)),
-  )
+  counted-long (goal.at.add_up-requires c).After-tally_all,
+  λ t h. omega (arith, risen_sum c.tally_all.ensures.risen t h, c.requires.due.1, queued_small c.requires.slow.0 (c.args.a + t) (omega arith) c.args.k (omega arith)),
+)
 
 pub returns : goal.returns
 returns c =

@@ -8,7 +8,7 @@ use Rattle.report_sheet.proofs.report.Goals as goal
 
 pub returns-then-out-lt-MOST_TEXT : goal.returns-then-out-lt-MOST_TEXT
 unfolding answer_of run_of
-returns-then-out-lt-MOST_TEXT c = 
+returns-then-out-lt-MOST_TEXT c =
     record {
       value = simp (lt-ltb _ most_text c.if-out-lt-MOST_TEXT.true);
       out_after = simp (lt-ltb _ most_text c.if-out-lt-MOST_TEXT.true);
