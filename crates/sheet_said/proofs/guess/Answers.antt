@@ -2,10 +2,9 @@
 use Rattle.sheet_said.proofs.Cells.{guess_is}
 use Rattle.sheet_said.proofs.guess.Goals as goal
 
--- TODO: no step `Cell-at` is known on the way there
 pub returns : goal.returns
 returns c =
-    let word = c.Cell-at in
+    let word = c.cell_at-word in
     let a = c.cell_at-a in
     let b = c.cell_at-b in
     let c3 = c.cell_at-c in

@@ -17,7 +17,7 @@ pub slice_bounds-own-end : goal.slice_bounds-own-end
 slice_bounds-own-end c = wrote_inside c.put_line-n.ensures
 
 pub slice_bounds-same-end : goal.slice_bounds-same-end
-slice_bounds-same-end c = sym (length-take-le _ _ (array-share-prefix-own (goal.at.slice_bounds-same-end c).After-sayable))
+slice_bounds-same-end c = sym (length-take-le _ _ (wrote_inside c.put_line-n.ensures))
 
 -- what stands in front of the run is the line of what was taken
 front : (c : After-put_line-n) → take c.put_line-n.result c.put_line-n.new.out ≡ line_text c.guess-taken.result
@@ -27,7 +27,6 @@ front c =
     stored_front c.put_line-n.ensures (omega (arith, line_most g.result small))
 
 -- what the two tests decide
--- TODO: a lemma needs the record `After-put_line-n` out of `c`
 decided : (c : After-same) (t : Bool) → (c.sayable.result && c.same.result) ≡ t
     → cond t c.guess-taken.result nothing ≡ record_in c.args.line.now
 decided c t e =
