@@ -16,4 +16,4 @@ pieces segment n p = simp append_assoc
 pub returns : goal.returns
 returns c =
     rw pieces
-    (wrote_then c.put_refused.ensures c.put_counted.ensures)
+    (wrote_then c.put_refused-next.ensures c.put_counted.ensures)

@@ -24,7 +24,7 @@ returns c =
     let a = start.args in (
       rw pieces
           (wrote_then c.put_word-refusal.ensures
-          (wrote_then c.put_refused.ensures
+          (wrote_then c.put_refused-counts.ensures
           (wrote_then c.put_two-end.ensures c.put_deadline.ensures))),
-      late_most a.number a.bound a.figure a.deadline start.requires (omega (arith, (goal.at.returns start).After-put_word-arg-3-1)) (omega (arith, (goal.at.returns start).After-put_word-arg-3-1)) (omega (arith, (goal.at.returns start).After-put_word-arg-3-1)),
+      late_most a.number a.bound a.figure a.deadline start.requires (omega arith) (omega arith) (omega arith),
     )
