@@ -1,6 +1,4 @@
 -- `sheet_pieces::end_line` meets its contract: what is held says no record, or one, which is kept.
-use mathlib.Core.Path.{sym}
-use lib.Seq.{length-take-le}
 use Rattle.sheet_pieces.proofs.Stepped.{line_bad, line_good}
 use Rattle.sheet_pieces.proofs.end_line.Goals as goal
 
