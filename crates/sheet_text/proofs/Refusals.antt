@@ -49,6 +49,7 @@ module _ (room : ℕ) (t : List ℕ) where
     where
       line : {s : List ℕ} {S : Sheet} {m q : ℕ} → StandsFor t s → reading s ≡ Read S → Applies (check 13 (ltb room (length s)) (length s) ∷ []) m q → ImportRefused t room m q
       line f r (here q) = no-room-text f r (ltb-true _ _ q)
+      line {s = s} {S = S} {m = m} {q = q} f r (later _ x10) = elim x10 [ ]
 
       read : (s : List ℕ) → meaning t ≡ Stands s → (o : Outcome) → reading s ≡ o → copy_verdict room (length s) o ≡ Refused n p → ImportRefused t room n p
       read s m (Read S) q v = line (means_then t s m) q (refused_then _ n p v)
@@ -95,6 +96,7 @@ module _ (room : ℕ) (s : List ℕ) where
       line : {S : Sheet} {m q : ℕ} → reading s ≡ Read S → Applies (export_checks room S) m q → ExportRefused s room m q
       line {S} r (here w) = no_word r (three S r (not-true _ w))
       line {S} r (later w (here q)) = no_room r (no_head_word S.head.kind (not-false _ w)) (ltb-true _ _ q)
+      line {S = S} {m = m} {q = q} r (later w (later _ x15)) = elim x15 [ ]
 
       by : (o : Outcome) → reading s ≡ o → export_verdict room o ≡ Refused n p → ExportRefused s room n p
       by (Read S) r v = line r (refused_then _ n p v)

@@ -13,5 +13,5 @@ returns c =
     let shown = c.shown-n.ensures in
     rw (← shown) (
       wrote_then c.put_heading-lines.ensures (wrote_then lines.0 (rw shown c.put_last.ensures)),
-      no_capture_longer _ _ _ _ _ _ _ _ _ _ _ _ (omega (arith, (goal.at.returns start).Start)) (omega (arith, (goal.at.returns start).Start)) (omega arith) lines.1,
+      no_capture_longer _ _ _ _ _ _ _ _ _ _ _ _ (omega arith) (omega arith) (omega arith) lines.1,
     )

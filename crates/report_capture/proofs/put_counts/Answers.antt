@@ -1,6 +1,6 @@
 -- `report_capture::put_counts` stores the three counts of a stream.
 use mathlib.Core.Path.{◌≡◌, ap, ◌∙◌}
-use mathlib.Core.List.{List, ◌++◌}
+use mathlib.Core.List.{[], List, ◌++◌}
 use Prim.Native.Nat.{ℕ}
 use Rattle.text.specs.Text.{word, decimal, counted}
 use Rattle.text.proofs.Writing.{wrote_then, counted_then}

@@ -12,5 +12,5 @@ returns c =
     let a = start.args in (
       wrote_then c.put_whose-periods.ensures
           (wrote_then c.put_two-counts.ensures c.put_counts.ensures),
-      line_most a.number a.master a.bound a.largest a.answers a.above a.left start.requires (omega (arith, (goal.at.returns start).After-put_whose-arg-1)) (omega (arith, (goal.at.returns start).After-put_whose-arg-1)) (omega (arith, (goal.at.returns start).After-put_whose-arg-1)) (omega (arith, (goal.at.returns start).After-put_whose-arg-1)) (omega (arith, (goal.at.returns start).After-put_whose-arg-1)),
+      line_most a.number a.master a.bound a.largest a.answers a.above a.left start.requires (omega arith) (omega arith) (omega arith) (omega arith) (omega arith),
     )

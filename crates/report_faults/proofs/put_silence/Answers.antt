@@ -1,4 +1,5 @@
 -- `report_faults::put_silence` stores that no stream has an answer, where none has.
+use mathlib.Core.List.{[]}
 use mathlib.Core.Path.{◌≡◌, sym, ◌∙◌}
 use Prim.Native.Nat.{ℕ}
 use borrow.Author.Tests.{eq-eqb, ne_eqb}

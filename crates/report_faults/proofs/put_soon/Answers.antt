@@ -1,6 +1,6 @@
 -- `report_faults::put_soon` stores how many requests came too soon, and the stream of the first.
 use mathlib.Core.Path.{◌≡◌}
-use mathlib.Core.List.{◌++◌}
+use mathlib.Core.List.{[], ◌++◌}
 use Prim.Native.Nat.{ℕ}
 use borrow.Author.Tests.{eq-eqb, ne_eqb}
 use Rattle.text.specs.Text.{word, counted}

@@ -1,5 +1,5 @@
 -- `report_lines::put_ident` stores an identifier if its bit is set, and nothing else.
-use mathlib.Core.List.{append-nil}
+use mathlib.Core.List.{[], append-nil}
 use mathlib.Core.Path.{◌≡◌}
 use Prim.Native.Nat.{ℕ}
 use borrow.Author.Tests.{eq-eqb, ne_eqb}

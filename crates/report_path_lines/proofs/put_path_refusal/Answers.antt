@@ -1,6 +1,6 @@
 -- `report_path_lines::put_path_refusal` stores the line of a refusal.
 use mathlib.Core.Path.{◌≡◌}
-use mathlib.Core.List.{◌++◌}
+use mathlib.Core.List.{[], ◌++◌}
 use Prim.Native.Nat.{ℕ}
 use Rattle.text.specs.Text.{word, counted}
 use Rattle.text.proofs.Writing.{wrote_then, counted_then}

@@ -1,6 +1,6 @@
 -- `report_path_lines::put_sheet_refusal` stores the line of a refusal and the segment that it belongs to.
 use mathlib.Core.Path.{◌≡◌}
-use mathlib.Core.List.{◌++◌, append_assoc}
+use mathlib.Core.List.{[], ◌++◌, append_assoc}
 use Prim.Native.Nat.{ℕ}
 use Rattle.text.specs.Text.{word, counted}
 use Rattle.report_phrases.specs.Phrases.{refused_text}
@@ -13,8 +13,7 @@ pieces : (segment n p : ℕ) → sheet_refusal segment n p ≡ (refused_text n p
 unfolding sheet_refusal counted
 pieces segment n p = simp append_assoc
 
--- TODO: no step `Put-refused` is known on the way there
 pub returns : goal.returns
 returns c =
     rw pieces
-    (wrote_then c.Put-refused.ensures c.put_counted.ensures)
+    (wrote_then c.put_refused-next.ensures c.put_counted.ensures)

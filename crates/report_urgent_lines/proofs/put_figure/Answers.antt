@@ -1,6 +1,6 @@
 -- `report_urgent_lines::put_figure` stores a place, a figure and its rounds.
 use mathlib.Core.Path.{◌≡◌}
-use mathlib.Core.List.{◌++◌, append_assoc}
+use mathlib.Core.List.{[], ◌++◌, append_assoc}
 use Prim.Native.Nat.{ℕ}
 use Rattle.units.specs.declared.BitPeriods.{BitPeriods}
 use Rattle.text.specs.Text.{word, counted}

@@ -1,4 +1,5 @@
 -- `report_urgent_lines::put_first_late` stores the line of the first stream that first-come queues refuse, if there is one.
+use mathlib.Core.List.{[]}
 use mathlib.Core.Path.{◌≡◌}
 use Prim.Native.Nat.{ℕ, ◌-◌, ◌≤◌, ◌<◌}
 use native.Mathlib.Omega.{arith}

@@ -1,6 +1,6 @@
 -- `report_urgent_lines::put_late` stores the line of a stream that first-come queues refuse.
 use mathlib.Core.Path.{◌≡◌}
-use mathlib.Core.List.{◌++◌, append_assoc}
+use mathlib.Core.List.{[], ◌++◌, append_assoc}
 use Prim.Native.Nat.{ℕ}
 use native.Mathlib.Omega.{arith}
 use Rattle.units.specs.declared.BitPeriods.{BitPeriods}
@@ -18,14 +18,13 @@ pieces : (number : ℕ) (bound figure deadline : BitPeriods)
 unfolding late_line
 pieces number bound figure deadline = simp append_assoc
 
--- TODO: no step `Put-refused` is known on the way there
 pub returns : goal.returns
 returns c =
     let start = c in
     let a = start.args in (
       rw pieces
           (wrote_then c.put_word-refusal.ensures
-          (wrote_then c.Put-refused.ensures
+          (wrote_then c.put_refused-counts.ensures
           (wrote_then c.put_two-end.ensures c.put_deadline.ensures))),
-      late_most a.number a.bound a.figure a.deadline start.requires (omega (arith, (goal.at.returns start).After-put_word-arg-3-1)) (omega (arith, (goal.at.returns start).After-put_word-arg-3-1)) (omega (arith, (goal.at.returns start).After-put_word-arg-3-1)),
+      late_most a.number a.bound a.figure a.deadline start.requires (omega arith) (omega arith) (omega arith),
     )

@@ -11,5 +11,5 @@ returns c =
     let start = c in
     let a = start.args in (
       wrote_then c.put_whose-order.ensures (wrote_then c.put_figure-rest.ensures c.put_deadline.ensures),
-      line_most a.number a.master a.place a.figure a.rounds a.deadline start.requires (omega (arith, (goal.at.returns start).Start)) (omega (arith, (goal.at.returns start).Start)) (omega (arith, (goal.at.returns start).Start)) (omega (arith, (goal.at.returns start).Start)),
+      line_most a.number a.master a.place a.figure a.rounds a.deadline start.requires (omega arith) (omega arith) (omega arith) (omega arith),
     )

@@ -4,4 +4,4 @@ use Rattle.sheet_line.proofs.Lines.{past_others}
 use Rattle.sheet_line.proofs.other.Goals as goal
 
 pub returns-in_default : goal.returns-in_default
-returns-in_default c = let a = c.args in past_others a.r a.j (omega (arith, c.in_default.rest))
+returns-in_default c = let a = c.args in past_others a.r a.j (omega arith)

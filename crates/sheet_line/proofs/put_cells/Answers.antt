@@ -1,16 +1,11 @@
-use Prim.Native.Nat.{ℕ, ◌-◌}
 use mathlib.Core.Path.{◌∙◌}
-use mathlib.Core.List.{List}
 use native.Mathlib.Omega.{arith}
 use borrow.Author.Rules.{rules}
-use Rattle.text.specs.Text.{word, item, counted, texts}
+use Rattle.text.specs.Text.{texts}
 use Rattle.text.proofs.Writing.{length_wrote, wrote_then, wrote_none, wrote_next, wrote_all}
-use Rattle.sheet_record.specs.declared.Record.{Record}
-use Rattle.sheet_line.specs.Lines.{others, line_by}
+use Rattle.sheet_line.specs.Lines.{line_by}
+use Rattle.sheet_line.proofs.put_cells.Invariants.{cell}
 use Rattle.sheet_line.proofs.put_cells.Goals as goal
-
-abbrev cell : Record → List ℕ → ℕ → List ℕ
-cell r unit j = counted (word ",") (item (others r) j) unit
 
 pub loop-j-init : goal.loop-j-init
 unfolding texts

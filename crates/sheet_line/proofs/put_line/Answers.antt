@@ -1,4 +1,5 @@
 -- `sheet_line::put_line` stores the line of a record, by its kind.
+use borrow.Author.Rules.{rules}
 use Rattle.sheet_line.proofs.Lines.{left_out, segment_pieces, stream_pieces, ring_stream_pieces, exchange_pieces, variable_pieces, jitter_stream_pieces, edition_pieces, ring_pieces, message_pieces, no_line}
 use Rattle.sheet_line.proofs.put_line.Goals as goal
 
@@ -50,4 +51,4 @@ returns-in-10 c =
 pub returns-in_default : goal.returns-in_default
 returns-in_default c =
     let m = c in
-    rw (no_line m.args.r (left_out _ m.in_default.rest)) c.put_word.ensures
+    rw (no_line m.args.r (search (rules, left_out))) c.put_word.ensures

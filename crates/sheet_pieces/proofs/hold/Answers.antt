@@ -4,7 +4,13 @@ use Rattle.sheet_pieces.proofs.Held.{holds_more, holds_all}
 use Rattle.sheet_pieces.proofs.hold.Goals as goal
 
 pub returns-then-held-front : goal.returns-then-held-front
-returns-then-held-front c = let a = c.args in holds_more a.front.now a.held a.byte (omega arith)
+returns-then-held-front c =
+    let a = c.args in
+    let one = holds_more a.front.now a.held a.byte (omega arith) in
+    record { value = one.0; front_after = one.1 }
 
 pub returns : goal.returns
-returns c = let a = c.args in holds_all a.front.now a.held a.byte (omega arith)
+returns c =
+    let a = c.args in
+    let one = holds_all a.front.now a.held a.byte (omega arith) in
+    record { value = one.0; front_after = one.1 }

@@ -3,6 +3,7 @@ use mathlib.Core.Path.{◌≡◌, sym}
 use mathlib.Core.Bool.{true, and_assoc, and-true}
 use native.Mathlib.Omega.{arith}
 use borrow.Author.Tests.{lt-ltb}
+use borrow.Author.Rules.{rules}
 use lib.Dec.{ltb}
 use Rattle.sheet_record.specs.Kinds.{kinds, line_of, fields_of}
 use Rattle.sheet_line.specs.Lines.{word_of, has_word, in_bytes}
@@ -71,4 +72,4 @@ returns-in-10 c =
     rw (judged_by 10 r c.in-10.is, below_next r.a 255, x) (simp (and_assoc, and-true))
 
 pub returns-in_default : goal.returns-in_default
-returns-in_default c = sym (not_sayable c.args.r (left_out _ c.in_default.rest))
+returns-in_default c = sym (not_sayable c.args.r (search (rules, left_out)))

@@ -7,19 +7,17 @@ use Rattle.sheet_text.proofs.copy.Goals as goal
 pub returns-then-out-n : goal.returns-then-out-n
 returns-then-out-n c =
     let a = c.args in
-    copied_short a.out.now a.s.now _ _ _ (sym c.read.ensures ∙ c.in-Accepted.is) (omega arith)
+    let copied = copied_short a.out.now a.s.now _ _ _ (sym c.read.ensures ∙ c.in-Accepted.is) (omega arith) in
+    record { value = copied.0; out_after = copied.1 }
 
 pub returns-in-Refused : goal.returns-in-Refused
 returns-in-Refused c =
     let a = c.args in
-    copied_not a.out.now a.s.now _ _ (sym c.read.ensures ∙ c.in-Refused.is)
-
--- TODO: `auto` goes by name now
-pub shape_of-out : goal.shape_of-out
-shape_of-out c = c.put_word.auto.out
+    let copied = copied_not a.out.now a.s.now _ _ (sym c.read.ensures ∙ c.in-Refused.is) in
+    record { value = copied.0; out_after = copied.1 }
 
 pub returns-else-out-n : goal.returns-else-out-n
 returns-else-out-n c =
-    let test = c in
-    let a = test.args in
-    copied_whole a.out.now a.s.now _ _ _ (sym test.read.ensures ∙ test.in-Accepted.is) (omega arith) c.put_word.ensures
+    let a = c.args in
+    let copied = copied_whole a.out.now a.s.now _ _ _ (sym c.read.ensures ∙ c.in-Accepted.is) (omega arith) c.put_word.ensures in
+    record { value = copied.0; out_after = copied.1 }

@@ -19,7 +19,7 @@ loop-from-preserved c =
     let r = c in
     let l = r.loop-from in
     let k = c.put_line-next in
-    written_more l.invariant r.record_at-met.result r.loop-from-test.true r.record_at-met.ensures k.new.0 k.result k.ensures
+    written_more l.invariant r.record_at-met.result r.loop-from-test.true r.record_at-met.ensures k.new.out k.result k.ensures
 
 pub shape_of-out : goal.shape_of-out
 shape_of-out c = length_wrote c.loop-from.invariant.wrote
