@@ -62,6 +62,7 @@ pub record Instant (z : ℕ) (fs : List Event) (a u : ℕ) : Type 0 where
 
 pub asked_instant : {z i a u : ℕ} {es fs : List Event} → UpTo i es fs → Timed z es a u → Instant z fs a u
 asked_instant (here k s) t = record { r = _; at = t; past = omega arith }
+asked_instant {z = z} {i = i} {a = a} (later {e = e} {fs = fs} other q) (one _) = elim q [ ]
 asked_instant (later other q) (next t l n e) = let x = asked_instant q t in record { r = x.r; at = x.at; past = omega (arith, x.past) }
 
 -- that is r

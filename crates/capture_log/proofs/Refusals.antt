@@ -199,6 +199,7 @@ module _ (c : List ℕ) (n j : ℕ) where
         asked_twice (known_exactly.0 (not-false _ a)) (record { ends = ltb-false _ _ b }) (on_exactly.0 (not-false _ d)) (fails_then unasked_exactly f)
             (twice_exactly.0 g),
       )
+      line {m = m} {q = q} (later a (later b (later d (later f (later _ x31))))) = elim x31 [ ]
 
   applies_for : {x : ℕ} → RefusedWith c n j x → Applies (event_checks (length c) n waiting (size * j) (record_at c j)) x (size * j)
   unfolding event_checks

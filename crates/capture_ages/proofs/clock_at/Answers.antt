@@ -5,4 +5,4 @@ use Rattle.capture_ages.proofs.clock_at.Goals as goal
 
 pub returns : goal.returns
 unfolding tick
-returns c = c.wrapping_add_u64.ensures ∙ ap (λ (s : ℕ). (c.args.w.clock + s) % 2 ^ 64) c.step-s.ensures
+returns c = c.wrapping_add_u64.ensures.value ∙ ap (λ (s : ℕ). (c.args.w.clock + s) % 2 ^ 64) c.step-s.ensures

@@ -7,38 +7,33 @@ use Rattle.capture_log.specs.Log.{fresh, above}
 use Rattle.capture_log.specs.Records.{events}
 use Rattle.pnet_bounds.specs.Bounded.{bound_of}
 use Rattle.capture_compare.specs.Compared.{answered_of, largest_of, above_of, left_of}
-use Rattle.capture_compare.proofs.Beside.{Accepts, accepts, told_refused, compared_refused, plan_compared, run_compared, sheet_run}
+use Rattle.capture_compare.proofs.Beside.{accepts, told_refused, compared_refused, plan_compared, run_compared, sheet_run}
 use Rattle.capture_compare.proofs.compare.Goals as goal
-use Rattle.capture_compare.proofs.compare.Goals.{After-shorter-room, In-Accepted-2}
+use Rattle.capture_compare.proofs.compare.Goals.{After-shorter-room}
 
 -- the shortest of the four runs
 room : (c : After-shorter-room) → c.shorter-room.result ≡ min (length c.args.answers.now) (min (length c.args.largest.now) (min (length c.args.above.now) (length c.args.left.now)))
 room c = c.shorter-room.ensures ∙ ap (min (length c.args.answers.now)) (c.shorter-2.ensures ∙ ap (min (length c.args.largest.now)) c.shorter.ensures)
 
--- the sheet is accepted
-its : (c : In-Accepted-2) → Accepts c.args.s.now c.shorter-room.result c.in-Accepted.count c.in-Accepted.streams
-its c = accepts _ _ _ _ (sym c.bounds-plan.ensures.value ∙ c.in-Accepted.is)
-
 pub compare_to-requires : goal.compare_to-requires
 compare_to-requires c =
-    let x = its (goal.at.compare_to-requires c).In-Accepted-2 in
+    let x = accepts c.args.s.now c.shorter-room.result c.in-Accepted.count c.in-Accepted.streams (sym c.bounds-plan.ensures.value ∙ c.in-Accepted.is) in
     let r = room (goal.at.compare_to-requires c).After-shorter-room in
     (x.few, omega (arith, x.fits, r), omega (arith, x.fits, r), omega (arith, x.fits, r), omega (arith, x.fits, r))
 
--- TODO: what `plan.given` says is now in a field with a name of its own
 pub returns-in-Refused : goal.returns-in-Refused
 returns-in-Refused c =
-    let x = c.in-Refused.given in
+    let x = c.in-Refused in
     let a = c.args in
-    let o = told_refused _ x.0.0 x.0.1.0 (sym c.bounds-plan.ensures.value ∙ x.1) in
-    let z = compared_refused a.s.now a.c.now c.shorter-room.result _ _ _ _ (room (goal.at.returns-in-Refused c).After-shorter-room) x.0.0 x.0.1.0 o in
+    let o = told_refused _ x.no x.place (sym c.bounds-plan.ensures.value ∙ x.is) in
+    let z = compared_refused a.s.now a.c.now c.shorter-room.result _ _ _ _ (room (goal.at.returns-in-Refused c).After-shorter-room) x.no x.place o in
     (rw z refl, rw z refl, rw z refl, rw z refl, rw z refl)
 
 pub returns-in-Accepted : goal.returns-in-Accepted
 unfolding answered_of largest_of above_of left_of
 returns-in-Accepted c =
     let a = c.args in
-    let x = its (goal.at.returns-in-Accepted c).In-Accepted-2 in
+    let x = accepts c.args.s.now c.shorter-room.result c.in-Accepted.count c.in-Accepted.streams (sym c.bounds-plan.ensures.value ∙ c.in-Accepted.is) in
     let k = c.compare_to.ensures in
     let run = run_compared a.s.now a.c.now c.shorter-room.result _ _ _ _ (room (goal.at.returns-in-Accepted c).After-shorter-room) x in
     let bound = sheet_run x a.c.now bound_of _ _ c.bounds-plan.ensures.bound_after in (

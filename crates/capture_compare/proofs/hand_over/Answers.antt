@@ -28,13 +28,10 @@ loop-i-preserved c =
 pub returns : goal.returns
 returns c =
     let l = c.loop-i in
-    let n = c.args.n in (
-      filling_done n l.invariant.1.0 (omega arith),
-      (
-        filling_done n l.invariant.1.1.0 (omega arith),
-        (
-          filling_done n l.invariant.1.1.1.0 (omega arith),
-          filling_done n l.invariant.1.1.1.1 (omega arith),
-        ),
-      ),
-    )
+    let n = c.args.n in
+    record {
+      answered_after = filling_done n l.invariant.1.0 (omega arith);
+      longest_after = filling_done n l.invariant.1.1.0 (omega arith);
+      exceeding_after = filling_done n l.invariant.1.1.1.0 (omega arith);
+      waiting_after = filling_done n l.invariant.1.1.1.1 (omega arith);
+    }

@@ -7,25 +7,20 @@ use Rattle.capture_tally.proofs.keep.Goals as goal
 
 pub returns-then-e-eq16 : goal.returns-then-e-eq16
 unfolding left_with since_with answers_with largest_with above_with
-returns-then-e-eq16 c = let k = eq-eqb _ 16 c.if-e-eq16.true in (rw k refl, (rw k refl, (rw k refl, (rw k refl, rw k refl))))
+returns-then-e-eq16 c = let k = eq-eqb _ 16 c.if-e-eq16.true in record { left_after = rw k refl; since_after = rw k refl; answers_after = rw k refl; largest_after = rw k refl; above_after = rw k refl }
 
 pub returns : goal.returns
 unfolding left_with since_with answers_with largest_with above_with shown_by
 returns c =
-    let start = c in
-    let a = start.args in
+    let a = c.args in
     let k = ne_eqb a.e.kind 16 c.if-e-eq16.false in
-    let shown = ap (λ (b : BitPeriods). b.0) c.response-shown.ensures in (
-      rw k refl,
-      (
-        rw k refl,
-        (
-          rw k (ap (set a.answers.now (spot a.e)) c.wrapping_add_u64.ensures),
-          (
-            rw k (ap (set a.largest.now (spot a.e)) (c.larger.ensures ∙ ap (max (get_or a.largest.now (spot a.e) 0)) shown)),
-            rw k (ap (set a.above.now (spot a.e)) (c.wrapping_add_u64-2.ensures
-                ∙ ap (λ (x : ℕ). (get_or a.above.now (spot a.e) 0 + x) % 2 ^ 64) (c.exceeds.ensures ∙ ap (λ (x : ℕ). when (ltb (get_or a.bound.now (spot a.e) 0) x) 1) shown))),
-          ),
-        ),
-      ),
-    )
+    let shown = ap (λ (b : BitPeriods). b.0) c.response-shown.ensures in
+    record {
+      left_after = rw k refl;
+      since_after = rw k refl;
+      answers_after = rw k (ap (set a.answers.now (spot a.e)) c.wrapping_add_u64.ensures.value);
+      largest_after = rw k (ap (set a.largest.now (spot a.e)) (c.larger.ensures ∙ ap (max (get_or a.largest.now (spot a.e) 0)) shown));
+      above_after =
+          rw k (ap (set a.above.now (spot a.e)) (c.wrapping_add_u64-2.ensures.value
+          ∙ ap (λ (x : ℕ). (get_or a.above.now (spot a.e) 0 + x) % 2 ^ 64) (c.exceeds.ensures ∙ ap (λ (x : ℕ). when (ltb (get_or a.bound.now (spot a.e) 0) x) 1) shown)));
+    }

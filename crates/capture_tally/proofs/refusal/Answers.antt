@@ -10,21 +10,18 @@ use Rattle.capture_tally.proofs.Judged.{judged_unknown, judged_cut, judged_absen
 use Rattle.capture_tally.proofs.refusal.Goals as goal
 use Rattle.capture_tally.proofs.refusal.Goals.{After-struct_known-1}
 
--- TODO: `w` is no argument now
 pub returns-then-not-known : goal.returns-then-not-known
-returns-then-not-known c =
+returns-then-not-known c w h =
     let a = c.args in
     judged_unknown a.c.now a.at (min a.streams most) w (sym c.known.ensures ∙ not-true _ c.if-not-known.true-raw)
 
--- TODO: `w` is no argument now
 pub returns-then-c-at-lt-SIZE : goal.returns-then-c-at-lt-SIZE
-returns-then-c-at-lt-SIZE c =
+returns-then-c-at-lt-SIZE c w h =
     let a = c.args in
     judged_cut a.c.now a.at (min a.streams most) w (sym c.known.ensures ∙ not-false _ c.if-not-known.false-raw) (omega arith)
 
--- TODO: `w` is no argument now
 pub returns-then-not-on_sheet : goal.returns-then-not-on_sheet
-returns-then-not-on_sheet c =
+returns-then-not-on_sheet c w h =
     let x = c in
     judged_absent _ _ _ w (sym x.known.ensures ∙ not-false _ x.if-not-known.false-raw) (omega arith) _ x.event_at-e.ensures
     (sym c.on_sheet.ensures ∙ not-true _ c.if-not-on_sheet.true-raw)
@@ -39,9 +36,8 @@ overflow_sub-k c = (placed (goal.at.overflow_sub-k c).After-struct_known-1).0
 pub bounds-left-k : goal.bounds-left-k
 bounds-left-k c = omega (arith, placed (goal.at.bounds-left-k c).After-struct_known-1, c.requires.1)
 
--- TODO: `w` is no argument now
 pub returns : goal.returns
-returns c =
+returns c w h =
     let x = c in
     let a = x.args in
     let known = sym x.known.ensures ∙ not-false _ x.if-not-known.false-raw in

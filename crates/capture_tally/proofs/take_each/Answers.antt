@@ -20,93 +20,70 @@ loop-at-init c =
       above_small = λ i. omega (arith, c.type_inv.above i);
     }
 
--- TODO: no step `loop` is known on the way there
 pub refusal-no-requires : goal.refusal-no-requires
-refusal-no-requires c = (omega arith, c.loop.invariant.keeps.left_is.long)
+refusal-no-requires c = (omega arith, c.loop-at.invariant.keeps.left_is.long)
 
--- TODO: `c.before.before.before.before.before.before.before.before.before.before.before.before.requires.left_long` goes further back than the code does
--- TODO: no step `loop` is known on the way there
 pub shape_of-left-then-no-ne0 : goal.shape_of-left-then-no-ne0
-shape_of-left-then-no-ne0 c = c.loop.invariant.keeps.left_is.long ∙ sym c.before.before.before.before.before.before.before.before.before.before.before.before.requires.left_long
+shape_of-left-then-no-ne0 c = c.loop-at.invariant.keeps.left_is.long ∙ sym c.requires.left_long
 
--- TODO: `c.before.before.before.before.before.before.before.before.before.before.before.before.requires.since_long` goes further back than the code does
--- TODO: no step `loop` is known on the way there
 pub shape_of-since-then-no-ne0 : goal.shape_of-since-then-no-ne0
-shape_of-since-then-no-ne0 c = c.loop.invariant.keeps.since_is.long ∙ sym c.before.before.before.before.before.before.before.before.before.before.before.before.requires.since_long
+shape_of-since-then-no-ne0 c = c.loop-at.invariant.keeps.since_is.long ∙ sym c.requires.since_long
 
--- TODO: `c.before.before.before.before.before.before.before.before.before.before.before.before.requires.answers_long` goes further back than the code does
--- TODO: no step `loop` is known on the way there
 pub shape_of-answers-then-no-ne0 : goal.shape_of-answers-then-no-ne0
-shape_of-answers-then-no-ne0 c = c.loop.invariant.keeps.answers_is.long ∙ sym c.before.before.before.before.before.before.before.before.before.before.before.before.requires.answers_long
+shape_of-answers-then-no-ne0 c = c.loop-at.invariant.keeps.answers_is.long ∙ sym c.requires.answers_long
 
--- TODO: `c.before.before.before.before.before.before.before.before.before.before.before.before.requires.largest_long` goes further back than the code does
--- TODO: no step `loop` is known on the way there
 pub shape_of-largest-then-no-ne0 : goal.shape_of-largest-then-no-ne0
-shape_of-largest-then-no-ne0 c = c.loop.invariant.keeps.largest_is.long ∙ sym c.before.before.before.before.before.before.before.before.before.before.before.before.requires.largest_long
+shape_of-largest-then-no-ne0 c = c.loop-at.invariant.keeps.largest_is.long ∙ sym c.requires.largest_long
 
--- TODO: `c.before.before.before.before.before.before.before.before.before.before.before.before.requires.above_long` goes further back than the code does
--- TODO: no step `loop` is known on the way there
 pub shape_of-above-then-no-ne0 : goal.shape_of-above-then-no-ne0
-shape_of-above-then-no-ne0 c = c.loop.invariant.keeps.above_is.long ∙ sym c.before.before.before.before.before.before.before.before.before.before.before.before.requires.above_long
+shape_of-above-then-no-ne0 c = c.loop-at.invariant.keeps.above_is.long ∙ sym c.requires.above_long
 
--- TODO: no step `loop` is known on the way there
 pub returns-then-no-ne0 : goal.returns-then-no-ne0
 unfolding answer_to
 returns-then-no-ne0 c =
-    let h = c.loop.invariant in
+    let h = c.loop-at.invariant in
     let n = number_is h (omega arith) _ c.refusal-no.ensures in
     let x = hearing_refused h (omega arith) (omega arith) (λ z. c.if-no-ne0.true (n ∙ z)) in
     (rw (x, n) refl, λ e. refused_not_all e, λ e. refused_not_all e, λ e. refused_not_all e, λ e. refused_not_all e, λ e. refused_not_all e)
 
 -- no refusal is given
--- TODO: `c.before.before.before.before.before.before.before.before.before.before.before.before.before.args.left.now` goes further back than the code does
--- TODO: `c.before.before.before.before.before.before.before.before.before.before.before.before.before.args.piece.now` goes further back than the code does
--- TODO: `c.before.before.before.before.before.before.before.before.before.before.before.before.before.args.since.now` goes further back than the code does
--- TODO: `c.before.before.before.before.before.before.before.before.before.before.before.before.before.args.streams` goes further back than the code does
--- TODO: no step `loop` is known on the way there
 none : (c : After-event_at-e)
-    → no_of (judge c.before.before.before.before.before.before.before.before.before.before.before.before.before.args.piece.now (min c.before.before.before.before.before.before.before.before.before.before.before.before.before.args.streams most) (before c.before.before.before.before.before.before.before.before.before.before.before.before.before.args.left.now c.before.before.before.before.before.before.before.before.before.before.before.before.before.args.since.now) c.loop.invariant.j) ≡ 0
-none c = sym (number_is c.loop.invariant (omega arith) _ c.refusal-no.ensures) ∙ c.if-no-ne0.false
+    → no_of (judge c.args.piece.now (min c.args.streams most) (before c.args.left.now c.args.since.now) c.loop-at.invariant.j) ≡ 0
+none c = sym (number_is c.loop-at.invariant (omega arith) _ c.refusal-no.ensures) ∙ c.if-no-ne0.false
 
 -- the record has a place
--- TODO: no step `loop` is known on the way there
 placed : (c : After-event_at-e) → (1 ≤ c.event_at-e.result.stream) × (c.event_at-e.result.stream ≤ most)
 placed c =
-    let x = next_is c.loop.invariant (omega arith) (none c) in
+    let x = next_is c.loop-at.invariant (omega arith) (none c) in
     let e = c.event_at-e.ensures ∙ next_read x in
     rw e (x.from, x.to)
 
--- TODO: `c.before.before.before.before.before.before.before.before.before.before.before.before.before.before.before.before.before.before.requires` goes further back than the code does
--- TODO: no step `bound_long` is known on the way there
--- TODO: no step `loop` is known on the way there
 pub keep-requires : goal.keep-requires
 keep-requires c =
-    let l = c.loop in
-    let p = c.before.before.before.before.before.before.before.before.before.before.before.before.before.before.before.before.before.before.requires in
-    let k = l.invariant.keeps in (
-      placed (goal.at.keep-requires c).After-event_at-e,
-      record {
+    let l = c.loop-at in
+    let p = c.requires in
+    let k = l.invariant.keeps in
+    record {
+      le_stream = placed (goal.at.keep-requires c).After-event_at-e;
+      long = record {
         bound_long = p.bound_long;
         left_long = k.left_is.long;
         since_long = k.since_is.long;
         answers_long = k.answers_is.long;
         largest_long = k.largest_is.long;
         above_long = k.above_is.long;
-      },
-    )
+      };
+    }
 
--- TODO: `c.before.before.before.before.before.before.before.before.before.before.before.before.before.before.before.before.before.before.before.before.before.before.before.before.before.before.before.before.before.well-formed.0.0` goes further back than the code does
--- TODO: no step `loop` is known on the way there
 pub overflow_add-at : goal.overflow_add-at
 overflow_add-at c =
-    let x = next_is c.loop.invariant (omega arith) (none (goal.at.overflow_add-at c).After-event_at-e) in
-    omega (arith, x.ends, c.before.before.before.before.before.before.before.before.before.before.before.before.before.before.before.before.before.before.before.before.before.before.before.before.before.before.before.before.before.well-formed.0.0)
+    let x = next_is c.loop-at.invariant (omega arith) (none (goal.at.overflow_add-at c).After-event_at-e) in
+    omega (arith, x.ends)
 
--- TODO: no step `loop` is known on the way there
 pub loop-at-preserved : goal.loop-at-preserved
 loop-at-preserved c =
     let k = c.keep.ensures in
-    hearing_next c.loop.invariant (omega arith) (none (goal.at.loop-at-preserved c).After-event_at-e) _ c.event_at-e.ensures _ _ _ _ _ k.0 k.1.0 k.1.1.0 k.1.1.1.0 k.1.1.1.1
+    hearing_next c.loop-at.invariant (omega arith) (none (goal.at.loop-at-preserved c).After-event_at-e) _ c.event_at-e.ensures _ _ _ _ _ k.left_after k.since_after k.answers_after k.largest_after k.above_after
 
 pub shape_of-left : goal.shape_of-left
 shape_of-left c = c.loop-at.invariant.keeps.left_is.long ∙ sym c.requires.left_long

@@ -23,7 +23,7 @@ overflow_add-at c = omega (arith, c.loop-at.invariant.inside)
 pub loop-at-preserved : goal.loop-at-preserved
 loop-at-preserved c =
     let h = c.follow_one-w.ensures in
-    following_more c.loop-at.invariant _ _ _ _ (omega (arith, c.loop-at.invariant.inside)) c.event_at-e.ensures h.0 h.1.0 h.1.1
+    following_more c.loop-at.invariant _ _ _ _ (omega (arith, c.loop-at.invariant.inside)) c.event_at-e.ensures h.value h.asked_after h.lead_after
 
 pub shape_of-asked : goal.shape_of-asked
 shape_of-asked c = c.loop-at.invariant.long ∙ sym c.requires.1.1.0
@@ -34,4 +34,8 @@ shape_of-lead c = c.loop-at.invariant.leads ∙ sym c.requires.1.1.1
 pub returns : goal.returns
 returns c =
     let h = following_all c.loop-at.invariant (omega (arith, c.loop-at.invariant.inside)) in
-    (ap (λ (s : Seen). s.watch) h, (ap (λ (s : Seen). s.asked) h, ap (λ (s : Seen). s.lead) h))
+    record {
+      value = ap (λ (s : Seen). s.watch) h;
+      asked_after = ap (λ (s : Seen). s.asked) h;
+      lead_after = ap (λ (s : Seen). s.lead) h;
+    }

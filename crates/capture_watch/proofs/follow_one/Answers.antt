@@ -11,9 +11,8 @@ use Rattle.capture_watch.proofs.follow_one.Goals.{After-struct_known-1}
 
 pub returns-then-not-is_request : goal.returns-then-not-is_request
 returns-then-not-is_request c =
-    let x = c in
-    let h = passed_by _ _ _ _ _ _ (sym x.is_request.ensures ∙ not-true _ x.if-not-is_request.true-raw) in
-    (c.behind.ensures ∙ h.0, h.1)
+    let h = passed_by _ _ _ _ _ _ (sym c.is_request.ensures ∙ not-true _ c.if-not-is_request.true-raw) in
+    record { value = c.behind.ensures ∙ h.0; asked_after = h.1.0; lead_after = h.1.1 }
 
 -- it is a request, whose stream has a place
 is-request : (c : After-struct_known-1) → request c.args.e ≡ true
@@ -46,4 +45,4 @@ bounds-lead-k-2 c = omega (arith, (placed (goal.at.bounds-lead-k-2 c).After-stru
 pub returns : goal.returns
 returns c =
     let h = asked_by _ _ _ _ _ _ _ _ _ _ (is-request (goal.at.returns c).After-struct_known-1) c.lead_of-new.ensures c.clock_at.ensures c.kept_lead.ensures c.too_soon.ensures in
-    (c.behind-2.ensures ∙ h.0, h.1)
+    record { value = c.behind-2.ensures ∙ h.0; asked_after = h.1.0; lead_after = h.1.1 }
