@@ -18,8 +18,8 @@ loop-i-preserved c =
     let l = c.loop-i in
     let run = item c.args.run.now in
     elim c.if-run-i-gt0.branch [
-      then-run-i-gt0 w ↦ (omega arith, omega arith, w.count-is ∙ exceeding_some run l.i l.count l.invariant.2 (omega arith))
-    | else-run-i-gt0 w ↦ (omega arith, omega arith, w.count-is ∙ exceeding_none run l.i l.count l.invariant.2 (omega arith))
+      | then-run-i-gt0 w ↦ (omega arith, omega arith, w.count-is ∙ exceeding_some run l.i l.count l.invariant.2 (omega arith))
+      | else-run-i-gt0 w ↦ (omega arith, omega arith, w.count-is ∙ exceeding_none run l.i l.count l.invariant.2 (omega arith))
     ]
 
 pub returns : goal.returns

@@ -21,8 +21,8 @@ returns-then-out-n c =
     let w = c.has_word in
     let n = c.text_length-n in
     let told =
-        exported_short a.out.now a.s.now _ _ _ (sym c.read.ensures ∙ c.in-Accepted.is) w.result w.ensures n.result (ap not c.if-not-has_word.false) n.ensures
-        c.if-out-n.true
+    exported_short a.out.now a.s.now _ _ _ (sym c.read.ensures ∙ c.in-Accepted.is) w.result w.ensures n.result (ap not c.if-not-has_word.false) n.ensures
+    c.if-out-n.true
     in
     record { value = told.0; out_after = told.1 }
 
@@ -41,7 +41,7 @@ returns-else-out-n c =
     let w = c.has_word in
     let n = c.text_length-n in
     let told =
-        exported_whole a.out.now a.s.now _ _ _ (sym c.read.ensures ∙ c.in-Accepted.is) w.result w.ensures n.result (ap not c.if-not-has_word.false) n.ensures
-        (omega arith) c.put_text.ensures
+    exported_whole a.out.now a.s.now _ _ _ (sym c.read.ensures ∙ c.in-Accepted.is) w.result w.ensures n.result (ap not c.if-not-has_word.false) n.ensures
+    (omega arith) c.put_text.ensures
     in
     record { value = told.0; out_after = told.1 }
