@@ -1,6 +1,6 @@
 -- `report_path::report` writes the whole report of what is kept of a path, or nothing where a report might not fit.
 use mathlib.Core.Path.{sym, ◌∙◌}
-use mathlib.Core.List.{List, ◌∷◌, map}
+use mathlib.Core.List.{List, [], ◌∷◌}
 use mathlib.Core.Bool.{true, false}
 use Prim.Native.Nat.{ℕ, zero, suc, ◌-◌, ◌^◌, ◌≤◌, ◌<◌}
 use native.Mathlib.Omega.{arith}
@@ -9,7 +9,7 @@ use denote.Shadow.{shadow}
 use denote.Array.{each}
 use lib.ListN.{length}
 use Rattle.units.specs.declared.BitPeriods.{BitPeriods}
-use Rattle.units.specs.contracts.BitPeriods.{the_field}
+use Rattle.units.specs.contracts.BitPeriods.{the_row}
 use Rattle.pnet_path.specs.declared.Way.{Way}
 use Rattle.text.specs.Text.{item}
 use Rattle.report_path.specs.Told.{most_path}
@@ -19,7 +19,7 @@ use Rattle.report_path.proofs.Lengths.{no_path_longer, no_sheet_refusal_longer, 
 use Rattle.report_path.proofs.report.Goals as goal
 
 -- each count in a run of them is a number of 32 bits
-counts-small : (xs : List BitPeriods) (us : List Val) (i : ℕ) → shadow (each the_field.row.Denot the_field.row.own_val (map the_field.into xs) us)
+counts-small : (xs : List BitPeriods) (us : List Val) (i : ℕ) → shadow (each the_row.Denot the_row.own_val xs us)
     → (count_at xs i).0 < 2 ^ 32
 counts-small [] us i p = omega arith
 counts-small (x ∷ xs) [] i p = absurd p
