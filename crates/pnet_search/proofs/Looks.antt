@@ -6,6 +6,7 @@ use native.Mathlib.Nat.{div-mul-le_self, le-div_iff_mul-le}
 use native.Mathlib.Omega.{arith}
 use Rattle.common.specs.Sums.{upto, up}
 use Rattle.common.proofs.Sums.{upto_more, upto_part, upto_mono, upto_even, up_at_most, up_covers, up_rises}
+use Rattle.pnet_turn.specs.Turn.{at}
 use Rattle.pnet_search.specs.Arrays.{spacing_at, jitter_at, asked_in, Spaced}
 
 -- ---- A quotient rounded up

@@ -1,4 +1,5 @@
 use native.Mathlib.Omega.{arith}
+use Prim.Native.Nat.{◌-◌}
 use borrow.Author.Tests.{lt-ltb, le-ltb}
 use Rattle.pnet_crossing.specs.Cost.{is_too_long}
 use Rattle.pnet_crossing.proofs.Laws.{searched_none, searched_more, searched_here, searched_end}

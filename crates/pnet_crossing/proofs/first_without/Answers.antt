@@ -1,4 +1,5 @@
 use native.Mathlib.Omega.{arith}
+use Prim.Native.Nat.{◌-◌}
 use borrow.Author.Tests.{eq-eqb, ne_eqb}
 use Rattle.pnet_crossing.specs.Cost.{no_bound}
 use Rattle.pnet_crossing.proofs.Laws.{searched_none, searched_more, searched_here, searched_end}

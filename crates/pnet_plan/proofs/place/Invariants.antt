@@ -5,6 +5,7 @@ use Prim.Native.Nat.{ℕ, ◌+◌, ◌-◌, ◌≤◌, ◌<◌}
 use lib.ListN.{length}
 use Rattle.sheet_rules.specs.Ready.{stream_place}
 use Rattle.pnet_rules.specs.Segment.{late}
+use Rattle.pnet_turn.specs.Turn.{at}
 use Rattle.pnet_plan.specs.Arrays.{segment_in, Grouped}
 use Rattle.pnet_plan.proofs.place.Given as goal
 
