@@ -5,9 +5,9 @@ use Rattle.report_beside.specs.Whole.{tally}
 use Rattle.report_beside.specs.Kept.{Holds}
 use Rattle.planner_beside.proofs.listen.Given as goal
 
-abbrev pub invariant-loop : goal.invariant-loop
-invariant-loop l =
+abbrev pub invariant-loop-error : goal.invariant-loop-error
+invariant-loop-error l =
     Holds l.urgent l.sheet l.heard l.masters l.bound l.spacing l.jitter (tally l.left l.since l.answers l.largest l.above l.asked l.lead) × (length l.piece ≡ 65534)
 
-abbrev pub decreases-loop : goal.decreases-loop
-decreases-loop l = 2 ^ 63 + 65534 - l.heard.bytes
+abbrev pub decreases-loop-error : goal.decreases-loop-error
+decreases-loop-error l = 2 ^ 63 + 65534 - l.heard.bytes
