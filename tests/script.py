@@ -6,6 +6,7 @@
 import os
 import pathlib
 import pty
+import re
 import shutil
 import stat
 import subprocess
@@ -15,35 +16,28 @@ import time
 
 ROOT = pathlib.Path(__file__).resolve().parent.parent
 
-# A kit whose check takes a moment, notes that it was asked, and makes a program of two crates.
+# A kit whose last check takes a moment, notes that it was asked, and makes a program of two crates.
 RT = """#!/bin/sh
 home=$(cd "$(dirname "$0")/.." && pwd)
 case $1 in
-doc) echo "$home/docs/START-HERE.md" ;;
+doc) echo "$home/START-HERE.md" ;;
 version) cat "$home/KIT-ID" ;;
-check)
+lib) [ ! -e "$home/broken" ] || { echo "logic=not-proved"; exit 1; } ;;
+run)
     echo checked >>"$home/checks"
     sleep 0.4
-    [ ! -e "$home/broken" ] || { echo "rt: common NOT PROVED"; exit 1; }
-    mkdir -p target/bin target/stamp
-    echo "rt: common proved (1 s)"
-    echo "rt: planner proved (2 s)"
-    cp "$home/program" target/bin/planner
-    touch target/stamp/planner
+    mkdir -p out
+    cp "$home/program" out/planner
+    touch out/planner.stamp
     ;;
 esac
-"""
-# A loader for it, called as the kit's is: --library-path FOLDER PROGRAM WORDS.
-LOADER = """#!/bin/sh
-shift 2
-exec "$@"
 """
 # A program that shows its words and its input, and ends as it is told to.
 PROGRAM = """#!/bin/sh
 echo "words:$*"
 cat
-case ${SAYS-0} in none) exit 0 ;; esac
-printf %s "${SAYS-0}" >&3
+case ${SAYS-0} in stopped) kill -9 $$ ;; esac
+exit "${SAYS-0}"
 """
 
 
@@ -58,8 +52,6 @@ class Tree:
         self.home, self.root = folder / "kit", folder / "a tree"
         executable(self.home / "bin" / "rt", RT)
         executable(self.home / "program", PROGRAM)
-        tools = self.home / "on" / os.uname().machine / "toolchain"
-        executable(tools / "lib" / "ld-linux-x86-64.so.2", LOADER)
         (self.home / "KIT-ID").write_text("kit of the test\n")
         self.root.mkdir()
         shutil.copy(ROOT / "plan", self.root / "plan")
@@ -67,6 +59,7 @@ class Tree:
         for name in ("planner_io/src/help.rt", "planner/src/main.rt"):
             (self.root / "crates" / name).parent.mkdir(parents=True)
             shutil.copy(ROOT / "crates" / name, self.root / "crates" / name)
+        (self.root / "crates/common").mkdir()
         (self.root / "crates.txt").write_text("common:\nplanner: common io\nother: common\n")
         self.environment = dict(os.environ, PATH="%s:%s" % (self.home / "bin", os.environ["PATH"]))
         self.environment.pop("PLAN_BUILD", None)
@@ -132,7 +125,7 @@ def without_a_program(tree):
 def builds(tree):
     out, err, status = tree.run("a.sheet", "b.capture")
     yield "the first build", (out, status) == ("words:a.sheet b.capture\n", 0) and tree.checks() == 1
-    yield "says how far it is", "plan: proved 1 of 2: common (1 s)\nplan: proved 2 of 2: planner (2 s)\n" in err
+    yield "says how far it is", re.search(r"plan: proved 1 of 2: common \(\d+ s\)\nplan: proved 2 of 2: planner \(\d+ s\)\n", err) is not None
     yield "a built tree", tree.run("a.sheet") == ("words:a.sheet\n", "", 0) and tree.checks() == 1
     yield "no word reads standard input", tree.run(given="bytes\n") == ("words:\nbytes\n", "", 0)
     yield "a command is handed on", tree.run("--path", "9", "-x") == ("words:--path 9 -x\n", "", 0)
@@ -142,7 +135,7 @@ def builds(tree):
     link = tree.root.parent / "link"
     link.symlink_to(tree.root / "plan")
     yield "by a symbolic link", tree.run("a.sheet", script=str(link)) == ("words:a.sheet\n", "", 0)
-    (tree.root / "target/plan.proved").unlink()
+    (tree.root / "crates/planner/out/plan.proved").unlink()
     yield "built by hand", tree.run("a.sheet") == ("words:a.sheet\n", "", 0) and tree.checks() == 1
 
 
@@ -172,7 +165,7 @@ def changes(tree):
         os.utime(identity, (1, 1))
 
     yield from due(tree, "another kit", other_kit)
-    yield from due(tree, "a program that is gone", (tree.root / "target/bin/planner").unlink)
+    yield from due(tree, "a program that is gone", (tree.root / "crates/planner/out/planner").unlink)
 
 
 def failures(tree):
@@ -181,14 +174,14 @@ def failures(tree):
     wait_a_tick()
     for _ in range(2):
         out, err, status = tree.run("a.sheet")
-        yield "what cannot be proved", (out, status) == ("", 2) and "NOT PROVED" in err and "plan: " in err
+        yield "what cannot be proved", (out, status) == ("", 2) and "not-proved" in err and "plan: " in err
     yield "the program as it is", tree.run("a.sheet", PLAN_BUILD="never") == ("words:a.sheet\n", "", 0)
     (tree.home / "broken").unlink()
     for status in range(4):
         yield "status %d" % status, tree.run("a.sheet", SAYS=str(status))[2] == status
-    for said in ("none", "4", "00", "x"):
+    for said in ("stopped", "4", "126", "255"):
         out, err, status = tree.run("a.sheet", SAYS=said)
-        yield "a program that says %s" % said, status == 2 and err.endswith("could not be run to its end\n")
+        yield "a program that ends with %s" % said, status == 2 and err.endswith("could not be run to its end\n")
     words = [str(tree.root / "plan"), "a.sheet"]
     closed = subprocess.run(["sh", "-c", '"$@" >&-', "sh", *words], stderr=subprocess.PIPE, env=tree.environment, text=True, check=False)
     yield "standard output closed", closed.returncode == 3 and len(closed.stderr.splitlines()) == 1

@@ -4,8 +4,8 @@ ghost use Rattle.std.specs.Prelude.{◌≤◌, length, ◌≡◌};
 ghost use Rattle.sheet_pieces.specs.Steps.{room};
 
 use planner_io::input::{Given, open};
-use planner_io::words::{from_standard_input, is_word, serves, show_word};
-use planner_output::{ACCEPTED, FAILED, REFUSED, complain};
+use planner_io::words::{WORD, from_standard_input, is_word, serves, show_word, take_word};
+use planner_output::{ACCEPTED, FAILED, REFUSED, complain, complain_number};
 use pnet_path::Way;
 use report_path::Reported;
 use text_entry::Entered;
@@ -13,16 +13,16 @@ use units::BitPeriods;
 
 // ---- Words
 
-fn number_at(i: usize) -> Entered {
-    let mut word = io::buffer();
-    let n = os::arg(i, &mut word);
+fn number_at(rt: &HostRuntime, i: usize) -> Entered {
+    let mut word = [0u8; WORD];
+    let n = take_word(rt, i, &mut word);
     text_entry::number(&word[..n])
 }
 
 // A master is a number, or M and two digits, as a report shows it.
-fn master_at(i: usize) -> Entered {
-    let mut word = io::buffer();
-    let n = os::arg(i, &mut word);
+fn master_at(rt: &HostRuntime, i: usize) -> Entered {
+    let mut word = [0u8; WORD];
+    let n = take_word(rt, i, &mut word);
     if (n == 3) & (word[0] == b'M') {
         return text_entry::number(&word[1..3]);
     }
@@ -44,60 +44,67 @@ fn number_of(entered: Entered) -> u32 {
 }
 
 // The master that word i is; none has a number above 255.
-fn sender(i: usize) -> u8 {
-    let n = number_of(master_at(i));
+fn sender(rt: &HostRuntime, i: usize) -> u8 {
+    let n = number_of(master_at(rt, i));
     if n < 255 { n as u8 } else { 255 }
 }
 
 // Word i is what stands there: a number, its unit, any sheet, a master.
-fn fits(i: usize) -> bool {
+fn fits(rt: &HostRuntime, i: usize) -> bool {
     match i % 4 {
-        2 => is_number(number_at(i)),
-        3 => is_word(i, b"bp"),
-        1 => is_number(master_at(i)),
+        2 => is_number(number_at(rt, i)),
+        3 => is_word(rt, i, b"bp"),
+        1 => is_number(master_at(rt, i)),
         _ => true,
     }
 }
 
 // What should stand at word i.
-fn wanted(i: usize) {
+fn wanted(rt: &HostRuntime, i: usize) {
     if i == 2 {
-        complain(b"DEADLINE, a number of decimal digits, with bp as the next word\n");
+        complain(
+            rt,
+            b"DEADLINE, a number of decimal digits, with bp as the next word\n",
+        );
         return;
     }
     match i % 4 {
-        2 => complain(b"TIME, a number of decimal digits, with bp as the next word\n"),
-        3 => complain(b"the unit of the number before it, bp\n"),
-        1 => complain(b"MASTER, as 1 or M01\n"),
-        _ => complain(b"SHEET, a file's name or - for standard input\n"),
+        2 => complain(
+            rt,
+            b"TIME, a number of decimal digits, with bp as the next word\n",
+        ),
+        3 => complain(rt, b"the unit of the number before it, bp\n"),
+        1 => complain(rt, b"MASTER, as 1 or M01\n"),
+        _ => complain(rt, b"SHEET, a file's name or - for standard input\n"),
     }
 }
 
 // Says of word i, counted from the one behind `--path`, what stands there, if it does, and what should.
-fn misplaced(i: usize, count: usize)
+fn misplaced(rt: &HostRuntime, i: usize, count: usize)
     requires { 2 ≤ i }
 {
-    complain(b"planner: --path: word ");
-    io::print_decimal(libc::STDERR_FILENO, (i - 1) as u64);
+    complain(rt, b"planner: --path: word ");
+    complain_number(rt, (i - 1) as u64);
     if i < count {
-        complain(b" is ");
-        show_word(i);
+        complain(rt, b" is ");
+        show_word(rt, i);
     } else {
-        complain(b" is missing");
+        complain(rt, b" is missing");
     }
-    complain(b"; wanted there: ");
-    wanted(i);
+    complain(rt, b"; wanted there: ");
+    wanted(rt, i);
     complain(
+        rt,
         b"planner: --path takes DEADLINE bp, then SHEET MASTER, and for each gateway TIME bp SHEET MASTER\n",
     );
 }
 
 // All words fit, and the fours are whole; else it is said which word is not what stands there.
-fn well_formed(count: usize) -> bool {
+fn well_formed(rt: &HostRuntime, count: usize) -> bool {
     let mut i: usize = 2;
     while i < count {
-        if !fits(i) {
-            misplaced(i, count);
+        if !fits(rt, i) {
+            misplaced(rt, i, count);
             return false;
         }
         i += 1;
@@ -105,19 +112,19 @@ fn well_formed(count: usize) -> bool {
     if (count == 4) | ((count % 4 == 2) & (count > 2)) {
         return true;
     }
-    misplaced(i, count);
+    misplaced(rt, i, count);
     false
 }
 
 // How many of the sheets are to come from standard input.
-fn standard_inputs(segments: usize) -> usize
+fn standard_inputs(rt: &HostRuntime, segments: usize) -> usize
     requires { segments ≤ 4611686018427387903 }
     ensures { result ≤ segments }
 {
     let mut found: usize = 0;
     let mut j: usize = 0;
     while j < segments {
-        found += from_standard_input(4 * j + 4);
+        found += from_standard_input(rt, 4 * j + 4);
         j += 1;
     }
     found
@@ -126,19 +133,18 @@ fn standard_inputs(segments: usize) -> usize
 // ---- The path
 
 // Reads the sheet that word i names, or says why it cannot.
-fn read_sheet(i: usize, sheet: &mut [u8]) -> Given
+fn read_sheet(rt: &HostRuntime, i: usize, sheet: &mut [u8]) -> Given
     requires { room ≡ length sheet.old }
     ensures { result.length ≤ length sheet.old }
 {
-    let mut name = io::buffer();
-    let n = os::arg(i, &mut name);
-    let fd = open(&name[..n]);
-    if fd < 0 {
-        return planner_io::input::failed();
+    let mut name = [0u8; WORD];
+    let n = take_word(rt, i, &mut name);
+    match open(rt, &name[..n]) {
+        Some(mut source) => {
+            planner_io::input::read_sheet(rt, &mut source, &name[..n], sheet, false)
+        }
+        None => planner_io::input::failed(),
     }
-    let given = planner_io::input::read_sheet(fd, &name[..n], sheet, false);
-    libc::close(fd);
-    given
 }
 
 // Goes over one segment more, or ends there where the sheet is a text with a line that is not of the form.
@@ -149,17 +155,17 @@ fn go_on(way: Way, time: BitPeriods, sheet: &[u8], line: usize, master: u8) -> W
     pnet_path::over(way, time, sheet, master)
 }
 
-fn write_report(way: Way, deadline: BitPeriods) -> u8 {
+fn write_report(rt: &HostRuntime, way: Way, deadline: BitPeriods) -> u8 {
     let mut text = report_path::text_buffer();
     match report_path::report(&mut text, way, deadline) {
-        Reported::Accepted(n) => planner_output::report(&text, n, ACCEPTED),
-        Reported::Refused(n) => planner_output::report(&text, n, REFUSED),
+        Reported::Accepted(n) => planner_output::report(rt, &text, n, ACCEPTED),
+        Reported::Refused(n) => planner_output::report(rt, &text, n, REFUSED),
         Reported::NoRoom => FAILED,
     }
 }
 
 // Goes over so many segments, to the end or to the first sheet that is refused, and writes what that shows.
-fn cross(segments: usize, deadline: BitPeriods) -> u8
+fn cross(rt: &HostRuntime, segments: usize, deadline: BitPeriods) -> u8
     requires { segments ≤ 4611686018427387903 }
 {
     let mut way = pnet_path::start();
@@ -167,32 +173,32 @@ fn cross(segments: usize, deadline: BitPeriods) -> u8
     while j < segments {
         let i = 4 * j + 2;
         let mut sheet = sheet_pieces::sheet_buffer();
-        let given = read_sheet(i + 2, &mut sheet);
+        let given = read_sheet(rt, i + 2, &mut sheet);
         if given.failed {
             return FAILED;
         }
         let n = given.length;
-        let time = BitPeriods(number_of(number_at(i)));
-        way = go_on(way, time, &sheet[..n], given.line, sender(i + 3));
+        let time = BitPeriods(number_of(number_at(rt, i)));
+        way = go_on(way, time, &sheet[..n], given.line, sender(rt, i + 3));
         if way.refused {
-            return write_report(way, deadline);
+            return write_report(rt, way, deadline);
         }
         j += 1;
     }
-    write_report(way, deadline)
+    write_report(rt, way, deadline)
 }
 
 // Plans the path that so many words say, the program's name and `--path` among them. `DEADLINE bp` alone is a path of no segment.
-pub(crate) fn plan(count: usize) -> u8 {
-    if !well_formed(count) {
+pub(crate) fn plan(rt: &HostRuntime, count: usize) -> u8 {
+    if !well_formed(rt, count) {
         return FAILED;
     }
     if count < 4 {
         return FAILED;
     }
     let segments = (count - 2) / 4;
-    if !serves(standard_inputs(segments)) {
+    if !serves(rt, standard_inputs(rt, segments)) {
         return FAILED;
     }
-    cross(segments, BitPeriods(number_of(number_at(2))))
+    cross(rt, segments, BitPeriods(number_of(number_at(rt, 2))))
 }

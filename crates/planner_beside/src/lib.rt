@@ -1,9 +1,10 @@
 // A tester's capture beside the bounds of a sheet, by the rule of urgent requests first or by that of first-come queues, read piece by piece: nothing is kept of a capture but what `report_beside::hear` keeps.
 #![tactic(auto)]
+
 ghost use Rattle.report_beside.specs.Whole.{tally};
 ghost use Rattle.report_beside.specs.Kept.{Holds, Shows, Tells};
 
-use planner_io::input::read_all;
+use planner_io::input::{Source, read_all};
 use planner_io::words::fail;
 use planner_output::{ACCEPTED, FAILED, REFUSED, give_up};
 use report_beside::{Begun, Heard, Hearing, Reported};
@@ -14,15 +15,23 @@ use sheet_read::MOST;
 const PIECE: usize = 65_534;
 
 // Writes the report of the sheet beside what was read of the capture.
-fn write(sheet: &[u8], urgent: bool, text: &[u8; MOST_TEXT], n: usize, accepted: bool) -> u8
+fn write(
+    rt: &HostRuntime,
+    sheet: &[u8],
+    urgent: bool,
+    text: &[u8; MOST_TEXT],
+    n: usize,
+    accepted: bool,
+) -> u8
     requires { Tells urgent sheet.now text.now n accepted }
 {
     let status = if accepted { ACCEPTED } else { REFUSED };
-    planner_output::report(text, n, status)
+    planner_output::report(rt, text, n, status)
 }
 
 // The whole capture was heard.
 fn finish(
+    rt: &HostRuntime,
     sheet: &[u8],
     urgent: bool,
     text: &mut [u8; MOST_TEXT],
@@ -40,16 +49,17 @@ fn finish(
     match report_beside::report(
         text, heard, masters, bound, left, answers, largest, above, asked,
     ) {
-        Reported::Clean(n) => write(sheet, urgent, text, n, true),
-        Reported::Faulty(n) => write(sheet, urgent, text, n, false),
+        Reported::Clean(n) => write(rt, sheet, urgent, text, n, true),
+        Reported::Faulty(n) => write(rt, sheet, urgent, text, n, false),
     }
 }
 
-// Hears the capture behind a descriptor to its end or its first refusal, and writes the report.
+// Hears the capture to its end or its first refusal, and writes the report.
 fn listen(
+    rt: &HostRuntime,
     sheet: &[u8],
     urgent: bool,
-    fd: i32,
+    source: &mut Source,
     name: &[u8],
     text: &mut [u8; MOST_TEXT],
     begun: Hearing,
@@ -70,9 +80,9 @@ fn listen(
     let mut heard = begun;
     let mut piece = [0u8; PIECE];
     loop {
-        let input = read_all(fd, &mut piece);
-        if input.failed {
-            fail(name);
+        let input = read_all(source, &mut piece);
+        if let Some(error) = input.failed {
+            fail(rt, name, error);
             return FAILED;
         }
         let n = input.length;
@@ -92,13 +102,16 @@ fn listen(
             lead,
         );
         match told {
-            Heard::Refused(m) => return write(sheet, urgent, text, m, false),
-            Heard::TooLong => return give_up(b"planner: the capture is too long to be counted\n"),
+            Heard::Refused(m) => return write(rt, sheet, urgent, text, m, false),
+            Heard::TooLong => return give_up(
+                rt,
+                b"planner: the capture is too long to be counted\n",
+            ),
             Heard::On(next) => {
                 if n < PIECE {
                     return finish(
-                        sheet, urgent, text, next, masters, bound, left, answers, largest, above,
-                        asked,
+                        rt, sheet, urgent, text, next, masters, bound, left, answers, largest,
+                        above, asked,
                     );
                 }
                 heard = next;
@@ -107,8 +120,14 @@ fn listen(
     }
 }
 
-// Lays the capture behind a descriptor beside the bounds of a sheet.
-pub fn compare(sheet: &[u8], urgent: bool, fd: i32, name: &[u8]) -> u8 {
+// Lays the capture beside the bounds of a sheet.
+pub fn compare(
+    rt: &HostRuntime,
+    sheet: &[u8],
+    urgent: bool,
+    source: &mut Source,
+    name: &[u8],
+) -> u8 {
     let mut text = report_capture::text_buffer();
     let mut masters = [0u8; MOST];
     let mut bound = [0u32; MOST];
@@ -138,11 +157,12 @@ pub fn compare(sheet: &[u8], urgent: bool, fd: i32, name: &[u8]) -> u8 {
         &mut lead,
     );
     match begun {
-        Begun::Refused(n) => write(sheet, urgent, &text, n, false),
+        Begun::Refused(n) => write(rt, sheet, urgent, &text, n, false),
         Begun::On(heard) => listen(
+            rt,
             sheet,
             urgent,
-            fd,
+            source,
             name,
             &mut text,
             heard,

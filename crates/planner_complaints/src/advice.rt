@@ -54,10 +54,10 @@ pub(crate) const BYTES: usize = 14;
 
 pub(crate) const DIGITS: usize = 15;
 
-pub(crate) fn advise(k: usize) {
+pub(crate) fn advise(rt: &HostRuntime, k: usize) {
     if k > 0 {
-        complain(b"planner: ");
-        say(&ADVICE, k);
+        complain(rt, b"planner: ");
+        say(rt, &ADVICE, k);
     }
 }
 

@@ -1,6 +1,7 @@
 // What the program says on standard error of its inputs: bytes that are shown so that no terminal takes them for something else, and what is wrong with a
 // text (`slips`). Nothing here answers anything or changes anything that is lent.
 #![tactic(auto)]
+
 mod advice;
 mod place;
 mod scan;
@@ -35,7 +36,7 @@ fn put_shown(out: &mut [u8], at: usize, byte: u8, greatest: u8) -> usize {
 }
 
 // The bytes of a text from a place on to an end, as far as there are, strange ones by their numbers.
-pub fn show(text: &[u8], from: usize, n: usize, greatest: u8) {
+pub fn show(rt: &HostRuntime, text: &[u8], from: usize, n: usize, greatest: u8) {
     let mut out = [0u8; SHOWN];
     let end = end_of(text.len(), n);
     let mut at: usize = 0;
@@ -45,18 +46,18 @@ pub fn show(text: &[u8], from: usize, n: usize, greatest: u8) {
         i += 1;
     }
     let shown = end_of(SHOWN, at);
-    complain(&out[..shown]);
+    complain(rt, &out[..shown]);
 }
 
 // Begins a line that says something of an input; `-` is standard input.
-pub fn blame(name: &[u8]) {
-    complain(b"planner: ");
+pub fn blame(rt: &HostRuntime, name: &[u8]) {
+    complain(rt, b"planner: ");
     if check::same(name, b"-") {
-        complain(b"standard input: ");
+        complain(rt, b"standard input: ");
         return;
     }
-    show(name, 0, name.len(), 255);
-    complain(b": ");
+    show(rt, name, 0, name.len(), 255);
+    complain(rt, b": ");
 }
 
 // ---- Lists of words, a line for each number from 1 on
@@ -73,10 +74,10 @@ pub(crate) fn start_of(list: &[u8], k: usize) -> usize {
 }
 
 // Line k of a list, with its end.
-pub(crate) fn say(list: &[u8], k: usize) {
+pub(crate) fn say(rt: &HostRuntime, list: &[u8], k: usize) {
     let start = start_of(list, k);
     let end = end_of(list.len(), one_more(find(list, start, b'\n')));
     if start < end {
-        complain(&list[start..end]);
+        complain(rt, &list[start..end]);
     }
 }

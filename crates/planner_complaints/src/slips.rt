@@ -4,8 +4,7 @@ use crate::advice::{advice_on_slip, advice_on_word, advise};
 use crate::place::{cell_at, greatest, slip_in};
 use crate::scan::{byte_at, find, is_blank, is_digit, is_sheet, one_more};
 use crate::{blame, say, show};
-use libc::STDERR_FILENO;
-use planner_output::{complain, end_of};
+use planner_output::{complain, complain_number, end_of};
 use sheet_line::LINE;
 use sheet_read::Reading;
 use sheet_record::record_at;
@@ -56,43 +55,43 @@ const WORD: usize = 8;
 // ---- What is wrong
 
 // Begins a line on the place of a slip, with what stands there to the end of its cell, but a few bytes at most.
-fn show_place(name: &[u8], number: usize, line: &[u8], at: usize) {
-    blame(name);
-    complain(b"line ");
-    io::print_decimal(STDERR_FILENO, number as u64);
-    complain(b", column ");
-    io::print_decimal(STDERR_FILENO, one_more(at) as u64);
+fn show_place(rt: &HostRuntime, name: &[u8], number: usize, line: &[u8], at: usize) {
+    blame(rt, name);
+    complain(rt, b"line ");
+    complain_number(rt, number as u64);
+    complain(rt, b", column ");
+    complain_number(rt, one_more(at) as u64);
     if line.len() <= at {
-        complain(b" is the end of the text");
+        complain(rt, b" is the end of the text");
         return;
     }
     if line[at] == b'\n' {
-        complain(b" is the end of the line");
+        complain(rt, b" is the end of the line");
         return;
     }
-    complain(b" has '");
-    show_cell(line, at);
-    complain(b"'");
+    complain(rt, b" has '");
+    show_cell(rt, line, at);
+    complain(rt, b"'");
 }
 
 const FEW: usize = 24;
 
-fn show_cell(line: &[u8], at: usize) {
+fn show_cell(rt: &HostRuntime, line: &[u8], at: usize) {
     let comma = find(line, one_more(at), b',');
     let end = end_of(comma, find(line, at, b'\n'));
     if at < end {
         if end - at > FEW {
-            show(line, at, at + FEW, 126);
-            complain(b"..");
+            show(rt, line, at, at + FEW, 126);
+            complain(rt, b"..");
             return;
         }
     }
-    show(line, at, end, 126);
+    show(rt, line, at, end, 126);
 }
 
-fn tell_wanted(k: usize) {
-    complain(b"; wanted there: ");
-    say(&WANTED, k);
+fn tell_wanted(rt: &HostRuntime, k: usize) {
+    complain(rt, b"; wanted there: ");
+    say(rt, &WANTED, k);
 }
 
 // Times of this kind are in us, else in bp.
@@ -113,65 +112,66 @@ fn wanted_by(kind: u8, byte: u8) -> usize {
     }
 }
 
-fn tell_form(kind: u8) {
-    complain(b"planner: the form of that line: ");
-    say(&FORMS, kind as usize);
+fn tell_form(rt: &HostRuntime, kind: u8) {
+    complain(rt, b"planner: the form of that line: ");
+    say(rt, &FORMS, kind as usize);
 }
 
 // The unit of a cell's number, if it has one: masters, identifiers and editions stand first and have none.
-fn say_unit(kind: u8, cell: usize) {
+fn say_unit(rt: &HostRuntime, kind: u8, cell: usize) {
     if (cell == 1) & (kind != 5) {
         return;
     }
     if is_in_us(kind) {
-        complain(b" us");
+        complain(rt, b" us");
         return;
     }
-    complain(b" bp");
+    complain(rt, b" bp");
 }
 
 // ---- A line that is not of the form
 
-fn tell_word(name: &[u8], number: usize, line: &[u8]) {
-    show_place(name, number, line, 0);
-    tell_wanted(WORD);
+fn tell_word(rt: &HostRuntime, name: &[u8], number: usize, line: &[u8]) {
+    show_place(rt, name, number, line, 0);
+    tell_wanted(rt, WORD);
     complain(
+        rt,
         b"planner: pnet-segment, pnet-stream, profibus-stream, worldfip-exchange, worldfip-variable, pnet-jitter-stream, pnet-edition, profibus-ring, profibus-message\n",
     );
-    advise(advice_on_word(line));
+    advise(rt, advice_on_word(line));
 }
 
-fn tell_big(name: &[u8], number: usize, line: &[u8], kind: u8, at: usize) {
-    show_place(name, number, line, at);
-    complain(b"; a number too big for its field, at most ");
+fn tell_big(rt: &HostRuntime, name: &[u8], number: usize, line: &[u8], kind: u8, at: usize) {
+    show_place(rt, name, number, line, at);
+    complain(rt, b"; a number too big for its field, at most ");
     let cell = cell_at(line, at);
-    io::print_decimal(STDERR_FILENO, greatest(kind, cell.number));
-    say_unit(kind, cell.number);
-    complain(b" there\n");
-    tell_form(kind);
+    complain_number(rt, greatest(kind, cell.number));
+    say_unit(rt, kind, cell.number);
+    complain(rt, b" there\n");
+    tell_form(rt, kind);
 }
 
-fn tell_slip(name: &[u8], number: usize, line: &[u8], kind: u8) {
+fn tell_slip(rt: &HostRuntime, name: &[u8], number: usize, line: &[u8], kind: u8) {
     let slip = slip_in(line, kind);
     let at = slip.at;
     let wanted = slip.wanted;
     if wanted == 0 {
-        tell_big(name, number, line, kind, at);
+        tell_big(rt, name, number, line, kind, at);
         return;
     }
-    show_place(name, number, line, at);
-    tell_wanted(wanted_by(kind, wanted));
-    tell_form(kind);
-    advise(advice_on_slip(line, slip));
+    show_place(rt, name, number, line, at);
+    tell_wanted(rt, wanted_by(kind, wanted));
+    tell_form(rt, kind);
+    advise(rt, advice_on_slip(line, slip));
 }
 
 // Says of a line, by its number, why it is not of the form; of a long one its front is enough.
-pub fn of_line(name: &[u8], number: usize, line: &[u8]) {
+pub fn of_line(rt: &HostRuntime, name: &[u8], number: usize, line: &[u8]) {
     let kind = kind_in(line);
     if kind == 0 {
-        tell_word(name, number, line);
+        tell_word(rt, name, number, line);
     } else {
-        tell_slip(name, number, line, kind);
+        tell_slip(rt, name, number, line, kind);
     }
 }
 
@@ -196,23 +196,26 @@ fn line_of_byte(s: &[u8], place: usize) -> usize {
     line
 }
 
-fn tell_byte(name: &[u8], s: &[u8], place: usize) {
-    blame(name);
-    complain(b"byte ");
-    io::print_decimal(STDERR_FILENO, place as u64);
+fn tell_byte(rt: &HostRuntime, name: &[u8], s: &[u8], place: usize) {
+    blame(rt, name);
+    complain(rt, b"byte ");
+    complain_number(rt, place as u64);
     if s.len() <= place {
-        complain(b" is where the sheet ends, behind the last line of the text\n");
+        complain(
+            rt,
+            b" is where the sheet ends, behind the last line of the text\n",
+        );
         return;
     }
-    complain(b" of the sheet is line ");
-    io::print_decimal(STDERR_FILENO, line_of_byte(s, place) as u64);
-    complain(b" of the text\n");
+    complain(rt, b" of the sheet is line ");
+    complain_number(rt, line_of_byte(s, place) as u64);
+    complain(rt, b" of the text\n");
 }
 
 // Says of the sheet that a text stands for, if its reading is refused, which line that is.
-pub fn of_sheet(name: &[u8], s: &[u8]) {
+pub fn of_sheet(rt: &HostRuntime, name: &[u8], s: &[u8]) {
     match sheet_read::read(s) {
-        Reading::Refused { no: _, place } => tell_byte(name, s, place),
+        Reading::Refused { no: _, place } => tell_byte(rt, name, s, place),
         Reading::Accepted {
             head: _,
             streams: _,
@@ -246,20 +249,23 @@ fn may_begin(line: &[u8]) -> bool {
 }
 
 // Says of a first line that looks like a text's what it lacks.
-fn tell_first(name: &[u8], line: &[u8]) {
+fn tell_first(rt: &HostRuntime, name: &[u8], line: &[u8]) {
     if may_begin(line) & all_shown(line) {
-        blame(name);
-        complain(b"taken for bytes, as it does not begin with a word and a comma\n");
-        tell_word(name, 1, line);
+        blame(rt, name);
+        complain(
+            rt,
+            b"taken for bytes, as it does not begin with a word and a comma\n",
+        );
+        tell_word(rt, name, 1, line);
     }
 }
 
 // The same of a sheet that was taken for bytes and begins with no record.
-pub fn of_bytes(name: &[u8], s: &[u8]) {
+pub fn of_bytes(rt: &HostRuntime, name: &[u8], s: &[u8]) {
     if is_sheet(s) {
         return;
     }
     let front = end_of(LINE, one_more(find(s, 0, b'\n')));
     let end = end_of(s.len(), front);
-    tell_first(name, &s[..end]);
+    tell_first(rt, name, &s[..end]);
 }

@@ -2,6 +2,7 @@
 // where no program is built yet, and has it from here: a string ends with a line that begins with the quotation mark, and the help is all of
 // them in the order of this file, but for the version.
 use planner_output::{complain, put};
+use std::io;
 
 // The version of the project.
 const VERSION: [u8; 15] = *b"planner 1.10.0
@@ -32,18 +33,19 @@ pub(crate) const COMMANDS: [u8; 666] =
 --                                                       ends the options
 ";
 
-pub fn version() -> bool {
-    put(&VERSION)
+pub fn version(rt: &HostRuntime) -> io::Result<()> {
+    put(rt, &VERSION)
 }
 
 // How the program is called, for whoever named no sheet.
-pub fn usage() {
-    complain(&USAGE);
-    complain(&COMMANDS);
+pub fn usage(rt: &HostRuntime) {
+    complain(rt, &USAGE);
+    complain(rt, &COMMANDS);
 }
 
-fn statuses() -> bool {
+fn statuses(rt: &HostRuntime) -> io::Result<()> {
     put(
+        rt,
         b"
 Exit status:
 
@@ -56,8 +58,9 @@ Exit status:
     )
 }
 
-fn kinds() -> bool {
+fn kinds(rt: &HostRuntime) -> io::Result<()> {
     put(
+        rt,
         b"
 A sheet is a row of records: one byte of kind, then a body. Numbers are
 big-endian.
@@ -83,8 +86,9 @@ kind  body  fields, each with its bytes and its range
     )
 }
 
-fn rules() -> bool {
+fn rules(rt: &HostRuntime) -> io::Result<()> {
     put(
+        rt,
         b"
 The first record is 1, 3, 5 or 9; all later ones are 2 or 7, 4 or 6 to match,
 but one of kind 8 may stand just behind kind 1, and one of kind 10 for each
@@ -105,8 +109,9 @@ are at least T apart.
     )
 }
 
-fn texts() -> bool {
+fn texts(rt: &HostRuntime) -> io::Result<()> {
     put(
+        rt,
         b"
 A sheet may be given as a text too, wherever SHEET stands. A text begins with
 one of these words and a comma, and has one record a line:
@@ -141,8 +146,9 @@ Copy cells there, do not drag them: dragging counts up, 203 bp becomes 204 bp.
     )
 }
 
-fn figures() -> bool {
+fn figures(rt: &HostRuntime) -> io::Result<()> {
     put(
+        rt,
         b"
 A P-NET report has a line for each master with streams. bound: each of its
 requests is answered within it, if that master keeps its spacing, however often
@@ -152,8 +158,9 @@ in bp and in ns, rounded up. rounds: of the search for refined.
     )
 }
 
-fn urgents() -> bool {
+fn urgents(rt: &HostRuntime) -> io::Result<()> {
     put(
+        rt,
         b"
 --urgent plans a P-NET sheet whose masters send urgent requests first: of what
 waits at a master, the request of the smallest deadline, and of equal ones that
@@ -176,8 +183,9 @@ refilled while a message is under way the figure does not hold.
     )
 }
 
-fn captures() -> bool {
+fn captures(rt: &HostRuntime) -> io::Result<()> {
     put(
+        rt,
         b"
 A capture is a row of records of its own: one byte of kind, 16 for a request
 that enters its queue or 17 for its completed answer, then the stream's number
@@ -193,8 +201,9 @@ answer at all. Ages and gaps are true while records follow each other within
     )
 }
 
-fn paths() -> bool {
+fn paths(rt: &HostRuntime) -> io::Result<()> {
     put(
+        rt,
         b"
 A path has 1 to 10 gateways and a sheet for each segment. MASTER sends there,
 after the first segment the gateway: the relayed stream stands in every sheet,
@@ -209,8 +218,9 @@ token on its way back.
     )
 }
 
-fn refusals() -> bool {
+fn refusals(rt: &HostRuntime) -> io::Result<()> {
     put(
+        rt,
         b"
 A sheet that cannot be planned is refused with a number and a place:
 
@@ -235,17 +245,26 @@ What is wrong with a text is said on standard error too.
     )
 }
 
+// Two parts that were written one behind the other, and the last error of both; each is tried, whatever became of the one before.
+fn both(first: io::Result<()>, second: io::Result<()>) -> io::Result<()> {
+    second.and(first)
+}
+
 // What a sheet is.
-fn sheets() -> bool {
-    kinds() & rules() & texts()
+fn sheets(rt: &HostRuntime) -> io::Result<()> {
+    both(both(kinds(rt), rules(rt)), texts(rt))
 }
 
 // What the reports show.
-fn reports() -> bool {
-    figures() & urgents() & captures() & paths()
+fn reports(rt: &HostRuntime) -> io::Result<()> {
+    both(
+        both(both(figures(rt), urgents(rt)), captures(rt)),
+        paths(rt),
+    )
 }
 
-// All of it; whether it was written whole.
-pub fn help() -> bool {
-    put(&USAGE) & put(&COMMANDS) & statuses() & sheets() & reports() & refusals()
+// All of it; whether it was written whole, or why not.
+pub fn help(rt: &HostRuntime) -> io::Result<()> {
+    let front = both(both(put(rt, &USAGE), put(rt, &COMMANDS)), statuses(rt));
+    both(both(both(front, sheets(rt)), reports(rt)), refusals(rt))
 }

@@ -3,101 +3,132 @@ ghost use Rattle.std.specs.Prelude.{◌≡◌, ◌≤◌, ◌<◌, length};
 
 use crate::help::COMMANDS;
 use planner_complaints::show;
-use planner_output::{complain, give_up};
+use planner_output::{complain, complain_of, give_up};
+use std::env::{Env, FillError};
+use std::io;
+use std::os::fd::AsFd;
+
+// So many bytes hold any name of a file.
+pub const WORD: usize = 4096;
+
+// The system's number for an error: what should be open is closed.
+const CLOSED: i32 = 9;
 
 // Says of which input a call failed, and why; `-` is standard input.
-pub fn fail(name: &[u8]) {
-    complain(b"planner: ");
+pub fn fail(rt: &HostRuntime, name: &[u8], error: io::Error) {
+    complain(rt, b"planner: ");
     if check::same(name, b"-") {
-        os::fail(b"standard input");
+        complain(rt, b"standard input");
+        complain_of(rt, error);
         return;
     }
-    show(name, 0, name.len(), 255);
-    os::fail(b"");
+    show(rt, name, 0, name.len(), 255);
+    complain_of(rt, error);
+}
+
+// How many words the program was called with, its own name among them.
+pub fn count(rt: &HostRuntime) -> usize {
+    for i in 0..usize::MAX {
+        if let Err(FillError::NotPresent) = rt.arg(i, &mut []) {
+            return i;
+        }
+    }
+    usize::MAX
+}
+
+// Puts word i at the start of a buffer and answers its length, 0 where there is none or it is longer than the buffer.
+pub fn take_word(rt: &HostRuntime, i: usize, word: &mut [u8]) -> usize
+    ensures { result ≤ length word.new }
+{
+    rt.arg(i, word).unwrap_or(0)
 }
 
 // Word i on standard error; of one that is longer than a file's name can be, the first 60 bytes.
-pub fn show_word(i: usize) {
-    let mut word = io::buffer();
-    let n = os::arg(i, &mut word);
-    if os::errno() == libc::ENAMETOOLONG {
-        show(&word, 0, 60, 255);
-        complain(b"..");
-        return;
+pub fn show_word(rt: &HostRuntime, i: usize) {
+    let mut word = [0u8; WORD];
+    match rt.arg(i, &mut word) {
+        Ok(n) => show(rt, &word, 0, n, 255),
+        Err(FillError::TooLong) => {
+            show(rt, &word, 0, 60, 255);
+            complain(rt, b"..");
+        }
+        Err(FillError::NotPresent) => {}
     }
-    show(&word, 0, n, 255);
 }
 
 // ---- What a word is
 
-pub fn is_word(i: usize, text: &[u8]) -> bool {
-    let mut word = io::buffer();
-    let n = os::arg(i, &mut word);
+pub fn is_word(rt: &HostRuntime, i: usize, text: &[u8]) -> bool {
+    let mut word = [0u8; WORD];
+    let n = take_word(rt, i, &mut word);
     check::same(&word[..n], text)
 }
 
 // It begins as an option does, and is not `-`.
-pub fn is_option(i: usize) -> bool {
-    let mut word = io::buffer();
-    let n = os::arg(i, &mut word);
-    if os::errno() == libc::ENAMETOOLONG {
-        return word[0] == b'-';
+pub fn is_option(rt: &HostRuntime, i: usize) -> bool {
+    let mut word = [0u8; WORD];
+    match rt.arg(i, &mut word) {
+        Ok(n) => (n > 1) & (word[0] == b'-'),
+        Err(FillError::TooLong) => word[0] == b'-',
+        Err(FillError::NotPresent) => false,
     }
-    (n > 1) & (word[0] == b'-')
 }
 
 // 1 where word i stands for standard input, else 0.
-pub fn from_standard_input(i: usize) -> usize
+pub fn from_standard_input(rt: &HostRuntime, i: usize) -> usize
     ensures { result ≤ 1 }
 {
-    if is_word(i, b"-") { 1 } else { 0 }
+    if is_word(rt, i, b"-") { 1 } else { 0 }
 }
 
 // How many of two words stand for standard input; one word may be given as both.
-pub fn standard_inputs(first: usize, last: usize) -> usize
+pub fn standard_inputs(rt: &HostRuntime, first: usize, last: usize) -> usize
     ensures { result ≤ 2 }
 {
     if first == last {
-        return from_standard_input(first);
+        return from_standard_input(rt, first);
     }
-    from_standard_input(first) + from_standard_input(last)
+    from_standard_input(rt, first) + from_standard_input(rt, last)
 }
 
 // Standard input serves for so many words; else it is said why it does not. Ask before a file is opened: the first that is opened where
 // standard input is closed gets its number.
-pub fn serves(inputs: usize) -> bool {
+pub fn serves(rt: &HostRuntime, inputs: usize) -> bool {
     if inputs == 0 {
         return true;
     }
     if inputs > 1 {
         complain(
+            rt,
             b"planner: standard input serves for one word, and - stands for it twice or more\n",
         );
         return false;
     }
-    if (libc::isatty(libc::STDIN_FILENO) == 0) & (os::errno() == libc::EBADF) {
-        fail(b"-");
-        return false;
+    match rt.stdin().as_fd().try_clone_to_owned() {
+        Err(error) if error.raw_os_error() == Some(CLOSED) => {
+            fail(rt, b"-", error);
+            false
+        }
+        _ => true,
     }
-    true
 }
 
 // Says that a word is too long for a name.
-pub fn too_long(i: usize) -> u8
+pub fn too_long(rt: &HostRuntime, i: usize) -> u8
     ensures { result ≡ 50 }
 {
-    complain(b"planner: ");
-    show_word(i);
-    give_up(b": longer than a file's name can be\n")
+    complain(rt, b"planner: ");
+    show_word(rt, i);
+    give_up(rt, b": longer than a file's name can be\n")
 }
 
 // Says that an option is none.
-pub fn unknown(i: usize) -> u8
+pub fn unknown(rt: &HostRuntime, i: usize) -> u8
     ensures { result ≡ 50 }
 {
-    complain(b"planner: unknown option ");
-    show_word(i);
-    give_up(b"; planner --help lists them\n")
+    complain(rt, b"planner: unknown option ");
+    show_word(rt, i);
+    give_up(rt, b"; planner --help lists them\n")
 }
 
 // ---- Commands
@@ -144,8 +175,8 @@ fn line_of(list: &[u8], word: &[u8]) -> usize {
 }
 
 // The number of the command that word i is, 0 if it is none.
-pub fn command(i: usize) -> usize {
-    let mut word = io::buffer();
-    let n = os::arg(i, &mut word);
+pub fn command(rt: &HostRuntime, i: usize) -> usize {
+    let mut word = [0u8; WORD];
+    let n = take_word(rt, i, &mut word);
     line_of(&COMMANDS, &word[..n])
 }

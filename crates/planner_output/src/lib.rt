@@ -1,9 +1,13 @@
-// What the program writes and how a call ends: a finished text to standard output, words to standard error, and how it ended to descriptor 3, as one byte, from
-// which whoever started the program makes an exit status.
+// What the program writes and how a call ends: a finished text to standard output, words to standard error, and how it ended as one byte, from
+// which `main` makes the exit status.
 #![tactic(auto)]
-ghost use Rattle.std.specs.Prelude.{◌≡◌, cond, ◌⊎◌, min};
 
-use libc::{STDERR_FILENO, STDOUT_FILENO};
+ghost use Rattle.std.specs.Prelude.{◌≡◌, ◌-◌, ◌≤◌, cond, ◌⊎◌, length, min, is_ok};
+ghost use Rattle.std.specs.Process.{exit_status};
+
+use std::fmt::InlineText;
+use std::io;
+use std::process::ExitCode;
 
 // How a call of the program ends, as the digit that it says: a byte from 48 to 51.
 pub const ACCEPTED: u8 = b'0';
@@ -14,23 +18,43 @@ pub const FAILED: u8 = b'2';
 
 const UNWRITTEN: u8 = b'3';
 
-const STATUS_FILENO: i32 = 3;
-
-// Says how the call ended, to whoever listens.
-pub fn end(status: u8) {
-    let said = [status];
-    io::write_all(STATUS_FILENO, &said);
+// Says how the call ended, to whoever started it: the digit's number is the exit status.
+pub fn end(status: u8) -> ExitCode
+    ensures { exit_status result ≡ status - 48 }
+{
+    ExitCode::from(status.saturating_sub(ACCEPTED))
 }
 
-pub fn complain(words: &[u8]) {
-    io::write_all(STDERR_FILENO, words);
+pub fn complain(rt: &HostRuntime, words: &[u8]) {
+    let _ = rt.stderr().write_all(words);
+}
+
+// A number among the words, in decimal digits.
+pub fn complain_number(rt: &HostRuntime, n: u64) {
+    let _ = eprint!(rt; "{n}");
+}
+
+// What stands behind the system's words for an error, before its number.
+const NUMBER: &str = " (os error ";
+
+// Ends a line on what failed with why it did, in the system's words.
+pub fn complain_of(rt: &HostRuntime, error: io::Error) {
+    let text = InlineText::<128>::of(error);
+    let words = text.as_str();
+    let shown = match words.rfind(NUMBER) {
+        Some(end) => &words[..end],
+        None => words,
+    };
+    complain(rt, b": ");
+    complain(rt, shown.as_bytes());
+    complain(rt, b"\n");
 }
 
 // Says last why a call fails, and answers how it ends.
-pub fn give_up(words: &[u8]) -> u8
+pub fn give_up(rt: &HostRuntime, words: &[u8]) -> u8
     ensures { result ≡ 50 }
 {
-    complain(words);
+    complain(rt, words);
     FAILED
 }
 
@@ -41,45 +65,47 @@ pub fn end_of(length: usize, n: usize) -> usize
     if n < length { n } else { length }
 }
 
-// Writes the first n bytes of a text, or all where it has fewer, and answers whether all of them went out.
-fn put_first(fd: i32, text: &[u8], n: usize) -> bool {
+// Writes the first n bytes of a text, or all where it has fewer, and answers whether all of them went out, or why not.
+fn put_first(to: &impl Print, text: &[u8], n: usize) -> io::Result<()> {
     let end = end_of(text.len(), n);
-    io::write_all(fd, &text[..end])
+    to.write_all(&text[..end])
 }
 
-pub fn put(text: &[u8]) -> bool {
-    io::write_all(STDOUT_FILENO, text)
+pub fn put(rt: &HostRuntime, text: &[u8]) -> io::Result<()> {
+    rt.stdout().write_all(text)
 }
 
 // Writes a refusal's line.
-pub fn put_refusal(fd: i32, no: u8, place: usize) -> bool {
+pub fn put_refusal(to: &impl Print, no: u8, place: usize) -> io::Result<()> {
     let mut text = [0u8; 64];
     let n = report_phrases::put_refusal(&mut text, 0, no, place as u64);
-    put_first(fd, &text, n)
+    put_first(to, &text, n)
 }
 
 // How a call ends whose report went out whole, or did not.
-pub fn unless_cut(whole: bool, status: u8) -> u8
-    ensures { result ≡ cond whole status 51 }
+pub fn unless_cut(rt: &HostRuntime, whole: io::Result<()>, status: u8) -> u8
+    ensures { result ≡ cond (is_ok whole) status 51 }
 {
-    if whole {
-        return status;
+    match whole {
+        Ok(()) => status,
+        Err(error) => {
+            complain(rt, b"planner: standard output");
+            complain_of(rt, error);
+            UNWRITTEN
+        }
     }
-    complain(b"planner: ");
-    os::fail(b"standard output");
-    UNWRITTEN
 }
 
 // Writes a finished report, the first n bytes of a text, and answers how the call ends.
-pub fn report(text: &[u8], n: usize, status: u8) -> u8
+pub fn report(rt: &HostRuntime, text: &[u8], n: usize, status: u8) -> u8
     ensures { result ≡ status ⊎ result ≡ 51 }
 {
-    unless_cut(put_first(STDOUT_FILENO, text, n), status)
+    unless_cut(rt, put_first(&rt.stdout(), text, n), status)
 }
 
 // Reports a text that is refused: this line of it is not of the form.
-pub fn bad_line(line: usize) -> u8
+pub fn bad_line(rt: &HostRuntime, line: usize) -> u8
     ensures { result ≡ 49 ⊎ result ≡ 51 }
 {
-    unless_cut(put_refusal(STDOUT_FILENO, 23, line), REFUSED)
+    unless_cut(rt, put_refusal(&rt.stdout(), 23, line), REFUSED)
 }

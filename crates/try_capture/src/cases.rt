@@ -11,7 +11,7 @@ fn places(b: u8) -> usize
 }
 
 // Lends the first places of the four runs: so many of each.
-fn try_whole(s: &[u8], c: &[u8], a: usize, b: usize, d: usize, e: usize)
+fn try_whole(rt: &HostRuntime, s: &[u8], c: &[u8], a: usize, b: usize, d: usize, e: usize)
     requires { (a ≤ 255) × (b ≤ 255) × (d ≤ 255) × (e ≤ 255) }
 {
     let mut answers = [170u64; 800];
@@ -26,17 +26,17 @@ fn try_whole(s: &[u8], c: &[u8], a: usize, b: usize, d: usize, e: usize)
         &mut above[..d],
         &mut left[..e],
     );
-    let n = say_plan(plan);
-    say_figures(n, 170, &answers, &largest, &above, &left);
+    let n = say_plan(rt, plan);
+    say_figures(rt, n, 170, &answers, &largest, &above, &left);
 }
 
 // The places of the four runs, and the bytes of a piece.
-pub(crate) fn try_case(s: &[u8], c: &[u8], room: &[u8; 5]) {
+pub(crate) fn try_case(rt: &HostRuntime, s: &[u8], c: &[u8], room: &[u8; 5]) {
     let a = places(room[0]);
     let b = places(room[1]);
     let d = places(room[2]);
     let e = places(room[3]);
-    try_whole(s, c, a, b, d, e);
-    say(b"\n  in pieces");
-    try_pieces(s, c, places(room[4]));
+    try_whole(rt, s, c, a, b, d, e);
+    say(rt, b"\n  in pieces");
+    try_pieces(rt, s, c, places(room[4]));
 }

@@ -19,33 +19,33 @@ fn find(line: &[u8], from: usize, mark: u8) -> usize
     i
 }
 
-fn try_parts(sheet: &[u8], seen: &[u8], given: &[u8]) {
+fn try_parts(rt: &HostRuntime, sheet: &[u8], seen: &[u8], given: &[u8]) {
     let mut s = [0u8; 1024];
     let mut c = [0u8; 1024];
     let mut room = [7u8; 5];
     let n = text_hex::put_bytes(&mut s, sheet);
     let m = text_hex::put_bytes(&mut c, seen);
     text_hex::put_bytes(&mut room, given);
-    try_case(&s[..n], &c[..m], &room);
+    try_case(rt, &s[..n], &c[..m], &room);
 }
 
-fn try_line(line: &[u8]) {
+fn try_line(rt: &HostRuntime, line: &[u8]) {
     let a = find(line, 0, b':');
     let b = find(line, a, b'|');
     let d = find(line, b, b';');
-    say(&line[..a]);
+    say(rt, &line[..a]);
     if b < line.len() {
-        try_parts(&line[a..b], &line[b..d], &line[d..]);
+        try_parts(rt, &line[a..b], &line[b..d], &line[d..]);
     }
-    say(b"\n");
+    say(rt, b"\n");
 }
 
-pub(crate) fn try_lines(text: &[u8]) {
+pub(crate) fn try_lines(rt: &HostRuntime, text: &[u8]) {
     let mut start: usize = 0;
     let mut i: usize = 0;
     while i < text.len() {
         if text[i] == b'\n' {
-            try_line(&text[start..i]);
+            try_line(rt, &text[start..i]);
             start = i + 1;
         }
         i += 1;

@@ -18,6 +18,7 @@ fn end_of(len: usize, at: usize, size: usize) -> usize
 
 // Takes a capture in pieces of this size, and says a refusal, with its place in the capture; whether all is taken.
 fn take_by(
+    rt: &HostRuntime,
     c: &[u8],
     size: usize,
     streams: usize,
@@ -42,7 +43,7 @@ fn take_by(
             above,
         );
         if let Taken::Refused { no, place } = taken {
-            say_refused(no, std::num::wrapping_add_usize(at, place));
+            say_refused(rt, no, std::num::wrapping_add_usize(at, place));
             return false;
         }
         at = end;
@@ -71,6 +72,7 @@ fn follow_by(
 
 // What the clock says of it.
 fn try_watch(
+    rt: &HostRuntime,
     c: &[u8],
     size: usize,
     n: usize,
@@ -84,12 +86,13 @@ fn try_watch(
     let mut late = [170u64; 800];
     let w = follow_by(c, size, spacing, jitter, &mut asked, &mut lead);
     capture_watch::overdue(w, bound, left, &asked, &mut late);
-    say_watch(w);
-    say_run(b"; overdue", n, &late);
+    say_watch(rt, w);
+    say_run(rt, b"; overdue", n, &late);
 }
 
 // Its figures, beside the bounds of a sheet that is accepted; behind a refused piece, those of the pieces before.
 fn try_takes(
+    rt: &HostRuntime,
     c: &[u8],
     size: usize,
     n: usize,
@@ -103,6 +106,7 @@ fn try_takes(
     let mut largest = [0u32; 800];
     let mut above = [0u64; 800];
     let all = take_by(
+        rt,
         c,
         size,
         n,
@@ -113,21 +117,21 @@ fn try_takes(
         &mut largest,
         &mut above,
     );
-    say_figures(n, 0, &answers, &largest, &above, &left);
+    say_figures(rt, n, 0, &answers, &largest, &above, &left);
     if all {
-        try_watch(c, size, n, bound, spacing, jitter, &left);
+        try_watch(rt, c, size, n, bound, spacing, jitter, &left);
     }
 }
 
 // The sheet's refusal, or what the capture shows beside it.
-pub(crate) fn try_pieces(s: &[u8], c: &[u8], size: usize) {
+pub(crate) fn try_pieces(rt: &HostRuntime, s: &[u8], c: &[u8], size: usize) {
     let mut masters = [0u8; 800];
     let mut bound = [0u32; 800];
     let mut spacing = [0u32; 800];
     let mut jitter = [0u32; 800];
     let plan = pnet_bounds::bounds(s, 800, &mut masters, &mut bound, &mut spacing, &mut jitter);
-    let n = say_plan(plan);
+    let n = say_plan(rt, plan);
     if n != 0 {
-        try_takes(c, size, n, &bound, &spacing, &jitter);
+        try_takes(rt, c, size, n, &bound, &spacing, &jitter);
     }
 }

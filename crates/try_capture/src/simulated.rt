@@ -2,7 +2,7 @@
 use crate::words::{say, say_run, say_with};
 
 // When each stream's answer is completed, if all ask at the instant 0, when the token has just left master k.
-fn run(k: u8) {
+fn run(rt: &HostRuntime, k: u8) {
     let cycle = [203u16; 8];
     let mut done = [0u64; 800];
     pnet_simulate::simulate(
@@ -13,15 +13,15 @@ fn run(k: u8) {
         8,
         &mut done,
     );
-    say_with(b"the token has just left M0", k as u64);
-    say_run(b", completed at", 8, &done);
-    say(b"\n");
+    say_with(rt, b"the token has just left M0", k as u64);
+    say_run(rt, b", completed at", 8, &done);
+    say(rt, b"\n");
 }
 
 // Each master in its turn is the one that the token has just left.
-pub(crate) fn runs() {
-    run(1);
-    run(2);
-    run(3);
-    run(4);
+pub(crate) fn runs(rt: &HostRuntime) {
+    run(rt, 1);
+    run(rt, 2);
+    run(rt, 3);
+    run(rt, 4);
 }

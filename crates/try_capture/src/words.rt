@@ -1,57 +1,65 @@
 // What the program says.
 use capture_ages::Watch;
-use libc::STDOUT_FILENO;
 use pnet_plan::Plan;
 
-pub(crate) fn say(text: &[u8]) {
-    io::write_all(STDOUT_FILENO, text);
+pub(crate) fn say(rt: &HostRuntime, text: &[u8]) {
+    let _ = rt.write_all(text);
 }
 
-pub(crate) fn say_with(text: &[u8], n: u64) {
-    say(text);
-    io::print_decimal(STDOUT_FILENO, n);
+pub(crate) fn say_with(rt: &HostRuntime, text: &[u8], n: u64) {
+    say(rt, text);
+    let _ = print!(rt; "{n}");
 }
 
-pub(crate) fn say_refused(no: u8, place: usize) {
-    say_with(b"; refused ", no as u64);
-    say_with(b" at ", place as u64);
+pub(crate) fn say_refused(rt: &HostRuntime, no: u8, place: usize) {
+    say_with(rt, b"; refused ", no as u64);
+    say_with(rt, b" at ", place as u64);
 }
 
 // Says a refusal, and answers the number of streams, 0 on a refusal.
-pub(crate) fn say_plan(p: Plan) -> usize {
+pub(crate) fn say_plan(rt: &HostRuntime, p: Plan) -> usize {
     match p {
         Plan::Accepted {
             masters: _,
             streams,
         } => streams,
         Plan::Refused { no, place } => {
-            say_refused(no, place);
+            say_refused(rt, no, place);
             0
         }
     }
 }
 
-fn say_stream(answers: u64, largest: u32, above: u64, left: u8) {
-    say_with(b"; answers ", answers);
-    say_with(b" largest ", largest as u64);
-    say_with(b" bp above ", above);
-    say_with(b" open ", left as u64);
+fn say_stream(rt: &HostRuntime, answers: u64, largest: u32, above: u64, left: u8) {
+    say_with(rt, b"; answers ", answers);
+    say_with(rt, b" largest ", largest as u64);
+    say_with(rt, b" bp above ", above);
+    say_with(rt, b" open ", left as u64);
 }
 
 // A place of the four runs that holds a stream's figures; another one holds what it held before.
-fn say_place(shown: bool, before: u8, answers: u64, largest: u32, above: u64, left: u8) {
+fn say_place(
+    rt: &HostRuntime,
+    shown: bool,
+    before: u8,
+    answers: u64,
+    largest: u32,
+    above: u64,
+    left: u8,
+) {
     if shown {
-        say_stream(answers, largest, above, left);
+        say_stream(rt, answers, largest, above, left);
         return;
     }
     let same = (answers == before as u64) & (largest == before as u32);
     if !(same & (above == before as u64) & (left == before)) {
-        say(b"; CHANGED");
+        say(rt, b"; CHANGED");
     }
 }
 
 // The figures of the first n streams, in runs each of whose places held this before.
 pub(crate) fn say_figures(
+    rt: &HostRuntime,
     n: usize,
     before: u8,
     answers: &[u64; 800],
@@ -61,27 +69,27 @@ pub(crate) fn say_figures(
 ) {
     let mut i: usize = 0;
     while i < 800 {
-        say_place(i < n, before, answers[i], largest[i], above[i], left[i]);
+        say_place(rt, i < n, before, answers[i], largest[i], above[i], left[i]);
         i += 1;
     }
 }
 
 // What the clock says.
-pub(crate) fn say_watch(w: Watch) {
+pub(crate) fn say_watch(rt: &HostRuntime, w: Watch) {
     if w.broken {
-        say(b"; broken");
+        say(rt, b"; broken");
     }
-    say_with(b"; soon ", w.soon);
-    say_with(b" first ", w.whose as u64);
+    say_with(rt, b"; soon ", w.soon);
+    say_with(rt, b" first ", w.whose as u64);
 }
 
 // The first n places of a run, behind a text.
-pub(crate) fn say_run(text: &[u8], n: usize, run: &[u64; 800]) {
-    say(text);
+pub(crate) fn say_run(rt: &HostRuntime, text: &[u8], n: usize, run: &[u64; 800]) {
+    say(rt, text);
     let mut i: usize = 0;
     while i < 800 {
         if i < n {
-            say_with(b" ", run[i]);
+            say_with(rt, b" ", run[i]);
         }
         i += 1;
     }

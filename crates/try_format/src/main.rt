@@ -3,43 +3,44 @@
 // left out at the end is 0. The line that is written for it has these numbers in decimal digits, the answer, and the buffer after the call, where
 // ee is a byte that keeps what it had.
 #![tactic(auto)]
-ghost use Rattle.std.specs.Prelude.{◌≤◌};
 
-use libc::{STDIN_FILENO, STDOUT_FILENO};
+ghost use Rattle.std.specs.Prelude.{◌≤◌, length};
+
 use sheet_record::Record;
 use sheet_write::Put;
+use std::io::Read;
 
-fn say(text: &[u8]) {
-    io::write_all(STDOUT_FILENO, text);
+fn say(rt: &HostRuntime, text: &[u8]) {
+    let _ = rt.write_all(text);
 }
 
-fn say_with(text: &[u8], n: u64) {
-    say(text);
-    io::print_decimal(STDOUT_FILENO, n);
+fn say_with(rt: &HostRuntime, text: &[u8], n: u64) {
+    say(rt, text);
+    let _ = print!(rt; "{n}");
 }
 
-fn say_place(at: usize, room: usize) {
-    say_with(b"at byte ", at as u64);
-    say_with(b" of ", room as u64);
+fn say_place(rt: &HostRuntime, at: usize, room: usize) {
+    say_with(rt, b"at byte ", at as u64);
+    say_with(rt, b" of ", room as u64);
 }
 
 // The unit of a record's times, by its bus.
-fn say_unit(kind: u8) {
+fn say_unit(rt: &HostRuntime, kind: u8) {
     if (kind == 5) | (kind == 6) {
-        say(b", times in us: ");
+        say(rt, b", times in us: ");
     } else {
-        say(b", times in bp: ");
+        say(rt, b", times in bp: ");
     }
 }
 
-fn say_record(r: Record) {
-    say_with(b": kind ", r.kind as u64);
-    say_with(b" ", r.a as u64);
-    say_with(b" ", r.b as u64);
-    say_with(b" ", r.c as u64);
-    say_with(b" ", r.d as u64);
-    say_with(b" ", r.e as u64);
-    say_unit(r.kind);
+fn say_record(rt: &HostRuntime, r: Record) {
+    say_with(rt, b": kind ", r.kind as u64);
+    say_with(rt, b" ", r.a as u64);
+    say_with(rt, b" ", r.b as u64);
+    say_with(rt, b" ", r.c as u64);
+    say_with(rt, b" ", r.d as u64);
+    say_with(rt, b" ", r.e as u64);
+    say_unit(rt, r.kind);
 }
 
 fn same(r: Record, q: Record) -> bool {
@@ -47,41 +48,41 @@ fn same(r: Record, q: Record) -> bool {
 }
 
 // The place behind the record, and whether the record stands there.
-fn say_next(next: usize, s: &[u8], at: usize, r: Record) {
-    say_with(b"next ", next as u64);
+fn say_next(rt: &HostRuntime, next: usize, s: &[u8], at: usize, r: Record) {
+    say_with(rt, b"next ", next as u64);
     let m = sheet_record::record_at(s, at);
     if (m.next == next) & same(m.found, r) {
-        say(b", read back");
+        say(rt, b", read back");
     }
 }
 
-fn say_answer(p: Put, s: &[u8], at: usize, r: Record) {
+fn say_answer(rt: &HostRuntime, p: Put, s: &[u8], at: usize, r: Record) {
     match p {
         Put::Refused { no, place } => {
-            say_with(b"refused ", no as u64);
-            say_with(b" at ", place as u64);
+            say_with(rt, b"refused ", no as u64);
+            say_with(rt, b" at ", place as u64);
         }
-        Put::Next(next) => say_next(next, s, at, r),
+        Put::Next(next) => say_next(rt, next, s, at, r),
     }
 }
 
-fn say_byte(b: u8) {
-    io::print_hex(STDOUT_FILENO, b as u64, 2);
+fn say_byte(rt: &HostRuntime, b: u8) {
+    let _ = print!(rt; "{b:02x}");
 }
 
-fn say_bytes(s: &[u8]) {
-    say(b": ");
+fn say_bytes(rt: &HostRuntime, s: &[u8]) {
+    say(rt, b": ");
     let mut i: usize = 0;
     while i < s.len() {
-        say_byte(s[i]);
+        say_byte(rt, s[i]);
         i += 1;
     }
 }
 
-fn put(lent: &mut [u8], at: usize, r: Record) {
+fn put(rt: &HostRuntime, lent: &mut [u8], at: usize, r: Record) {
     let p = sheet_write::put_record(lent, at, r);
-    say_answer(p, lent, at, r);
-    say_bytes(lent);
+    say_answer(rt, p, lent, at, r);
+    say_bytes(rt, lent);
 }
 
 fn joined(a: u8, b: u8, c: u8, d: u8) -> u32 {
@@ -118,37 +119,52 @@ fn place_of(high: u32, low: u32) -> usize {
     high as usize * 4294967296 + low as usize
 }
 
-fn try_case(at: usize, room: usize, r: Record)
+fn try_case(rt: &HostRuntime, at: usize, room: usize, r: Record)
     requires { room ≤ 24 }
 {
     let mut buf = [238u8; 24];
-    say_place(at, room);
-    say_record(r);
-    put(&mut buf[..room], at, r);
-    say(b".\n");
+    say_place(rt, at, room);
+    say_record(rt, r);
+    put(rt, &mut buf[..room], at, r);
+    say(rt, b".\n");
 }
 
-fn try_line(line: &[u8]) {
+fn try_line(rt: &HostRuntime, line: &[u8]) {
     let mut case = [0u8; 30];
     text_hex::put_bytes(&mut case, line);
     let at = place_of(number(case, 0), number(case, 4));
-    try_case(at, room_of(case[8]), record_of(case));
+    try_case(rt, at, room_of(case[8]), record_of(case));
 }
 
-fn try_lines(text: &[u8]) {
+fn try_lines(rt: &HostRuntime, text: &[u8]) {
     let mut start: usize = 0;
     let mut i: usize = 0;
     while i < text.len() {
         if text[i] == b'\n' {
-            try_line(&text[start..i]);
+            try_line(rt, &text[start..i]);
             start = i + 1;
         }
         i += 1;
     }
 }
 
-fn main() {
-    let mut buf = io::large_buffer();
-    let n = io::read_full(STDIN_FILENO, &mut buf);
-    try_lines(&buf[..n]);
+// Reads standard input until it ends, a read fails or the buffer is full; how many bytes that are.
+fn read_full(rt: &HostRuntime, buf: &mut [u8]) -> usize
+    ensures { result ≤ length buf.new }
+{
+    let mut done: usize = 0;
+    while done < buf.len() {
+        let n = rt.stdin().read(&mut buf[done..]).unwrap_or(0);
+        if n == 0 {
+            return done;
+        }
+        done += n;
+    }
+    done
+}
+
+fn main(rt: HostRuntime) {
+    let mut buf = [0u8; 65536];
+    let n = read_full(&rt, &mut buf);
+    try_lines(&rt, &buf[..n]);
 }

@@ -2,61 +2,68 @@
 // of the lent runs, a bar and the sheet, all numbers in hexadecimal digits. A line that begins with # is a title and is written again. The
 // line for a case has the answer and what the lent runs hold then.
 #![tactic(auto)]
-ghost use Rattle.std.specs.Prelude.{◌≤◌};
 
-use libc::{STDIN_FILENO, STDOUT_FILENO};
+ghost use Rattle.std.specs.Prelude.{◌≤◌, length};
+
+use std::io::Read;
 
 // What each place of a WorldFIP run holds before: no sheet here has such a row.
 const MARK: u64 = 0x5555555555555555;
 
-fn say(text: &[u8]) {
-    io::write_all(STDOUT_FILENO, text);
+fn say(rt: &HostRuntime, text: &[u8]) {
+    let _ = rt.write_all(text);
 }
 
-fn say_with(text: &[u8], n: u64) {
-    say(text);
-    io::print_decimal(STDOUT_FILENO, n);
+fn say_with(rt: &HostRuntime, text: &[u8], n: u64) {
+    say(rt, text);
+    let _ = print!(rt; "{n}");
 }
 
-fn say_refused(no: u8, place: usize) {
-    say_with(b"refused ", no as u64);
-    say_with(b" at ", place as u64);
+fn say_refused(rt: &HostRuntime, no: u8, place: usize) {
+    say_with(rt, b"refused ", no as u64);
+    say_with(rt, b" at ", place as u64);
 }
 
 // ---- P-NET: three runs, of which every place holds 9 before
 
-fn say_pnet(p: pnet_plan::Plan) {
+fn say_pnet(rt: &HostRuntime, p: pnet_plan::Plan) {
     match p {
         pnet_plan::Plan::Accepted { masters, streams } => {
-            say_with(b"masters ", masters as u64);
-            say_with(b", streams ", streams as u64);
+            say_with(rt, b"masters ", masters as u64);
+            say_with(rt, b", streams ", streams as u64);
         }
-        pnet_plan::Plan::Refused { no, place } => say_refused(no, place),
+        pnet_plan::Plan::Refused { no, place } => say_refused(rt, no, place),
     }
 }
 
-fn say_figure(x: u32) {
-    say_with(b" ", x as u64);
+fn say_figure(rt: &HostRuntime, x: u32) {
+    say_with(rt, b" ", x as u64);
 }
 
-fn say_run(name: &[u8], run: &[u32]) {
-    say(name);
+fn say_run(rt: &HostRuntime, name: &[u8], run: &[u32]) {
+    say(rt, name);
     let mut i: usize = 0;
     while i < run.len() {
-        say_figure(run[i]);
+        say_figure(rt, run[i]);
         i += 1;
     }
 }
 
-fn say_runs(bound: &[u32], refined: &[u32], rounds: &[u32]) {
-    say_run(b"; R in bp", bound);
-    say_run(b"; W in bp", refined);
-    say_run(b"; rounds", rounds);
+fn say_runs(rt: &HostRuntime, bound: &[u32], refined: &[u32], rounds: &[u32]) {
+    say_run(rt, b"; R in bp", bound);
+    say_run(rt, b"; W in bp", refined);
+    say_run(rt, b"; rounds", rounds);
 }
 
-fn plan_pnet(s: &[u8], bound: &mut [u32], refined: &mut [u32], rounds: &mut [u32]) {
-    say_pnet(pnet_plan::plan(s, bound, refined, rounds));
-    say_runs(bound, refined, rounds);
+fn plan_pnet(
+    rt: &HostRuntime,
+    s: &[u8],
+    bound: &mut [u32],
+    refined: &mut [u32],
+    rounds: &mut [u32],
+) {
+    say_pnet(rt, pnet_plan::plan(s, bound, refined, rounds));
+    say_runs(rt, bound, refined, rounds);
 }
 
 // The length of a run, 12 at most.
@@ -66,7 +73,7 @@ fn places(asked: u8) -> usize
     if asked < 12 { asked as usize } else { 12 }
 }
 
-fn pnet_case(case: &[u8]) {
+fn pnet_case(rt: &HostRuntime, case: &[u8]) {
     if case.len() < 3 {
         return;
     }
@@ -77,6 +84,7 @@ fn pnet_case(case: &[u8]) {
     let mut refined = [9u32; 12];
     let mut rounds = [9u32; 12];
     plan_pnet(
+        rt,
         &case[3..],
         &mut bound[..a],
         &mut refined[..b],
@@ -86,45 +94,45 @@ fn pnet_case(case: &[u8]) {
 
 // ---- PROFIBUS
 
-fn say_profibus(p: profibus_plan::Plan) {
+fn say_profibus(rt: &HostRuntime, p: profibus_plan::Plan) {
     match p {
         profibus_plan::Plan::Target { rotation, stream } => {
-            say_with(b"TTR in bp ", rotation.0 as u64);
-            say_with(b", limited by stream ", stream as u64);
+            say_with(rt, b"TTR in bp ", rotation.0 as u64);
+            say_with(rt, b", limited by stream ", stream as u64);
         }
-        profibus_plan::Plan::Refused { no, place } => say_refused(no, place),
+        profibus_plan::Plan::Refused { no, place } => say_refused(rt, no, place),
     }
 }
 
 // ---- WorldFIP: one run, of which every place holds MARK before and is shown as '-' while it does
 
-fn say_worldfip(p: worldfip_plan::Plan) {
+fn say_worldfip(rt: &HostRuntime, p: worldfip_plan::Plan) {
     match p {
         worldfip_plan::Plan::Accepted {
             microcycle,
             slots,
             rows,
         } => {
-            say_with(b"microcycle in us ", microcycle.0);
-            say_with(b", slots ", slots as u64);
-            say_with(b", rows ", rows as u64);
+            say_with(rt, b"microcycle in us ", microcycle.0);
+            say_with(rt, b", slots ", slots as u64);
+            say_with(rt, b", rows ", rows as u64);
         }
-        worldfip_plan::Plan::Refused { no, place } => say_refused(no, place),
+        worldfip_plan::Plan::Refused { no, place } => say_refused(rt, no, place),
     }
 }
 
-fn say_row(row: u64) {
+fn say_row(rt: &HostRuntime, row: u64) {
     if row == MARK {
-        say(b" -");
+        say(rt, b" -");
     } else {
-        say_with(b" ", row);
+        say_with(rt, b" ", row);
     }
 }
 
-fn say_rows(rows: &[u64]) {
+fn say_rows(rt: &HostRuntime, rows: &[u64]) {
     let mut m: usize = 0;
     while m < rows.len() {
-        say_row(rows[m]);
+        say_row(rt, rows[m]);
         m += 1;
     }
 }
@@ -152,35 +160,35 @@ fn folded(rows: &[u64]) -> u64 {
     x
 }
 
-fn say_table(rows: &[u64]) {
-    say(b";");
+fn say_table(rt: &HostRuntime, rows: &[u64]) {
+    say(rt, b";");
     if rows.len() <= 8 {
-        say_rows(rows);
+        say_rows(rt, rows);
     } else {
-        say_with(b" kept ", kept(rows));
-        say_with(b", folded ", folded(rows));
+        say_with(rt, b" kept ", kept(rows));
+        say_with(rt, b", folded ", folded(rows));
     }
 }
 
-fn say_name(name: u16) {
-    say_with(b" ", name as u64);
+fn say_name(rt: &HostRuntime, name: u16) {
+    say_with(rt, b" ", name as u64);
 }
 
 // The first eight identifiers by rank.
-fn say_names(names: &[u16; 64]) {
-    say(b"; by rank");
+fn say_names(rt: &HostRuntime, names: &[u16; 64]) {
+    say(rt, b"; by rank");
     let mut r: usize = 0;
     while r < 8 {
-        say_name(names[r]);
+        say_name(rt, names[r]);
         r += 1;
     }
 }
 
-fn plan_worldfip(s: &[u8], rows: &mut [u64]) {
-    say_worldfip(worldfip_plan::plan(s, rows));
-    say_table(rows);
+fn plan_worldfip(rt: &HostRuntime, s: &[u8], rows: &mut [u64]) {
+    say_worldfip(rt, worldfip_plan::plan(s, rows));
+    say_table(rt, rows);
     let names = worldfip_figures::identifiers(s);
-    say_names(&names);
+    say_names(rt, &names);
 }
 
 // The length of the run, of which the case has the high byte first, 4,100 at most.
@@ -191,54 +199,69 @@ fn room_of(high: u8, low: u8) -> usize
     if asked < 4100 { asked } else { 4100 }
 }
 
-fn worldfip_case(case: &[u8]) {
+fn worldfip_case(rt: &HostRuntime, case: &[u8]) {
     if case.len() < 2 {
         return;
     }
     let room = room_of(case[0], case[1]);
     let mut rows: [u64; 4100] = [MARK; 4100];
-    plan_worldfip(&case[2..], &mut rows[..room]);
+    plan_worldfip(rt, &case[2..], &mut rows[..room]);
 }
 
 // ---- The cases
 
 // The second letter of the bus tells P-NET, PROFIBUS and WORLDFIP apart.
-fn try_case(letter: u8, case: &[u8]) {
+fn try_case(rt: &HostRuntime, letter: u8, case: &[u8]) {
     match letter {
-        b'-' => pnet_case(case),
-        b'R' => say_profibus(profibus_plan::plan(case)),
-        _ => worldfip_case(case),
+        b'-' => pnet_case(rt, case),
+        b'R' => say_profibus(rt, profibus_plan::plan(case)),
+        _ => worldfip_case(rt, case),
     }
 }
 
-fn try_line(line: &[u8]) {
+fn try_line(rt: &HostRuntime, line: &[u8]) {
     if line.len() < 2 {
         return;
     }
     if line[0] == b'#' {
-        say(line);
+        say(rt, line);
     } else {
         let mut case = [0u8; 12807];
         let n = text_hex::put_bytes(&mut case, line);
-        try_case(line[1], &case[..n]);
+        try_case(rt, line[1], &case[..n]);
     }
-    say(b"\n");
+    say(rt, b"\n");
 }
 
-fn try_lines(text: &[u8]) {
+fn try_lines(rt: &HostRuntime, text: &[u8]) {
     let mut start: usize = 0;
     let mut i: usize = 0;
     while i < text.len() {
         if text[i] == b'\n' {
-            try_line(&text[start..i]);
+            try_line(rt, &text[start..i]);
             start = i + 1;
         }
         i += 1;
     }
 }
 
-fn main() {
-    let mut buf = io::large_buffer();
-    let n = io::read_full(STDIN_FILENO, &mut buf);
-    try_lines(&buf[..n]);
+// Reads standard input until it ends, a read fails or the buffer is full; how many bytes that are.
+fn read_full(rt: &HostRuntime, buf: &mut [u8]) -> usize
+    ensures { result ≤ length buf.new }
+{
+    let mut done: usize = 0;
+    while done < buf.len() {
+        let n = rt.stdin().read(&mut buf[done..]).unwrap_or(0);
+        if n == 0 {
+            return done;
+        }
+        done += n;
+    }
+    done
+}
+
+fn main(rt: HostRuntime) {
+    let mut buf = [0u8; 65536];
+    let n = read_full(&rt, &mut buf);
+    try_lines(&rt, &buf[..n]);
 }

@@ -1,121 +1,140 @@
 // Reports of sheets worked by hand, of pages 01 and 02 and the cases that are easy to get wrong, each behind a line that names it; then how
 // many records a reader walks over.
 #![tactic(auto)]
-use libc::STDOUT_FILENO;
+
 use report_sheet::Reported;
 use text::put_counted;
 
-fn say(text: &[u8]) {
-    io::write_all(STDOUT_FILENO, text);
+fn say(rt: &HostRuntime, text: &[u8]) {
+    let _ = rt.write_all(text);
 }
 
-fn show(name: &[u8], s: &[u8]) {
-    say(name);
-    say(b"\n");
+fn show(rt: &HostRuntime, name: &[u8], s: &[u8]) {
+    say(rt, name);
+    say(rt, b"\n");
     let mut text = report_sheet::text_buffer();
     match report_sheet::report(s, &mut text) {
-        Reported::Accepted(n) | Reported::Refused(n) => say(&text[..n]),
-        Reported::NoRoom => say(b"no room\n"),
+        Reported::Accepted(n) | Reported::Refused(n) => say(rt, &text[..n]),
+        Reported::NoRoom => say(rt, b"no room\n"),
     }
 }
 
-fn segments() {
+fn segments(rt: &HostRuntime) {
     show(
+        rt,
         b"# the page's third case: N 2, C 203, T and D 100,000",
         b"\x01\x02\x02\x01\x00\xcb\x00\x01\x86\xa0\x00\x01\x86\xa0\x02\x01\x00\xcb\x00\x01\x86\xa0\x00\x01\x86\xa0\x02\x02\x00\xcb\x00\x01\x86\xa0\x00\x01\x86\xa0",
     );
     show(
+        rt,
         b"# page 02's sheet: the same but T and D 1,000 of the last stream",
         b"\x01\x02\x02\x01\x00\xcb\x00\x01\x86\xa0\x00\x01\x86\xa0\x02\x01\x00\xcb\x00\x01\x86\xa0\x00\x01\x86\xa0\x02\x02\x00\xcb\x00\x00\x03\xe8\x00\x00\x03\xe8",
     );
     show(
+        rt,
         b"# N 4, two streams each, D 2,000 but 1,999 for the third",
         b"\x01\x04\x02\x01\x00\xcb\x00\x01\x86\xa0\x00\x00\x07\xd0\x02\x01\x00\xcb\x00\x01\x86\xa0\x00\x00\x07\xd0\x02\x02\x00\xcb\x00\x01\x86\xa0\x00\x00\x07\xcf\x02\x02\x00\xcb\x00\x01\x86\xa0\x00\x00\x07\xd0\x02\x03\x00\xcb\x00\x01\x86\xa0\x00\x00\x07\xd0\x02\x03\x00\xcb\x00\x01\x86\xa0\x00\x00\x07\xd0\x02\x04\x00\xcb\x00\x01\x86\xa0\x00\x00\x07\xd0\x02\x04\x00\xcb\x00\x01\x86\xa0\x00\x00\x07\xd0",
     );
     show(
+        rt,
         b"# masters 1 and 3 of 3: a silent master has no line",
         b"\x01\x03\x02\x01\x00\xcb\x00\x01\x86\xa0\x00\x01\x86\xa0\x02\x03\x00\xcb\x00\x01\x86\xa0\x00\x01\x86\xa0",
     );
     show(
+        rt,
         b"# master 12 alone, one round: words do not change with the count",
         b"\x01\x0c\x02\x0c\x06\x0c\x00\x01\x86\xa0\x00\x01\x86\xa0",
     );
 }
 
-fn rings() {
+fn rings(rt: &HostRuntime) {
     show(
+        rt,
         b"# the page's ring: n 3, L 300, M 500",
         b"\x03\x03\x00\x00\x01\x2c\x00\x00\x01\xf4\x04\x01\x00\x00\x01\x90\x00\x00\x20\xd0\x04\x01\x00\x00\x01\xf4\x00\x00\x27\x10\x04\x02\x00\x00\x01\x2c\x00\x00\x13\x88",
     );
     show(
+        rt,
         b"# a stream fails at L",
         b"\x03\x01\x00\x00\x00\x64\x00\x00\x00\x0a\x04\x01\x00\x00\x00\x0a\x00\x00\x03\xe8\x04\x01\x00\x00\x00\x0a\x00\x00\x00\xe5",
     );
     show(
+        rt,
         b"# page 02's ring, each master's longest message its own: 2,000 beside 500 and 300",
         b"\x09\x03\x00\x00\x01\x2c\x0a\x03\x00\x00\x07\xd0\x0a\x01\x00\x00\x01\xf4\x0a\x02\x00\x00\x01\x2c\x04\x01\x00\x00\x01\x90\x00\x00\x20\xd0\x04\x01\x00\x00\x01\xf4\x00\x00\x27\x10\x04\x02\x00\x00\x01\x2c\x00\x00\x13\x88",
     );
-    show(b"# no longest message", b"\x09\x01\x00\x00\x00\x64");
+    show(rt, b"# no longest message", b"\x09\x01\x00\x00\x00\x64");
     show(
+        rt,
         b"# a longest message twice",
         b"\x09\x02\x00\x00\x00\x64\x0a\x01\x00\x00\x00\x0a\x0a\x01\x00\x00\x00\x0a",
     );
 }
 
-fn tables() {
+fn tables(rt: &HostRuntime) {
     show(
+        rt,
         b"# the page's table: E 400",
         b"\x05\x00\x00\x01\x90\x06\x00\x11\x00\x00\x03\xe8\x06\x00\x12\x00\x00\x07\xd0\x06\x00\x13\x00\x00\x0f\xa0\x06\x00\x14\x00\x00\x0f\xa0",
     );
     show(
+        rt,
         b"# the third at 2,000",
         b"\x05\x00\x00\x01\x90\x06\x00\x11\x00\x00\x03\xe8\x06\x00\x12\x00\x00\x07\xd0\x06\x00\x13\x00\x00\x07\xd0\x06\x00\x14\x00\x00\x0f\xa0",
     );
     show(
+        rt,
         b"# E 210, source 004",
         b"\x05\x00\x00\x00\xd2\x06\x00\x01\x00\x00\x03\xe8\x06\x00\x02\x00\x00\x03\xe8\x06\x00\x03\x00\x00\x03\xe8\x06\x00\x04\x00\x00\x03\xe8\x06\x00\x05\x00\x00\x0b\xb8",
     );
     show(
+        rt,
         b"# empty rows, and rank by period",
         b"\x05\x00\x00\x01\x90\x06\xff\xff\x00\x00\x0b\xb8\x06\x00\x00\x00\x00\x07\xd0",
     );
     show(
+        rt,
         b"# equal periods go by sheet order, not by identifier",
         b"\x05\x00\x00\x00\x64\x06\x00\x09\x00\x00\x03\xe8\x06\x00\x03\x00\x00\x03\xe8\x06\x00\x04\x00\x00\x01\xf4",
     );
     show(
+        rt,
         b"# no exchange fits",
         b"\x05\x00\x00\x03\xe9\x06\x00\x01\x00\x00\x03\xe8",
     );
     show(
+        rt,
         b"# more than 4,096 rows",
         b"\x05\x00\x00\x00\x01\x06\x00\x01\x00\x00\x10\x03\x06\x00\x02\x00\x00\x0f\xfd",
     );
     show(
+        rt,
         b"# an identifier met before",
         b"\x05\x00\x00\x01\x90\x06\x00\x01\x00\x00\x03\xe8\x06\x00\x01\x00\x00\x07\xd0",
     );
 }
 
-fn bytes() {
-    show(b"# empty", b"");
-    show(b"# one byte 99", b"\x63");
-    show(b"# bytes 1, 0", b"\x01\x00");
-    show(b"# bytes 1, 33", b"\x01\x21");
-    show(b"# bytes 1, 4", b"\x01\x04");
+fn bytes(rt: &HostRuntime) {
+    show(rt, b"# empty", b"");
+    show(rt, b"# one byte 99", b"\x63");
+    show(rt, b"# bytes 1, 0", b"\x01\x00");
+    show(rt, b"# bytes 1, 33", b"\x01\x21");
+    show(rt, b"# bytes 1, 4", b"\x01\x04");
     show(
+        rt,
         b"# a stream first",
         b"\x02\x00\x00\x00\x00\x00\x00\x00\x00\x00\x00\x00",
     );
-    show(b"# a variable first, cut short", b"\x06\x00");
+    show(rt, b"# a variable first, cut short", b"\x06\x00");
     show(
+        rt,
         b"# another bus's stream behind the first record",
         b"\x05\x00\x00\x01\x90\x02\x00\x00\x00\x00\x00\x00\x00\x00\x00\x00\x00",
     );
 }
 
-fn walk(name: &[u8], s: &[u8]) {
-    say(name);
+fn walk(rt: &HostRuntime, name: &[u8], s: &[u8]) {
+    say(rt, name);
     let mut line = [0; 32];
     let n = put_counted(
         &mut line,
@@ -124,34 +143,38 @@ fn walk(name: &[u8], s: &[u8]) {
         sheet_reader::count(s) as u64,
         b" records\n",
     );
-    say(&line[..n]);
+    say(rt, &line[..n]);
 }
 
-fn walks() {
-    walk(b"# walked: empty", b"");
-    walk(b"# walked: the first record alone", b"\x01\x02");
+fn walks(rt: &HostRuntime) {
+    walk(rt, b"# walked: empty", b"");
+    walk(rt, b"# walked: the first record alone", b"\x01\x02");
     walk(
+        rt,
         b"# walked: two variables behind theirs",
         b"\x05\x00\x00\x01\x90\x06\x00\x11\x00\x00\x03\xe8\x06\x00\x12\x00\x00\x07\xd0",
     );
     walk(
+        rt,
         b"# walked: the second of them cut short",
         b"\x05\x00\x00\x01\x90\x06\x00\x11\x00\x00\x03\xe8\x06\x00\x12\x00\x00\x07",
     );
     walk(
+        rt,
         b"# walked: an unknown kind between them",
         b"\x05\x00\x00\x01\x90\x06\x00\x11\x00\x00\x03\xe8\x63\x06\x00\x12\x00\x00\x07\xd0",
     );
     walk(
+        rt,
         b"# walked: another bus's stream is a whole record, though the sheet is refused",
         b"\x05\x00\x00\x01\x90\x02\x00\x00\x00\x00\x00\x00\x00\x00\x00\x00\x00",
     );
 }
 
-fn main() {
-    segments();
-    rings();
-    tables();
-    bytes();
-    walks();
+fn main(rt: HostRuntime) {
+    segments(&rt);
+    rings(&rt);
+    tables(&rt);
+    bytes(&rt);
+    walks(&rt);
 }

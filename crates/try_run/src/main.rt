@@ -2,16 +2,16 @@
 // stream asks once, at 0, when the token has just left that master, and each visit is as long as can be. So every master keeps its spacing,
 // and no response passes the refined figure.
 #![tactic(auto)]
-use libc::STDOUT_FILENO;
+
 use pnet_plan::Plan;
 use sheet_record::Record;
 
-fn write(text: &[u8]) {
-    io::write_all(STDOUT_FILENO, text);
+fn write(rt: &HostRuntime, text: &[u8]) {
+    let _ = rt.write_all(text);
 }
 
-fn write_number(n: u64) {
-    io::print_decimal(STDOUT_FILENO, n);
+fn write_number(rt: &HostRuntime, n: u64) {
+    let _ = print!(rt; "{n}");
 }
 
 // A sheet in the making: its bytes, for the planner; and each stream's master and C, for the simulator. D and J are the same for all streams.
@@ -122,30 +122,30 @@ fn largest(masters: u8, owner: &[u8], cycle: &[u16], n: usize, k: u8) -> u64 {
     pnet_simulate::largest(&owner[..n], &answered, k)
 }
 
-fn line(s: Sheet, k: u8, bound: u32, refined: u32) {
-    write(b"M");
-    write_number((k / 10) as u64);
-    write_number((k % 10) as u64);
-    write(b" largest response ");
+fn line(rt: &HostRuntime, s: Sheet, k: u8, bound: u32, refined: u32) {
+    write(rt, b"M");
+    write_number(rt, (k / 10) as u64);
+    write_number(rt, (k % 10) as u64);
+    write(rt, b" largest response ");
     let owner = s.owner;
     let cycle = s.cycle;
-    write_number(largest(s.masters, &owner, &cycle, s.streams, k));
-    write(b" bp, refined ");
-    write_number(refined as u64);
-    write(b" bp, bound ");
-    write_number(bound as u64);
-    write(b" bp\n");
+    write_number(rt, largest(s.masters, &owner, &cycle, s.streams, k));
+    write(rt, b" bp, refined ");
+    write_number(rt, refined as u64);
+    write(rt, b" bp, bound ");
+    write_number(rt, bound as u64);
+    write(rt, b" bp\n");
 }
 
 // A line for each master with streams: only its bound is above 0.
-fn lines(s: Sheet, bound: [u32; 32], refined: [u32; 32]) {
+fn lines(rt: &HostRuntime, s: Sheet, bound: [u32; 32], refined: [u32; 32]) {
     let mut k: u8 = 0;
     while k < 32 {
         let r = bound[k as usize];
         let w = refined[k as usize];
         k += 1;
         if r != 0 {
-            line(s, k, r, w);
+            line(rt, s, k, r, w);
         }
     }
 }
@@ -169,45 +169,51 @@ fn figures(bytes: &[u8], streams: usize, bound: &mut [u32], refined: &mut [u32])
     }
 }
 
-fn show(name: &[u8], s: Sheet) {
-    write(name);
-    write(b"\n");
+fn show(rt: &HostRuntime, name: &[u8], s: Sheet) {
+    write(rt, name);
+    write(rt, b"\n");
     let bytes = s.bytes;
     let mut bound = [0u32; 32];
     let mut refined = [0u32; 32];
     if figures(&bytes, s.streams, &mut bound, &mut refined) {
-        lines(s, bound, refined);
+        lines(rt, s, bound, refined);
     } else {
-        write(b"refused\n");
+        write(rt, b"refused\n");
     }
 }
 
-fn main() {
+fn main(rt: HostRuntime) {
     // Page 01, 'Sheets worked by hand'.
     show(
+        &rt,
         b"4 masters, two streams each, C 203",
         Sheet::of(4).with_each(2, 203),
     );
     // Master 2 has fewer streams than master 1, which therefore stays below its bound.
     show(
+        &rt,
         b"2 masters, two streams and one, C 203",
         Sheet::of(2).with(1, 2, 203).with(2, 1, 203),
     );
     show(
+        &rt,
         b"10 masters, 80 streams each, C 200",
         Sheet::of(10).with_each(80, 200),
     );
     // A silent master costs 10 bp a turn.
     show(
+        &rt,
         b"3 masters, the second silent, C 203 and 100",
         Sheet::of(3).with(1, 2, 203).with(3, 2, 100),
     );
     // With release jitter the bound is as it was, and is reached as before; the refined figure counts that master 2 may ask twice.
     show(
+        &rt,
         b"4 masters, two streams each, C 203, up to 998000 bp late",
         Sheet::late(4, 2000, 998000).with_each(2, 203),
     );
     show(
+        &rt,
         b"2 masters, two streams and one, C 203, up to 999000 bp late",
         Sheet::late(2, 1000, 999000).with(1, 2, 203).with(2, 1, 203),
     );

@@ -1,57 +1,60 @@
 // The reader on the sheets of standard input, a line of hexadecimal digits each, and on sheets with as many streams as a limit allows
 // and one more: page 01, 'Sheet records' and 'Numbered refusals' 1..7, and page 02, Ask 8. Each sheet is written again with the answer behind it.
 #![tactic(auto)]
-use libc::{STDIN_FILENO, STDOUT_FILENO};
+
+ghost use Rattle.std.specs.Prelude.{◌≤◌, length};
+
 use sheet_read::Reading;
 use sheet_record::Record;
 use sheet_write::Put;
+use std::io::Read;
 
-fn say(text: &[u8]) {
-    io::write_all(STDOUT_FILENO, text);
+fn say(rt: &HostRuntime, text: &[u8]) {
+    let _ = rt.write_all(text);
 }
 
-fn say_number(n: u64) {
-    io::print_decimal(STDOUT_FILENO, n);
+fn say_number(rt: &HostRuntime, n: u64) {
+    let _ = print!(rt; "{n}");
 }
 
-fn say_with(text: &[u8], n: u64) {
-    say(text);
-    say_number(n);
+fn say_with(rt: &HostRuntime, text: &[u8], n: u64) {
+    say(rt, text);
+    say_number(rt, n);
 }
 
-fn say_accepted(kind: u8, streams: usize, first: usize) {
-    say_with(b": accepted, kind ", kind as u64);
-    say_with(b", ", streams as u64);
-    say_with(b" streams from ", first as u64);
-    say(b"\n");
+fn say_accepted(rt: &HostRuntime, kind: u8, streams: usize, first: usize) {
+    say_with(rt, b": accepted, kind ", kind as u64);
+    say_with(rt, b", ", streams as u64);
+    say_with(rt, b" streams from ", first as u64);
+    say(rt, b"\n");
 }
 
-fn say_refused(no: u8, place: usize) {
-    say_with(b": refused ", no as u64);
-    say_with(b" at ", place as u64);
-    say(b"\n");
+fn say_refused(rt: &HostRuntime, no: u8, place: usize) {
+    say_with(rt, b": refused ", no as u64);
+    say_with(rt, b" at ", place as u64);
+    say(rt, b"\n");
 }
 
-fn say_answer(r: Reading) {
+fn say_answer(rt: &HostRuntime, r: Reading) {
     match r {
         Reading::Accepted {
             head,
             streams,
             first,
-        } => say_accepted(head.kind, streams, first),
-        Reading::Refused { no, place } => say_refused(no, place),
+        } => say_accepted(rt, head.kind, streams, first),
+        Reading::Refused { no, place } => say_refused(rt, no, place),
     }
 }
 
 // Reads the front of a buffer.
-fn say_front(buf: &[u8], end: usize) {
+fn say_front(rt: &HostRuntime, buf: &[u8], end: usize) {
     if end <= buf.len() {
-        say_answer(sheet_read::read(&buf[..end]));
+        say_answer(rt, sheet_read::read(&buf[..end]));
     }
 }
 
-fn say_sheet(sheet: &[u8; 64], n: usize) {
-    say_front(sheet, n);
+fn say_sheet(rt: &HostRuntime, sheet: &[u8; 64], n: usize) {
+    say_front(rt, sheet, n);
 }
 
 // A line that begins with # is a title.
@@ -62,23 +65,23 @@ fn is_title(line: &[u8]) -> bool {
     line[0] == b'#'
 }
 
-fn try_line(line: &[u8]) {
-    say(line);
+fn try_line(rt: &HostRuntime, line: &[u8]) {
+    say(rt, line);
     if is_title(line) {
-        say(b"\n");
+        say(rt, b"\n");
         return;
     }
     let mut sheet = [0u8; 64];
     let n = text_hex::put_bytes(&mut sheet, line);
-    say_sheet(&sheet, n);
+    say_sheet(rt, &sheet, n);
 }
 
-fn try_lines(text: &[u8]) {
+fn try_lines(rt: &HostRuntime, text: &[u8]) {
     let mut start: usize = 0;
     let mut i: usize = 0;
     while i < text.len() {
         if text[i] == b'\n' {
-            try_line(&text[start..i]);
+            try_line(rt, &text[start..i]);
             start = i + 1;
         }
         i += 1;
@@ -117,42 +120,42 @@ fn put_all(buf: &mut [u8], from: usize, each: Record, least: u32, most: u32, n: 
     at
 }
 
-fn say_crowd(head: Record, each: Record, least: u32, most: u32, n: usize) {
-    say_number(n as u64);
-    say_with(b" records of kind ", each.kind as u64);
-    say_with(b", first field ", least as u64);
-    say_with(b" to ", most as u64);
-    say_with(b", behind kind ", head.kind as u64);
+fn say_crowd(rt: &HostRuntime, head: Record, each: Record, least: u32, most: u32, n: usize) {
+    say_number(rt, n as u64);
+    say_with(rt, b" records of kind ", each.kind as u64);
+    say_with(rt, b", first field ", least as u64);
+    say_with(rt, b" to ", most as u64);
+    say_with(rt, b", behind kind ", head.kind as u64);
 }
 
-fn try_crowd(head: Record, each: Record, least: u32, most: u32, n: usize) {
-    let mut buf = io::large_buffer();
-    say_crowd(head, each, least, most, n);
+fn try_crowd(rt: &HostRuntime, head: Record, each: Record, least: u32, most: u32, n: usize) {
+    let mut buf = [0u8; 65536];
+    say_crowd(rt, head, each, least, most, n);
     let first = put_all(&mut buf, 0, head, head.a, head.a, 1);
     let end = put_all(&mut buf, first, each, least, most, n);
-    say_front(&buf, end);
+    say_front(rt, &buf, end);
 }
 
 // At most 80 streams for one master.
-fn pnet_master_limits() {
+fn pnet_master_limits(rt: &HostRuntime) {
     let each = record_of(2, 1, 203, 1000, 1000);
     let head = record_of(1, 32, 0, 0, 0);
-    try_crowd(head, each, 1, 1, 80);
-    try_crowd(head, each, 1, 1, 81);
-    try_crowd(head, each, 32, 32, 81);
+    try_crowd(rt, head, each, 1, 1, 80);
+    try_crowd(rt, head, each, 1, 1, 81);
+    try_crowd(rt, head, each, 32, 32, 81);
 }
 
 // At most 800 streams: behind N = 32, 10 and 31, which has no master 32.
-fn pnet_limits() {
+fn pnet_limits(rt: &HostRuntime) {
     let each = record_of(2, 1, 203, 1000, 1000);
     let head = record_of(1, 32, 0, 0, 0);
     let ten = record_of(1, 10, 0, 0, 0);
     let short = record_of(1, 31, 0, 0, 0);
-    try_crowd(head, each, 1, 32, 800);
-    try_crowd(head, each, 1, 32, 801);
-    try_crowd(ten, each, 1, 10, 800);
-    try_crowd(ten, each, 1, 10, 801);
-    try_crowd(short, each, 1, 32, 800);
+    try_crowd(rt, head, each, 1, 32, 800);
+    try_crowd(rt, head, each, 1, 32, 801);
+    try_crowd(rt, ten, each, 1, 10, 800);
+    try_crowd(rt, ten, each, 1, 10, 801);
+    try_crowd(rt, short, each, 1, 32, 800);
 }
 
 // Puts the longest message of each of 32 masters behind their ring; the place behind the last.
@@ -161,41 +164,56 @@ fn put_ring(buf: &mut [u8], ring: Record) -> usize {
     put_all(buf, first, record_of(10, 1, 500, 0, 0), 1, 32, 32)
 }
 
-fn try_ring(each: Record, least: u32, most: u32, n: usize) {
-    let mut buf = io::large_buffer();
+fn try_ring(rt: &HostRuntime, each: Record, least: u32, most: u32, n: usize) {
+    let mut buf = [0u8; 65536];
     let ring = record_of(9, 32, 300, 0, 0);
-    say_crowd(ring, each, least, most, n);
+    say_crowd(rt, ring, each, least, most, n);
     let first = put_ring(&mut buf, ring);
     let end = put_all(&mut buf, first, each, least, most, n);
-    say_front(&buf, end);
+    say_front(rt, &buf, end);
 }
 
 // The same behind a ring of 32 masters.
-fn profibus_limits() {
+fn profibus_limits(rt: &HostRuntime) {
     let each = record_of(4, 1, 400, 8400, 0);
-    try_ring(each, 1, 1, 80);
-    try_ring(each, 1, 1, 81);
-    try_ring(each, 1, 32, 800);
-    try_ring(each, 1, 32, 801);
+    try_ring(rt, each, 1, 1, 80);
+    try_ring(rt, each, 1, 1, 81);
+    try_ring(rt, each, 1, 32, 800);
+    try_ring(rt, each, 1, 32, 801);
 }
 
 // At most 64 variables, each with an identifier of its own; the 65th is 5, also where its identifier was met before.
-fn worldfip_limits() {
+fn worldfip_limits(rt: &HostRuntime) {
     let each = record_of(6, 1, 1000, 0, 0);
     let head = record_of(5, 400, 0, 0, 0);
-    try_crowd(head, each, 0, 63, 64);
-    try_crowd(head, each, 0, 64, 65);
-    try_crowd(head, each, 0, 63, 65);
-    try_crowd(head, each, 0, 62, 64);
-    try_crowd(head, each, 1, 1, 2);
+    try_crowd(rt, head, each, 0, 63, 64);
+    try_crowd(rt, head, each, 0, 64, 65);
+    try_crowd(rt, head, each, 0, 63, 65);
+    try_crowd(rt, head, each, 0, 62, 64);
+    try_crowd(rt, head, each, 1, 1, 2);
 }
 
-fn main() {
-    let mut buf = io::large_buffer();
-    let n = io::read_full(STDIN_FILENO, &mut buf);
-    try_lines(&buf[..n]);
-    pnet_master_limits();
-    pnet_limits();
-    profibus_limits();
-    worldfip_limits();
+// Reads standard input until it ends, a read fails or the buffer is full; how many bytes that are.
+fn read_full(rt: &HostRuntime, buf: &mut [u8]) -> usize
+    ensures { result ≤ length buf.new }
+{
+    let mut done: usize = 0;
+    while done < buf.len() {
+        let n = rt.stdin().read(&mut buf[done..]).unwrap_or(0);
+        if n == 0 {
+            return done;
+        }
+        done += n;
+    }
+    done
+}
+
+fn main(rt: HostRuntime) {
+    let mut buf = [0u8; 65536];
+    let n = read_full(&rt, &mut buf);
+    try_lines(&rt, &buf[..n]);
+    pnet_master_limits(&rt);
+    pnet_limits(&rt);
+    profibus_limits(&rt);
+    worldfip_limits(&rt);
 }

@@ -1,0 +1,10 @@
+-- `planner_io::input::told` says what the text came to: a line that is not of the form, or the sheet that is kept. Assumes nothing.
+use Rattle.std.proofs.Common.{refl, sym, ◌∙◌}
+use Rattle.planner_io.proofs.Made.{took_bad, took_sheet}
+use Rattle.planner_io.proofs.input.told.Goals as goal
+
+pub returns-in-Bad-clause-by_index : goal.returns-in-Bad-clause-by_index
+returns-in-Bad-clause-by_index c = λ first k. took_bad k _ (sym c.end.ensures ∙ c.in-Bad.is)
+
+pub returns-in-Sheet-clause-by_index : goal.returns-in-Sheet-clause-by_index
+returns-in-Sheet-clause-by_index c = λ first k. took_sheet k _ _ (sym c.end.ensures ∙ c.in-Sheet.is) refl c.end_of-length.ensures

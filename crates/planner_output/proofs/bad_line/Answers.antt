@@ -1,0 +1,6 @@
+-- `planner_output::bad_line` ends as refused, or as cut. Assumes nothing.
+use Rattle.planner_output.proofs.Ended.{one_of_two}
+use Rattle.planner_output.proofs.bad_line.Goals as goal
+
+pub returns : goal.returns
+returns c = one_of_two _ c.unless_cut.ensures
