@@ -60,6 +60,7 @@ module _ (s c : List ℕ) (la lb lc ld : ℕ) where
         no_room (on_bus k) (λ has. omega (arith, ltb-true room (length H.streams) r, room_if (length H.streams) has))
     line x p (later k (later r (here l))) =
         too_late (on_bus k) (room_then _ (ltb-false room (length H.streams) r)) (first_fails (segment_of H) (leb-true (first_late (segment_of H)) (length H.streams) l))
+    line x p (later k (later r (later _ x21))) = elim x21 [ ]
 
     no_line : Clear checks → Bounded s la lb lc ld H
     unfolding segment_of

@@ -10,7 +10,6 @@ use Rattle.common.specs.Checks.Verdict.{Passed, Refused}
 use Rattle.common.specs.Runs.{tab, filled}
 use Rattle.common.specs.Sums.{up}
 use Rattle.common.proofs.Runs.{filled_same, get_d_tab, zero_at}
-use Rattle.capture_log.specs.declared.Event.{Event}
 use Rattle.capture_log.specs.Log.{Before, fresh, answers, answered, largest, above, left, shown}
 use Rattle.capture_log.specs.Records.{size, event_at, events_in, records, events, heard}
 use Rattle.capture_tally.proofs.Answers.{told_refused, told_passed}
