@@ -1,0 +1,20 @@
+-- `try_report::show` writes as many bytes as the report has, which stand within the run. Assumes nothing.
+use mathlib.Core.Logic.{⊎_elim}
+use Rattle.std.proofs.Common.{ℕ, List, ◌≡◌, ◌≤◌, ◌⊎◌, length, arith, sym, ◌∙◌}
+use Rattle.std.proofs.lemmas.List.{length-take-le}
+use Rattle.report_sheet.proofs.Longest.{written_within}
+use Rattle.report_sheet.specs.Whole.{answer_of}
+use Rattle.report_sheet.specs.declared.Reported.{Reported}
+use Rattle.report_sheet.specs.declared.Reported.TheVariants as answer
+use Rattle.try_report.proofs.show.Goals as goal
+
+-- an accepted report and a refusal lie within the run
+within : (s : List ℕ) (room : ℕ) (r : Reported) (n : ℕ) → r ≡ answer_of s room → (r ≡ answer.Accepted n) ⊎ (r ≡ answer.Refused n) → n ≤ room
+within s room r n e = ⊎_elim (λ w. written_within s room _ (sym w ∙ e)) (λ w. written_within s room _ (sym w ∙ e))
+
+pub slice_bounds-text-end : goal.slice_bounds-text-end
+slice_bounds-text-end c = omega (arith, within _ _ _ _ c.report.ensures.value c.in-Accepted.is, c.report.auto.out)
+
+pub slice_bounds-say-end-in-Accepted : goal.slice_bounds-say-end-in-Accepted
+slice_bounds-say-end-in-Accepted c =
+    sym (length-take-le _ _ (omega (arith, within _ _ _ _ c.report.ensures.value c.in-Accepted.is, c.report.auto.out)))
