@@ -2,6 +2,7 @@
 // a figure where the sheet is accepted, else 2^32 and the refusal's number; and a place, in a cell that is lent for it and always set: the
 // refusal's, else 0, or the stream that limits a ring.
 #![tactic(auto)]
+
 ghost use Rattle.std.specs.Prelude.{◌≡◌, min, length};
 ghost use Rattle.sheet_rules.specs.Whole.{reading};
 ghost use Rattle.pnet_rules.specs.Segment;
