@@ -11,24 +11,6 @@ import sys
 ROOT = pathlib.Path(__file__).resolve().parent.parent
 CRATES = ROOT / "crates"
 DOCS = ["CLAIMS.md", "IDLE.md"]
-# Crates that are out of the tree for a time, a line `- NAME: ..` each.
-LEFT = ROOT / "PORTING-LEFT.md"
-
-
-def waiting():
-    return re.findall(r"(?m)^- (\w+):", LEFT.read_text()) if LEFT.exists() else []
-
-
-def of_the_tree(text):
-    """The text without what it cites of crates that are out of the tree."""
-    left = waiting()
-    if not left:
-        return text
-    names = "|".join([path.name for path in CRATES.iterdir()] + left)
-    text = re.sub(r"\n +(?!- )", " ", text)
-    text = re.sub(r"(?<![\w`:])(%s)(, \w+)* and (%s), all of must-fail/" % (names, names), "", text)
-    text = re.sub(r"(?<![\w`:])(%s): ((?:(?!(?<![\w`:])(?:%s): )[^|;\n])*)" % ("|".join(left), names), "", text)
-    return re.sub(r"`(%s)::\w+`" % "|".join(left), "", text)
 
 
 def missing_functions(text):
@@ -82,7 +64,7 @@ def missing_names(text):
 def main():
     wrong = []
     for doc in DOCS:
-        text = of_the_tree((ROOT / "docs" / doc).read_text())
+        text = (ROOT / "docs" / doc).read_text()
         for find in (missing_functions, missing_labels, missing_names):
             wrong += ["%s cites %s, which is not there" % (doc, name) for name in find(text)]
     for line in wrong:
