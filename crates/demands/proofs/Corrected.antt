@@ -15,7 +15,8 @@ use Rattle.pnet_plan.specs.Planned.{planned}
 use Rattle.pnet_run.specs.Run.{Request, Answer, Queues, Token, Run}
 use Rattle.pnet_run.specs.Promise.{Spaced, Answered}
 use Rattle.pnet_run.proofs.Demand.{each_request_is_answered_within_the_refined_figure}
-use Rattle.demands.proofs.Demand3.{accepted_as_demanded, written_for, written_for_is, written, written_is_bound}
+use Rattle.demands.proofs.Demand3.{accepted_as_demanded, written_for, written_for_is}
+use Rattle.demands.proofs.Written3.{written, written_is_bound}
 
 -- the bytes s, and the three lent runs before the call; the planner accepts the sheet H that the bytes say
 module _ (s bounds refineds rounds : List ℕ) (H : Sheet) (accepts : planned s (length bounds) (length refineds) (length rounds) ≡ Read H) where

@@ -57,26 +57,3 @@ module _ (s bounds refined rounds : List ℕ) (H : Sheet) (accepts : planned s (
         let place : k - 1 < H.head.a = omega arith in
         let next : k - 1 + 1 ≡ k = omega arith in
         rw accepts (filled_at (at_place (figure (segment_of H))) H.head.a (k - 1) old place ∙ ap (figure (segment_of H)) next)
-
-    -- the run for R
-    unfoldable pub written : ℕ
-    unfolding written_for
-    written = written_for bound bounds
-
-    pub written_is_bound : written ≡ bound (segment_of H) k
-    unfolding written
-    written_is_bound = written_for_is bound bounds
-
-    -- 'each of that master's requests is answered within its bound, however often the other masters ask'
-    pub each_request_is_answered_within_the_written_bound : {now : ℕ} {token : Token} {queues : Queues} {came : List Request} {went : List Answer}
-        → Run (segment_of H) now token queues came went → Spaced (segment_of H) k came → Answered (bp written) (segment_of H) k now token came went
-    each_request_is_answered_within_the_written_bound run spaced =
-        rw written_is_bound (each_request_is_answered_within_the_bound H accepted_as_demanded k run spaced)
-
-    -- 'some such run takes exactly the bound': 'asked only for edition 1' (page 02, Ask 10), which `Even` asks for
-    pub some_run_takes_exactly_the_written_bound : 1 ≤ count (segment_of H) k → Even (segment_of H) k → Reached (bp written) (segment_of H) k
-    some_run_takes_exactly_the_written_bound some even = rw written_is_bound (some_run_takes_exactly_the_bound H in_range_law k some even)
-
-    -- 'no lower figure would be true'
-    pub no_lower_figure_than_the_written_would_be_true : 1 ≤ count (segment_of H) k → Even (segment_of H) k → (figure : BitPeriods) → Safe figure (segment_of H) k → written ≤ figure.0
-    no_lower_figure_than_the_written_would_be_true some even figure safe = rw written_is_bound (no_lower_figure_would_be_true H in_range_law k some even figure safe)

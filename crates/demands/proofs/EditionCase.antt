@@ -17,7 +17,7 @@ use Rattle.pnet_plan.specs.Planned.{planned, run_of}
 use Rattle.pnet_run.specs.Run.{Request, Answer, Queues, Token, Run}
 use Rattle.pnet_run.specs.Promise.{Spaced, Answered, Reached}
 use Rattle.pnet_run.proofs.Editions.{r_under_2, no_run_takes_R_under_2}
-use Rattle.demands.proofs.Demand3.{written, written_is_bound, each_request_is_answered_within_the_written_bound}
+use Rattle.demands.proofs.Written3.{written, written_is_bound, each_request_is_answered_within_the_written_bound}
 use Rattle.demands.proofs.Corrected.{written_refined, written_refined_is_W, each_request_is_answered_within_the_written_refined_figure}
 
 -- kind 1: N = 2; kind 8: edition 2; kind 2: master 1, C = 203, T = D = 100,000

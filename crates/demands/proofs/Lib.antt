@@ -2,6 +2,7 @@ pub mod Demand1
 pub mod Demand2
 pub mod Demand2Pnet
 pub mod Demand3
+pub mod Written3
 pub mod Corrected
 pub mod Outcomes
 pub mod PageCase

@@ -22,7 +22,7 @@ use Rattle.units.specs.declared.BitPeriods.{BitPeriods}
 use Rattle.pnet_rules.specs.Segment.{Segment, segment_of, count, bound}
 use Rattle.pnet_plan.specs.Planned.{planned}
 use Rattle.pnet_run.specs.Promise.{Safe, Reached, Even}
-use Rattle.demands.proofs.Demand3.{written, written_is_bound, some_run_takes_exactly_the_written_bound, no_lower_figure_than_the_written_would_be_true}
+use Rattle.demands.proofs.Written3.{written, written_is_bound, some_run_takes_exactly_the_written_bound, no_lower_figure_than_the_written_would_be_true}
 
 -- ---- The sheet
 
