@@ -21,7 +21,7 @@ use Rattle.pnet_urgent_rules.specs.Planned.{urgently}
 use Rattle.pnet_urgent_rules.proofs.Right.{turn_some}
 use Rattle.pnet_urgent_rules.proofs.Figures.{figure_in_time, figure_solves}
 use Rattle.pnet_run.specs.Run.{Belongs, Request, Answer, Token, RunBy}
-use Rattle.pnet_run.proofs.Charges.{charged_covers_visits}
+use Rattle.pnet_run.proofs.Charged.{charged_covers_visits}
 use Rattle.pnet_run.proofs.Spacing.{spaced_before as spaced-earlier}
 use Rattle.pnet_urgent_run.specs.Stack.{Held, Taken, here, further, HandsDown, Sends, Everyone, stacked}
 use Rattle.pnet_urgent_run.specs.Promise.{SpacedUpTo}

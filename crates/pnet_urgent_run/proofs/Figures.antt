@@ -23,7 +23,8 @@ use Rattle.pnet_urgent_rules.proofs.Cases.{urgently_declared}
 use Rattle.pnet_urgent_rules.proofs.Refusals.{accepted_exactly}
 use Rattle.pnet_run.specs.Run.{Belongs, Request, Answer, Token, RunBy}
 use Rattle.pnet_run.specs.Promise.{Spaced, Lasts, past, at_it}
-use Rattle.pnet_run.proofs.Charges.{Covers, free, charged_covers_visits}
+use Rattle.pnet_run.proofs.Charges.{Covers, free}
+use Rattle.pnet_run.proofs.Charged.{charged_covers_visits}
 use Rattle.pnet_run.proofs.Answering.{NotLate, answers_in_time, none_is_left}
 use Rattle.pnet_urgent_run.specs.Stack.{Held, stacked}
 use Rattle.pnet_urgent_run.specs.Promise.{SpacedUpTo, AnsweredOf, SafeFor}
