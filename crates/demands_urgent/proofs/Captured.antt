@@ -27,7 +27,8 @@ use Rattle.pnet_urgent_run.specs.Stack.{Held, Taken, here, further, HandsDown, S
 use Rattle.pnet_urgent_run.specs.Promise.{SpacedUpTo}
 use Rattle.pnet_urgent_run.proofs.Kept.{InHeld, stacked_keeps}
 use Rattle.pnet_urgent_run.proofs.Heeded.{heeded_itself}
-use Rattle.pnet_urgent_run.proofs.Busy.{spaced_before, waits_in_time}
+use Rattle.pnet_urgent_run.proofs.Busy.{spaced_before}
+use Rattle.pnet_urgent_run.proofs.BusyRuns.{waits_in_time}
 use Rattle.capture_log.specs.Log.{fresh}
 use Rattle.capture_log.specs.Records.{size, events_in, records, events, taken, heard}
 use Rattle.capture_ages.specs.Ages.{beyond}

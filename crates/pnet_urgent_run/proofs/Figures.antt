@@ -30,7 +30,8 @@ use Rattle.pnet_urgent_run.specs.Stack.{Held, stacked}
 use Rattle.pnet_urgent_run.specs.Promise.{SpacedUpTo, AnsweredOf, SafeFor}
 use Rattle.pnet_urgent_run.proofs.Kept.{InHeld, stacked_keeps}
 use Rattle.pnet_urgent_run.proofs.Heeded.{heeded_itself}
-use Rattle.pnet_urgent_run.proofs.Busy.{spaced_before, waits_in_time}
+use Rattle.pnet_urgent_run.proofs.Busy.{spaced_before}
+use Rattle.pnet_urgent_run.proofs.BusyRuns.{waits_in_time}
 
 -- ---- Any x that covers its right side
 
