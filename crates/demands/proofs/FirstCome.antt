@@ -12,11 +12,13 @@ use Rattle.common.specs.Sums.{when}
 use Rattle.pnet_rules.specs.Segment.{Segment, charged, bound_by, bound}
 use Rattle.pnet_run.specs.Run.{Belongs, Request, Answer, Queues, Token, first_come, Run}
 use Rattle.pnet_run.specs.Promise.{Spaced, Accepted}
-use Rattle.pnet_run.proofs.Charges.{in_ring, charged_covers_visits}
+use Rattle.pnet_run.proofs.Charges.{in_ring}
+use Rattle.pnet_run.proofs.Charged.{charged_covers_visits}
 use Rattle.pnet_run.proofs.Queues.{first_come_keeps}
 use Rattle.pnet_run.proofs.Answering.{NotLate}
-use Rattle.pnet_run.proofs.Bound.{waits_in_time}
-use Rattle.pnet_run.proofs.Spacing.{spaced_before, spaced_apart}
+use Rattle.pnet_run.proofs.EveryRun.{waits_in_time}
+use Rattle.pnet_run.proofs.Spacing.{spaced_before}
+use Rattle.pnet_run.proofs.Arrivals.{spaced_apart}
 use Rattle.demands.proofs.Matching.{Counts, Punctual, punctual_if, AllSpaced}
 
 -- ---- How many requests of stream i are in a list

@@ -21,13 +21,14 @@ use Rattle.pnet_urgent_rules.specs.Planned.{urgently}
 use Rattle.pnet_urgent_rules.proofs.Right.{turn_some}
 use Rattle.pnet_urgent_rules.proofs.Figures.{figure_in_time, figure_solves}
 use Rattle.pnet_run.specs.Run.{Belongs, Request, Answer, Token, RunBy}
-use Rattle.pnet_run.proofs.Charges.{charged_covers_visits}
+use Rattle.pnet_run.proofs.Charged.{charged_covers_visits}
 use Rattle.pnet_run.proofs.Spacing.{spaced_before as spaced-earlier}
 use Rattle.pnet_urgent_run.specs.Stack.{Held, Taken, here, further, HandsDown, Sends, Everyone, stacked}
 use Rattle.pnet_urgent_run.specs.Promise.{SpacedUpTo}
 use Rattle.pnet_urgent_run.proofs.Kept.{InHeld, stacked_keeps}
 use Rattle.pnet_urgent_run.proofs.Heeded.{heeded_itself}
-use Rattle.pnet_urgent_run.proofs.Busy.{spaced_before, waits_in_time}
+use Rattle.pnet_urgent_run.proofs.Busy.{spaced_before}
+use Rattle.pnet_urgent_run.proofs.BusyRuns.{waits_in_time}
 use Rattle.capture_log.specs.Log.{fresh}
 use Rattle.capture_log.specs.Records.{size, events_in, records, events, taken, heard}
 use Rattle.capture_ages.specs.Ages.{beyond}

@@ -9,66 +9,27 @@
 -- request in k's queue is through by now + toll, the next one turn later, and so on, each within what it is allowed, all stays
 -- true. When a request of k arrives, its stream has none waiting, since that one would have been answered: so it finds fewer than
 -- s in the queue, and is through within s turns. That one would have been answered is shown without a surcharge, by a charge that
--- covers every visit; once each arrival is known to find room, any other charge and surcharge may be counted with.
+-- covers every visit; once each arrival is known to find room, any other charge and surcharge may be counted with. From the arrival
+-- on, it is in EveryRun.
 use Prim.Native.Nat.{ℕ, suc, ◌+◌, ◌≤◌, ◌<◌}
 use mathlib.Core.Path.{◌≡◌, refl, sym}
 use mathlib.Core.Bool.{Bool, true, false}
-use mathlib.Core.Logic.{◌≢◌}
-use mathlib.Core.List.{List, [], ◌∷◌, ◌++◌, Memᴰ}
-use native.Mathlib.Nat.{mul-le-mul_right}
+use mathlib.Core.List.{List, [], ◌∷◌, Memᴰ}
 use native.Mathlib.Decide.{ℕ_discrete}
 use native.Mathlib.Omega.{arith}
 use lib.Dec.{leb}
 use lib.ListN.{length}
 use borrow.Author.Tests.{le-leb}
 use Rattle.common.specs.Sums.{when}
-use Rattle.units.specs.Units.{bp}
 use Rattle.pnet_rules.specs.Segment.{Segment, turn_by, bound_by, count}
-use Rattle.pnet_run.specs.Run.{
-  Belongs,
-  Request,
-  request,
-  Answer,
-  answer,
-  Queues,
-  put,
-  join,
-  Token,
-  toward,
-  serving,
-  Settled,
-  on_way,
-  at_work,
-  next,
-  Run,
-  start,
-  complete,
-  arrive,
-  move,
-  travel,
-  work,
-  serve,
-  skip,
-}
-use Rattle.pnet_run.specs.Promise.{Apart, and, Answered}
+use Rattle.pnet_run.specs.Run.{Belongs, Request, request, Answer, answer, Queues, put, Token, toward, serving, Settled, on_way, at_work, next, Run, start, complete, arrive, move, travel, work, serve, skip}
+use Rattle.pnet_run.specs.Promise.{Apart, and}
 use Rattle.pnet_run.proofs.Charges.{Covers, free}
 use Rattle.pnet_run.proofs.Counts.{spent, under_way}
 use Rattle.pnet_run.proofs.Keeping.{put_same, put_other}
-use Rattle.pnet_run.proofs.Queues.{owned, queue_came, queue_past}
-use Rattle.pnet_run.proofs.Answering.{NotLate, answered_in_time}
+use Rattle.pnet_run.proofs.Answering.{NotLate}
 use Rattle.pnet_run.proofs.Ring.{next_in_ring, gap, gap_next, gap_lap, gap_most, gap_least}
-use Rattle.pnet_run.proofs.Waiting.{
-  InTime,
-  none,
-  Absent,
-  absent_if,
-  in_time_by,
-  in_time_sooner,
-  in_time_rest,
-  in_time_each,
-  in_time_snoc,
-  room_for,
-}
+use Rattle.pnet_run.proofs.Waiting.{InTime, none, Absent, in_time_by, in_time_sooner, in_time_rest, in_time_each}
 
 -- arrivals that are apart: the latest from those before it, and those before it
 pub apart_latest : {d i : ℕ} {r : Request} {came : List Request} → Apart d i (r ∷ came) → r.of ≡ i → (a : ℕ) → Memᴰ (request i a) came → a + d ≤ r.since
@@ -86,7 +47,7 @@ unfolding spent
 spent_now x {t = t} {a = a} r went own l = rw (le-leb a t l, own.own)
 
 -- without a surcharge, nothing
-spent_free : (S : Segment) (a : ℕ) (went : List Answer) → spent free S a went ≡ 0
+pub spent_free : (S : Segment) (a : ℕ) (went : List Answer) → spent free S a went ≡ 0
 unfolding spent
 spent_free S a [] = refl
 spent_free S a (w ∷ went) = go (leb a w.at) (spent_free S a went)
@@ -103,11 +64,11 @@ under_way_free (serving m c) = refl
 
 module _ (S : Segment) (k : ℕ) where
   -- none of stream i waits, and fewer wait than k has streams
-  abbrev Room : ℕ → Queues → Type 0
+  abbrev pub Room : ℕ → Queues → Type 0
   Room i q = Absent i (q k) × (suc (length (q k)) ≤ count S k)
 
   -- each request of k found room when it arrived
-  unfoldable Roomy : {t : ℕ} {y : Token} {q : Queues} {came : List Request} {went : List Answer} → Run S t y q came went → Type 0
+  unfoldable pub Roomy : {t : ℕ} {y : Token} {q : Queues} {came : List Request} {went : List Answer} → Run S t y q came went → Type 0
   Roomy (start a b c) = Unit {0}
   Roomy (complete z p) = Roomy z
   Roomy (arrive {m = m} {i = i} {q = q} z o d) = (m ≡ k → Room i q) × Roomy z
@@ -136,13 +97,13 @@ module _ (S : Segment) (h x : ℕ → ℕ) (k : ℕ) (1≤k : 1 ≤ k) (k≤n : 
   abbrev allowed : Token → List Answer → ℕ → ℕ
   allowed y went a = bound_by h S k + 40 + (under_way x y + spent x S a went)
 
-  abbrev Queue : ℕ → Token → List Request → List Answer → Type 0
+  abbrev pub Queue : ℕ → Token → List Request → List Answer → Type 0
   Queue t y l went = InTime (turn_by h S) (allowed y went) (t + toll y) l
 
   -- what holds of master k at every stage of a run
-  record Inv (t : ℕ) (y : Token) (q : Queues) (went : List Answer) : Type 0 where
-    token : Sane y
-    queue : Queue t y (q k) went
+  pub record Inv (t : ℕ) (y : Token) (q : Queues) (went : List Answer) : Type 0 where
+    pub token : Sane y
+    pub queue : Queue t y (q k) went
 
   pub next_in : {m : ℕ} → m ≤ S.masters → (1 ≤ next S.masters m) × (next S.masters m ≤ S.masters)
   next_in {m} l = next_in_ring S.masters m (omega arith) l
@@ -150,13 +111,13 @@ module _ (S : Segment) (h x : ℕ → ℕ) (k : ℕ) (1≤k : 1 ≤ k) (k≤n : 
   module _ (cover : Covers h x S) where
     -- ---- Time passes
 
-    inv_travel : {t m d : ℕ} {q : Queues} {went : List Answer} (e : ℕ) → Inv t (toward m (e + d)) q went → Inv (t + e) (toward m d) q went
+    pub inv_travel : {t m d : ℕ} {q : Queues} {went : List Answer} (e : ℕ) → Inv t (toward m (e + d)) q went → Inv (t + e) (toward m d) q went
     inv_travel e i = record { token = omega arith; queue = in_time_sooner (omega arith) i.queue }
 
-    inv_work : {t m c : ℕ} {q : Queues} {went : List Answer} (e : ℕ) → Inv t (serving m (e + c)) q went → Inv (t + e) (serving m c) q went
+    pub inv_work : {t m c : ℕ} {q : Queues} {went : List Answer} (e : ℕ) → Inv t (serving m (e + c)) q went → Inv (t + e) (serving m c) q went
     inv_work e i = record { token = omega arith; queue = in_time_sooner (omega arith) i.queue }
 
-    inv_skip : {t m d : ℕ} {q : Queues} {went : List Answer} (e : ℕ) → Inv t (toward m 0) q went → q m ≡ [] → e + d ≤ 10
+    pub inv_skip : {t m d : ℕ} {q : Queues} {went : List Answer} (e : ℕ) → Inv t (toward m 0) q went → q m ≡ [] → e + d ≤ 10
         → Inv (t + e) (toward (next S.masters m) d) q went
     inv_skip {t} {m} {d} {q} {went} e i p s = record { token = omega (arith, next_in i.token.1); queue = queue' (ℕ_discrete m k) }
       where
@@ -165,7 +126,7 @@ module _ (S : Segment) (h x : ℕ → ℕ) (k : ℕ) (1≤k : 1 ≤ k) (k≤n : 
         queue' (no z) = in_time_sooner (omega (arith, gap_next h S.masters k 1≤k k≤n m i.token.1 z, cover.unused m i.token.0 i.token.1)) i.queue
 
     -- here the toll may grow, and what is allowed grows with it
-    inv_serve : {t m c i : ℕ} {q : Queues} {went : List Answer} (e : ℕ)
+    pub inv_serve : {t m c i : ℕ} {q : Queues} {went : List Answer} (e : ℕ)
         → Inv t (toward m 0) q went → Belongs S m i → e + c ≤ 7 + (S.stream i).cycle → Inv (t + e) (serving m c) q went
     inv_serve {m = m} {i = i} e I own s =
         let most = cover.used m i own in
@@ -177,7 +138,7 @@ module _ (S : Segment) (h x : ℕ → ℕ) (k : ℕ) (1≤k : 1 ≤ k) (k≤n : 
     -- ---- A completion
 
     -- what was under way is spent, for all that wait
-    inv_complete : {t m d : ℕ} {q : Queues} {r : Request} {rest : List Request} {went : List Answer} → Inv t (serving m 0) q went → q m ≡ r ∷ rest
+    pub inv_complete : {t m d : ℕ} {q : Queues} {r : Request} {rest : List Request} {went : List Answer} → Inv t (serving m 0) q went → q m ≡ r ∷ rest
         → Belongs S m r.of → ((p : Request) → Memᴰ p (q k) → p.since ≤ t) → d ≤ 40
         → Inv t (toward (next S.masters m) d) (put q m rest) (answer r t ∷ went)
     unfolding turn_by
@@ -200,33 +161,6 @@ module _ (S : Segment) (h x : ℕ → ℕ) (k : ℕ) (1≤k : 1 ≤ k) (k≤n : 
     toll_most (toward m d) o = omega (arith, gap_most h S.masters k 1≤k k≤n m o.0 o.1)
     toll_most (serving m c) o = omega (arith, gap_most h S.masters k 1≤k k≤n m o.0 o.1)
 
-    -- where k finds room, the request will be answered in time
-    inv_arrive : {t m i : ℕ} {y : Token} {q : Queues} {went : List Answer} → Inv t y q went → (m ≡ k → Room S k i q) → Inv t y (join q m (request i t)) went
-    unfolding bound_by
-    inv_arrive {t} {m} {i} {y} {q} {went} I room = record { token = I.token; queue = queue' (ℕ_discrete m k) }
-      where
-        r : Request
-        r = request i t
-
-        queue' : Dec (m ≡ k) → Queue t y (join q m r k) went
-        queue' (yes e) =
-            rw (e, put_same q k (q k ++ (r ∷ [])))
-            (in_time_snoc r (room e).0 (omega (arith, toll_most y I.token, mul-le-mul_right (turn_by h S) (room e).1)) I.queue)
-        queue' (no e) = rw (put_other q m (q m ++ (r ∷ [])) k (λ z. e (sym z))) I.queue
-
-    -- ---- Every run with room
-
-    inv : {t : ℕ} {y : Token} {q : Queues} {came : List Request} {went : List Answer} (z : Run S t y q came went) → Roomy S k z → Inv t y q went
-    unfolding Roomy
-    inv (start a b c) s = record { token = omega arith; queue = none }
-    inv (complete {m = m} {r = r} z p) s = inv_complete (inv z s) p (owned z m r (rw p (Memᴰ.head refl))) (queue_past z k) (omega arith)
-    inv (arrive z o d) s = inv_arrive (inv z s.1) s.0
-    inv (move _ _ never) s = elim never [ ]
-    inv (travel e z) s = inv_travel e (inv z s)
-    inv (work e z) s = inv_work e (inv z s)
-    inv (serve {m = m} {r = r} e u v z p a b c d f g) s = inv_serve e (inv z s) (owned z m r (rw p (Memᴰ.head refl))) (omega arith)
-    inv (skip e z p a b) s = inv_skip e (inv z s) p (omega arith)
-
     -- ---- What waits is not late
 
     pub toll_some : (y : Token) → Sane y → 40 < h k → 40 ≤ toll y
@@ -237,65 +171,8 @@ module _ (S : Segment) (h x : ℕ → ℕ) (k : ℕ) (1≤k : 1 ≤ k) (k≤n : 
     toll_settled o (on_way {m = m}) b = omega (arith, gap_least h S.masters k 1≤k k≤n m o.1)
     toll_settled o at_work b = omega arith
 
-    waits : {t : ℕ} {y : Token} {q : Queues} {went : List Answer} → 40 < h k → Inv t y q went → (r : Request) → Memᴰ r (q k)
+    pub waits : {t : ℕ} {y : Token} {q : Queues} {went : List Answer} → 40 < h k → Inv t y q went → (r : Request) → Memᴰ r (q k)
         → NotLate (bound_by h S k + (under_way x y + spent x S r.since went)) r.since t y
     waits {y = y} b I r j =
         let g = in_time_each I.queue j in
         record { by_then = omega (arith, toll_some y I.token b); before = λ s. omega (arith, toll_settled I.token s b) }
-
--- ---- The bound
-
-module _ (S : Segment) (h : ℕ → ℕ) (k : ℕ) (1≤k : 1 ≤ k) (k≤n : k ≤ S.masters) (cover : Covers h free S)
-    (least : ℕ → ℕ) (fits : (i : ℕ) → Belongs S k i → bound_by h S k ≤ least i) where
-  abbrev KeptApart : List Request → Type 0
-  KeptApart came = (i : ℕ) → Belongs S k i → Apart (least i) i came
-
-  -- what holds with no surcharge
-  plain : {t : ℕ} {y : Token} {q : Queues} {came : List Request} {went : List Answer} (z : Run S t y q came went) → Roomy S k z → Inv S h free k 1≤k k≤n t y q went
-  plain z s = inv S h free k 1≤k k≤n cover z s
-
-  not_late : {t : ℕ} {y : Token} {q : Queues} {came : List Request} {went : List Answer} (z : Run S t y q came went) → Roomy S k z
-      → (r : Request) → Memᴰ r (q k) → NotLate (bound_by h S k) r.since t y
-  not_late {y = y} {went = went} z s r j =
-      let long : 40 < h k = omega (arith, cover.used k r.of (owned z k r j)) in
-      let w = waits S h free k 1≤k k≤n cover long (plain z s) r j in
-      let none : under_way free y + spent free S r.since went ≡ 0 = omega (arith, under_way_free y, spent_free S r.since went) in
-      record { by_then = omega (arith, w.by_then); before = λ o. omega (arith, w.before o) }
-
-  -- nothing of stream i waits when its next request arrives, so there is room
-  alone : {t i : ℕ} {y : Token} {q : Queues} {came : List Request} {went : List Answer} (z : Run S t y q came went) → Roomy S k z → Settled y
-      → Belongs S k i → KeptApart (request i t ∷ came) → (r : Request) → Memᴰ r (q k) → i ≢ r.of
-  alone {i = i} z s o d apart r j e =
-      omega (arith, fits i d, (not_late z s r j).before o, apart_latest (apart i d) refl r.since (rw e (queue_came z k r j)))
-
-  room : {t i : ℕ} {y : Token} {q : Queues} {came : List Request} {went : List Answer} (z : Run S t y q came went) → Roomy S k z → Settled y
-      → Belongs S k i → KeptApart (request i t ∷ came) → Room S k i q
-  room {i = i} {q = q} z s o d apart =
-      let f = alone z s o d apart in
-      (absent_if i (q k) f, room_for S k i d (plain z s).queue (owned z k) f)
-
-  roomy : {t : ℕ} {y : Token} {q : Queues} {came : List Request} {went : List Answer} (z : Run S t y q came went) → KeptApart came → Roomy S k z
-  unfolding Roomy
-  roomy (start a b c) apart = tt
-  roomy (complete z p) apart = roomy z apart
-  roomy (arrive z o d) apart = let s = roomy z (λ j e. apart_before (apart j e)) in (λ e. room z s o (rw e at d) apart, s)
-  roomy (move _ _ never) apart = elim never [ ]
-  roomy (travel e z) apart = roomy z apart
-  roomy (work e z) apart = roomy z apart
-  roomy (serve e u v z p a b c d f g) apart = roomy z apart
-  roomy (skip e z p a b) apart = roomy z apart
-
-  pub waits_in_time : {t : ℕ} {y : Token} {q : Queues} {came : List Request} {went : List Answer} → Run S t y q came went → KeptApart came
-      → (r : Request) → Memᴰ r (q k) → NotLate (bound_by h S k) r.since t y
-  waits_in_time z apart = not_late z (roomy z apart)
-
-  pub answered_by : {t : ℕ} {y : Token} {q : Queues} {came : List Request} {went : List Answer}
-      → Run S t y q came went → KeptApart came → Answered (bp (bound_by h S k)) S k t y came went
-  answered_by = answered_in_time S k (bound_by h S k) KeptApart (λ r came apart i d. apart_before (apart i d)) (λ t y q came went. waits_in_time)
-
-  -- ---- The bound by another charge, with a surcharge for each used visit
-
-  pub credit_by : (g x : ℕ → ℕ) → Covers g x S → 40 < g k
-      → {t : ℕ} {y : Token} {q : Queues} {came : List Request} {went : List Answer} → Run S t y q came went → KeptApart came → (r : Request) → Memᴰ r (q k)
-      → NotLate (bound_by g S k + (under_way x y + spent x S r.since went)) r.since t y
-  credit_by g x c long z apart r j = waits S g x k 1≤k k≤n c long (inv S g x k 1≤k k≤n c z (roomy z apart)) r j

@@ -1,5 +1,5 @@
 -- A declared stream and its master, and the charges that cover a visit: 10 bp for an unused one, and 7 bp reaction, C and a 40 bp pass for
--- a used one. The page's H covers both, and so does any charge that is at least H, as that of either edition is. Assumes nothing.
+-- a used one. The page's H covers both, and so does any charge that is at least H, as that of either edition is (Charged). Assumes nothing.
 use Prim.Native.Nat.{ℕ, zero, suc, ◌+◌, ◌≤◌}
 use mathlib.Core.Path.{◌≡◌, refl}
 use mathlib.Core.Bool.{Bool, true, false}
@@ -9,9 +9,9 @@ use lib.Dec.{eqb}
 use borrow.Author.Tests.{eq-eqb, eqb-true}
 use Rattle.common.specs.Sums.{when, upto}
 use Rattle.common.proofs.Sums.{upto_most, greatest_least}
-use Rattle.pnet_rules.specs.Segment.{Segment, owns, count, longest, hold, charged}
+use Rattle.pnet_rules.specs.Segment.{Segment, owns, count, longest, hold}
 use Rattle.pnet_rules.specs.Limits.{Declared}
-use Rattle.pnet_rules.proofs.Holds.{count_owned, cycle_at_most_longest, hold_some, hold_at_least, cycle_held, charged_covers}
+use Rattle.pnet_rules.proofs.Holds.{count_owned, cycle_at_most_longest, hold_some, hold_at_least, cycle_held}
 use Rattle.pnet_run.specs.Run.{Belongs}
 
 -- ---- A stream of master m
@@ -73,10 +73,6 @@ covers_if {S} declared least = record {
       let ring = in_ring declared b in
       omega (arith, least y ring.0 ring.1, rw b.own at (cycle_held S i b.from_one b.to_last));
 }
-
--- so that of either edition does
-pub charged_covers_visits : {S : Segment} → Declared S → Covers (charged S) free S
-charged_covers_visits {S} declared = covers_if declared (charged_covers S)
 
 -- where a master's streams are equally long, H is what a used visit takes at most, and no more
 pub hold_alike : {S : Segment} {m i : ℕ} → Belongs S m i → ((j : ℕ) → Belongs S m j → (S.stream j).cycle ≡ (S.stream i).cycle)

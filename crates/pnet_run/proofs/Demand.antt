@@ -18,11 +18,12 @@ use Rattle.pnet_rules.proofs.Holds.{charged_covers}
 use Rattle.pnet_rules.proofs.Editions.{bound_no_less_by}
 use Rattle.pnet_run.specs.Run.{Belongs, Request, Answer, answer, Queues, Token, Run}
 use Rattle.pnet_run.specs.Promise.{Spaced, Answered, Safe, Reached, Accepted, Even}
-use Rattle.pnet_run.proofs.Charges.{belongs_count, count_belongs, in_ring, covers_if, charged_covers_visits, some_cycle}
+use Rattle.pnet_run.proofs.Charges.{belongs_count, count_belongs, in_ring, covers_if, some_cycle}
+use Rattle.pnet_run.proofs.Charged.{charged_covers_visits}
 use Rattle.pnet_run.proofs.Answering.{answered_if_it_asks}
-use Rattle.pnet_run.proofs.Spacing.{spaced_apart}
-use Rattle.pnet_run.proofs.Bound.{answered_by}
-use Rattle.pnet_run.proofs.Refined.{answered_within}
+use Rattle.pnet_run.proofs.Arrivals.{spaced_apart}
+use Rattle.pnet_run.proofs.EveryRun.{answered_by}
+use Rattle.pnet_run.proofs.Within.{answered_within}
 use Rattle.pnet_run.proofs.Exact.{exact}
 use Rattle.pnet_run.proofs.Progress.{Later, goes_on}
 

@@ -3,11 +3,14 @@ pub mod Queues
 pub mod Answering
 pub mod Ring
 pub mod Charges
+pub mod Charged
 pub mod Shares
 pub mod Counts
 pub mod Waiting
 pub mod Spacing
+pub mod Arrivals
 pub mod Bound
+pub mod EveryRun
 pub mod Window
 pub mod Answers
 pub mod Picked
@@ -15,9 +18,11 @@ pub mod Slowest
 pub mod Exact
 pub mod Progress
 pub mod Refined
+pub mod Within
 pub mod Literal
 pub mod Demand
 pub mod Few
 pub mod TwoMasters
+pub mod TwoMastersReach
 pub mod Jitter
 pub mod Editions

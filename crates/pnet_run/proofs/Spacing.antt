@@ -1,8 +1,8 @@
 -- What it is to keep a spacing. In a run, a stream that keeps T with jitter J has its arrivals at least T - J apart; where J is 0, to keep the
--- spacing is to have them T apart, no more and no less. A stream that asks every d bp, each time up to J late, keeps the spacing d with
+-- spacing is to have them T apart, no more and no less (Arrivals). A stream that asks every d bp, each time up to J late, keeps the spacing d with
 -- jitter J. So `Kept` asks for no more than the page's words; that it asks for no less is what the bound rests on. Assumes nothing.
 use Prim.Native.Nat.{ℕ, zero, suc, ◌+◌, ◌-◌, ◌*◌, ◌≤◌, ◌<◌}
-use mathlib.Core.Path.{◌≡◌, refl, ap, sym, subst}
+use mathlib.Core.Path.{◌≡◌, refl, ap, sym}
 use mathlib.Core.Logic.{inl, inr, ⊎_elim}
 use mathlib.Core.List.{
   List,
@@ -15,8 +15,7 @@ use native.Mathlib.Nat.{suc-mul}
 use native.Mathlib.Decide.{ℕ_discrete}
 use native.Mathlib.Omega.{arith}
 use Rattle.pnet_rules.specs.Segment.{Segment}
-use Rattle.pnet_rules.specs.Limits.{Declared}
-use Rattle.pnet_run.specs.Run.{Belongs, Request, request, Answer, Queues, Token, Discipline, RunBy, Run, start, complete, arrive, move, travel, work, serve, skip}
+use Rattle.pnet_run.specs.Run.{Belongs, Request, request, Answer, Token, Discipline, RunBy, start, complete, arrive, move, travel, work, serve, skip}
 use Rattle.pnet_run.specs.Promise.{Kept, quiet, other, asks, Spaced, Apart, none, and}
 use Rattle.pnet_run.proofs.Keeping.{came_past}
 
@@ -99,12 +98,6 @@ kept_apart short (later o order) (asks {r = r} u own from to far kept) =
     (λ e a j. let v = due_of kept a j in omega (arith, v.2, due_in_order short (later o order) own (asks {r = r} u own from to far kept) v.0 v.1))
     (kept_apart short order kept)
 
--- so it is for each stream of a master that keeps its spacing
-pub spaced_apart : {S : Segment} {k t : ℕ} {y : Token} {q : Queues} {came : List Request} {went : List Answer}
-    → Declared S → Run S t y q came went → Spaced S k came → (i : ℕ) → Belongs S k i → Apart ((S.stream i).spacing - (S.stream i).jitter) i came
-spaced_apart declared run spaced i b =
-    kept_apart (declared.ranges i b.from_one b.to_last).jitter_to (came_in_order run) (spaced i b).1
-
 -- the instants J behind the nominal times are T apart
 pub due_apart : {T J i : ℕ} {came : List Request} {due : List ℕ} → J < T → InOrder came → Kept T J i came due → Apart T i (map (request i) due)
 due_apart short order quiet = none
@@ -141,13 +134,6 @@ apart_kept J apart = let d = on_time apart in (d.0, kept_loosely (omega arith) (
 -- so it is for each stream of a master
 pub apart_spaced : {S : Segment} {k : ℕ} {came : List Request} → ((i : ℕ) → Belongs S k i → Apart (S.stream i).spacing i came) → Spaced S k came
 apart_spaced {S} apart i b = apart_kept (S.stream i).jitter (apart i b)
-
--- in a run the one is the other
-pub without_jitter_it_is_apart : {S : Segment} {T i t : ℕ} {y : Token} {q : Queues} {came : List Request} {went : List Answer}
-    → Run S t y q came went → 1 ≤ T
-    → ((due : List ℕ) × Kept T 0 i came due → Apart T i came) × (Apart T i came → (due : List ℕ) × Kept T 0 i came due)
-without_jitter_it_is_apart {T = T} {i = i} {came = came} run some =
-    (λ kept. subst (λ (d : ℕ). Apart d i came) (omega arith) (kept_apart (omega arith) (came_in_order run) kept.1), apart_kept 0)
 
 -- ---- A stream that asks every d bp
 

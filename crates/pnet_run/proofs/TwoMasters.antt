@@ -1,4 +1,4 @@
--- The refined figure on page 01's third sheet, step by step: W of master 1 is 760 bp. A run in which every master keeps its spacing takes 760 bp; one in
+-- The refined figure on page 01's third sheet, step by step: W of master 1 is 760 bp. A run in which every master keeps its spacing takes 760 bp (TwoMastersReach); one in
 -- which master 2 asks oftener than declared takes 1,000. So on this sheet W is no larger than it must be, and it needs the spacing of
 -- every master, not of master 1 alone. The sheet names no edition, so edition 1 holds. Assumes nothing.
 use Prim.Native.Nat.{ℕ, ◌+◌, ◌≤◌}
@@ -16,11 +16,11 @@ use Rattle.pnet_rules.specs.Refined.{refined}
 use Rattle.pnet_rules.specs.Limits.{Ranged, Declared}
 use Rattle.pnet_rules.proofs.Declares.{stream_ranged}
 use Rattle.pnet_run.specs.Run.{Belongs, Request, request, Answer, answer, Queues, put, Token, toward, on_way, next, Run, start, arrive, travel, skip}
-use Rattle.pnet_run.specs.Promise.{none, and, Spaced, Answered, Reached, Accepted}
+use Rattle.pnet_run.specs.Promise.{none, and, Spaced, Answered, Accepted}
 use Rattle.pnet_run.proofs.Few.{each, limits, declared_if_few}
 use Rattle.pnet_run.proofs.Picked.{picked}
 use Rattle.pnet_run.proofs.Spacing.{apart_spaced}
-use Rattle.pnet_run.proofs.Slowest.{slowest, asked, queues_to, asked_to, all_asked, asked_each, asked_spaced}
+use Rattle.pnet_run.proofs.Slowest.{slowest, asked, queues_to, asked_to, all_asked}
 use Rattle.pnet_run.proofs.Demand.{accepted_if_none_is_late}
 
 -- ---- The sheet
@@ -57,7 +57,7 @@ stream_1 : Belongs two 1 1
 unfolding segment_of
 stream_1 = record { from_one = omega arith; to_last = omega arith; own = refl }
 
-stream_2 : Belongs two 1 2
+pub stream_2 : Belongs two 1 2
 unfolding segment_of
 stream_2 = record { from_one = omega arith; to_last = omega arith; own = refl }
 
@@ -69,7 +69,7 @@ stream_3 = record { from_one = omega arith; to_last = omega arith; own = refl }
 
 -- the token is 40 bp away from master 2 when all ask; then every reaction is 7 bp and every message 203. Master 2 has nothing left
 -- to send when the token comes for the second time
-once : (q : Queues) × (went : List Answer) × Run two 760 (toward 2 40) q (asked_to 3) (answer (asked 2) 760 ∷ went)
+pub once : (q : Queues) × (went : List Answer) × Run two 760 (toward 2 40) q (asked_to 3) (answer (asked 2) 760 ∷ went)
 unfolding segment_of put next picked owns asked_to
 once =
     let asking : Run two 0 (toward 2 40) (queues_to two 3) (asked_to 3) [] = all_asked two (omega arith) (omega arith) (omega arith) in
@@ -77,22 +77,6 @@ once =
     let at-500 : Run two 500 (toward 2 40) _ (asked_to 3) _ = slowest (travel {d = 0} 40 at-250) refl (omega arith) in
     let at-550 : Run two 550 (toward 1 0) _ (asked_to 3) _ = skip {d = 0} 10 (travel {d = 0} 40 at-500) refl (omega arith) refl in
     (_, _, slowest at-550 refl (omega arith))
-
-pub some_run_takes_760 : Reached (bp 760) two 1
-unfolding segment_of
-some_run_takes_760 = record {
-  now = 760;
-  token = toward 2 40;
-  queues = once.0;
-  came = asked_to 3;
-  went = answer (asked 2) 760 ∷ once.1;
-  run = once.2;
-  spaced = asked_spaced two;
-  slow = asked 2;
-  arrived = asked_each 3 2 (omega arith) (omega arith);
-  own = stream_2;
-  exact = Memᴰ.head refl;
-}
 
 -- ---- Master 2 asks twice at once
 

@@ -1,20 +1,18 @@
 -- When the stack has none, step by step on one sheet (Three). Streams 2 and 3 ask at 0, and stream 1 at 1, when stream 2's request is under way. By a stack that takes
--- stream 3's request meanwhile, stream 1 waits for both, 709 bp: so its figure, 500, is no promise there. By one that takes its next when the answer is complete, it
+-- stream 3's request meanwhile, stream 1 waits for both, 709 bp: so its figure, 500, is no promise there (EarlyUnsafe). By one that takes its next when the answer is complete, it
 -- waits for one: 459 bp. Assumes nothing.
-use Prim.Native.Nat.{ℕ, ◌+◌, ◌≤◌}
+use Prim.Native.Nat.{ℕ, ◌≤◌}
 use mathlib.Core.Path.{◌≡◌, refl}
 use mathlib.Core.List.Memᴰ
 use mathlib.Core.List.{List, [], ◌∷◌}
 use native.Mathlib.Omega.{arith}
-use Rattle.units.specs.Units.{bp}
 use Rattle.pnet_rules.specs.Segment.{segment_of}
-use Rattle.pnet_urgent_rules.specs.Urgent.{ahead, figure}
-use Rattle.pnet_run.specs.Run.{Request, request, Answer, answer, put, Token, toward, serving, on_way, at_work, next, RunBy, complete, arrive, work, serve}
+use Rattle.pnet_urgent_rules.specs.Urgent.{ahead}
+use Rattle.pnet_run.specs.Run.{Request, request, Answer, answer, put, Token, toward, serving, on_way, at_work, next, complete, arrive, work, serve}
 use Rattle.pnet_run.specs.Promise.{Kept, quiet, other, asks, Spaced}
 use Rattle.pnet_run.proofs.Few.{each}
-use Rattle.pnet_urgent_run.specs.Stack.{Held, held, here, further, MostUrgent, Sends, besides, one, early, Everyone}
-use Rattle.pnet_urgent_run.specs.Promise.{AnsweredOf}
-use Rattle.pnet_urgent_run.proofs.Three.{three, figures_are, stream_1, stream_2, stream_3}
+use Rattle.pnet_urgent_run.specs.Stack.{Held, held, here, further, MostUrgent, Sends, besides, one}
+use Rattle.pnet_urgent_run.proofs.Three.{three, stream_1, stream_2, stream_3}
 use Rattle.pnet_urgent_run.proofs.Progress.{most_none, most_and, alone}
 use Rattle.pnet_urgent_run.proofs.Steps.{By, starts, down, lap, served}
 
@@ -58,7 +56,7 @@ a_second_under_way = (refl, refl, refl)
 abbrev pub went_early : List Answer
 went_early = answer (request 1 1) 710 ∷ answer (request 3 0) 460 ∷ answer (request 2 0) 210 ∷ []
 
-early_run : (q : ℕ → Held) × By besides 500 0 710 (toward 1 40) q came went_early
+pub early_run : (q : ℕ → Held) × By besides 500 0 710 (toward 1 40) q came went_early
 unfolding segment_of put next besides
 early_run =
     let at_1 : By besides 500 0 1 (serving 1 209) kept_at_1 _ [] = under_way besides (omega arith) in
@@ -106,14 +104,3 @@ unfolding segment_of
 every_stream_keeps_its_spacing k i b =
     each (λ n. (due : List ℕ) × Kept (three.stream n).spacing (three.stream n).jitter n came due) (1 ∷ [], stream_1_keeps) (0 ∷ [], stream_2_keeps)
     (0 ∷ [], stream_3_keeps) i b.from_one b.to_last
-
--- ---- So the figure is not safe for a stack that takes its next request early
-
-pub not_by_an_early_stack :
-    ((t : ℕ) (y : Token) (q : ℕ → Held) (came : List Request) (went : List Answer) → RunBy (early three Everyone) three t y q came went
-    → ((k : ℕ) → Spaced three k came) → AnsweredOf (bp (figure three 1)) 1 t y came went)
-    → ⊥
-not_by_an_early_stack safe =
-    let answered = safe 710 (toward 1 40) early_run.0 came went_early early_run.1 every_stream_keeps_its_spacing in
-    let l : 710 ≤ 1 + figure three 1 = answered.in_time (answer (request 1 1) 710) (Memᴰ.head refl) refl in
-    omega (arith, figures_are.0)

@@ -23,13 +23,15 @@ use Rattle.pnet_urgent_rules.proofs.Cases.{urgently_declared}
 use Rattle.pnet_urgent_rules.proofs.Refusals.{accepted_exactly}
 use Rattle.pnet_run.specs.Run.{Belongs, Request, Answer, Token, RunBy}
 use Rattle.pnet_run.specs.Promise.{Spaced, Lasts, past, at_it}
-use Rattle.pnet_run.proofs.Charges.{Covers, free, charged_covers_visits}
+use Rattle.pnet_run.proofs.Charges.{Covers, free}
+use Rattle.pnet_run.proofs.Charged.{charged_covers_visits}
 use Rattle.pnet_run.proofs.Answering.{NotLate, answers_in_time, none_is_left}
 use Rattle.pnet_urgent_run.specs.Stack.{Held, stacked}
 use Rattle.pnet_urgent_run.specs.Promise.{SpacedUpTo, AnsweredOf, SafeFor}
 use Rattle.pnet_urgent_run.proofs.Kept.{InHeld, stacked_keeps}
 use Rattle.pnet_urgent_run.proofs.Heeded.{heeded_itself}
-use Rattle.pnet_urgent_run.proofs.Busy.{spaced_before, waits_in_time}
+use Rattle.pnet_urgent_run.proofs.Busy.{spaced_before}
+use Rattle.pnet_urgent_run.proofs.BusyRuns.{waits_in_time}
 
 -- ---- Any x that covers its right side
 

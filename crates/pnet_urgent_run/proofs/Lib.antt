@@ -1,14 +1,17 @@
 pub mod Kept
 pub mod Heeded
 pub mod Busy
+pub mod BusyRuns
 pub mod Figures
 pub mod Progress
 pub mod Oldest
 pub mod Three
 pub mod Steps
 pub mod Early
+pub mod EarlyUnsafe
 pub mod Laps
 pub mod Exact
 pub mod Needs
 pub mod Turns
 pub mod Slowest
+pub mod NoLower

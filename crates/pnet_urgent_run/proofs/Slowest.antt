@@ -1,5 +1,5 @@
 -- Some run takes exactly V·(1 + b + the number of streams ahead), under edition 1 and where each master's own streams are equally long. So where no stream ahead of i can ask twice
--- within x, no figure lower than x would be true. Assumes nothing.
+-- within x, no figure lower than x would be true (NoLower). Assumes nothing.
 --
 -- The run: the token has just left i's master. A request behind i is in the stack, if there is a stream behind it; stream i and all ahead of it ask. From then on each turn
 -- takes V and answers one request, the one in the stack first and i's last.
@@ -20,10 +20,8 @@ use Rattle.units.specs.declared.BitPeriods.{BitPeriods}
 use Rattle.units.specs.Units.{bp}
 use Rattle.pnet_rules.specs.Segment.{Segment, turn}
 use Rattle.pnet_rules.specs.Limits.{Declared}
-use Rattle.pnet_urgent_rules.specs.Urgent.{ahead, rank, behind, blocked, ahead_in, figure, unmet}
+use Rattle.pnet_urgent_rules.specs.Urgent.{ahead, rank, behind, blocked, ahead_in}
 use Rattle.pnet_urgent_rules.proofs.Order.{ahead_then, ahead_itself, ahead_one_way}
-use Rattle.pnet_urgent_rules.proofs.Right.{turn_some}
-use Rattle.pnet_urgent_rules.proofs.Figures.{declared_met, met_is_figure}
 use Rattle.pnet_run.specs.Run.{Belongs, Request, request, Answer, answer, put, toward, on_way, next, RunBy, start, arrive, move}
 use Rattle.pnet_run.specs.Promise.{Kept, quiet, other, asks}
 use Rattle.pnet_run.proofs.Charges.{in_ring}
@@ -332,7 +330,7 @@ reached_is_least R Q x safe = omega (arith, (safe.ever {Urgent = Everyone} tt x.
 abbrev pub OnceEach : Segment → ℕ → ℕ → Type 0
 OnceEach S i x = (j : ℕ) → 1 ≤ j → j ≤ S.number → ahead S i j ≡ true → x + (S.stream j).jitter ≤ (S.stream j).spacing
 
-once_is_rank : (S : Segment) → Declared S → (i x : ℕ) → 1 ≤ x → OnceEach S i x → ahead_in S i x ≡ rank S i
+pub once_is_rank : (S : Segment) → Declared S → (i x : ℕ) → 1 ≤ x → OnceEach S i x → ahead_in S i x ≡ rank S i
 unfolding ahead_in rank
 once_is_rank S declared i x some once =
     upto_same (λ j. when (ahead S i j) (up (x + (S.stream j).jitter) (S.stream j).spacing)) (λ j. when (ahead S i j) 1) S.number
@@ -348,19 +346,3 @@ once_is_rank S declared i x some once =
     each : (j : ℕ) → 1 ≤ j → j ≤ S.number → (b : Bool) → ahead S i j ≡ b → when b (up (x + (S.stream j).jitter) (S.stream j).spacing) ≡ when b 1
     each j lo hi true e = one (x + (S.stream j).jitter) (S.stream j).spacing (omega arith) (once j lo hi e)
     each j lo hi false e = refl
-
--- Page 02, Ask 10, charges each master its own H under edition 1 alone; so exactness is said of edition 1, as in demand 3
-pub no_lower_figure_would_be_true : (S : Segment) → Declared S → S.edition ≡ 1
-    → ((m a b : ℕ) → Belongs S m a → Belongs S m b → (S.stream a).cycle ≡ (S.stream b).cycle)
-    → (i : ℕ) → 1 ≤ i → i ≤ S.number → unmet S i ≡ false → OnceEach S i (figure S i)
-    → ReachedFor (bp (figure S i)) S i × ((Q : BitPeriods) → SafeFor Q S i → figure S i ≤ Q.0)
-no_lower_figure_would_be_true S declared first_edition alike i from to accepted once =
-    let some = turn_some S declared in
-    let met = (declared_met S declared i).0 accepted in
-    let is = met_is_figure S i some met in
-    let solves : figure S i ≡ turn S * (1 + blocked S i + ahead_in S i (figure S i)) = rw is at met.solves.equal in
-    let positive : 1 ≤ figure S i = omega (arith, solves, some) in
-    let reached : ReachedFor (bp (figure S i)) S i =
-    rw (solves ∙ ap (λ (n : ℕ). turn S * (1 + blocked S i + n)) (once_is_rank S declared i (figure S i) positive once))
-    (some_run_takes S declared first_edition alike i from to) in
-    (reached, λ Q safe. reached_is_least (bp (figure S i)) Q reached safe)
