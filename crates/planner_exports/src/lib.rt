@@ -1,4 +1,4 @@
-// The planners, sheets as text and sheets rewritten, under plain names, for programs in other languages to link. Each answers one number,
+// The planners, sheets as text and sheets rewritten, under plain names and in plain numbers, for programs in other languages (planner_exports_c). Each answers one number,
 // a figure where the sheet is accepted, else 2^32 and the refusal's number; and a place, in a cell that is lent for it and always set: the
 // refusal's, else 0, or the stream that limits a ring.
 #![tactic(auto)]
@@ -32,8 +32,7 @@ fn told(number: u64, at: usize, place: &mut u64) -> u64
 }
 
 // The masters of a P-NET segment; R, W and rounds go to the three runs.
-#[unsafe(no_mangle)]
-pub extern "C" fn planner_pnet(
+pub fn planner_pnet(
     s: &[u8],
     bound: &mut [u32],
     refined: &mut [u32],
@@ -57,8 +56,7 @@ pub extern "C" fn planner_pnet(
 }
 
 // The streams of a P-NET segment whose urgent requests go first; the place in its master's order, x and rounds of each go to the three runs.
-#[unsafe(no_mangle)]
-pub extern "C" fn planner_urgent(
+pub fn planner_urgent(
     s: &[u8],
     places: &mut [u32],
     figure: &mut [u32],
@@ -82,8 +80,7 @@ pub extern "C" fn planner_urgent(
 }
 
 // TTR of a PROFIBUS ring, in bp of that ring, and the stream that limits it in the place of a refusal's.
-#[unsafe(no_mangle)]
-pub extern "C" fn planner_profibus(s: &[u8], place: &mut u64) -> u64
+pub fn planner_profibus(s: &[u8], place: &mut u64) -> u64
     ensures value { result ≡ profibus_number (Ring.plan_of (reading s.now)) }
     ensures place_after { place.new ≡ profibus_place (Ring.plan_of (reading s.now)) }
 {
@@ -94,8 +91,7 @@ pub extern "C" fn planner_profibus(s: &[u8], place: &mut u64) -> u64
 }
 
 // The rows of a WorldFIP table, which go to the run.
-#[unsafe(no_mangle)]
-pub extern "C" fn planner_worldfip(s: &[u8], rows: &mut [u64], place: &mut u64) -> u64
+pub fn planner_worldfip(s: &[u8], rows: &mut [u64], place: &mut u64) -> u64
     ensures value { result ≡ worldfip_number (Answer.plan_of (reading s.now) (length rows.old)) }
     ensures place_after { place.new ≡ worldfip_place (Answer.plan_of (reading s.now) (length rows.old)) }
     ensures rows_after { rows.new ≡ Answer.run_of (reading s.now) rows.old }
@@ -111,8 +107,7 @@ pub extern "C" fn planner_worldfip(s: &[u8], rows: &mut [u64], place: &mut u64) 
 }
 
 // The streams of a P-NET sheet that a capture is laid beside; their figures go to the four runs.
-#[unsafe(no_mangle)]
-pub extern "C" fn planner_capture(
+pub fn planner_capture(
     s: &[u8],
     c: &[u8],
     answers: &mut [u64],
@@ -150,8 +145,7 @@ fn put_told(answer: sheet_write::Put, place: &mut u64) -> u64
 }
 
 // The length of a sheet's text, which goes to the run.
-#[unsafe(no_mangle)]
-pub extern "C" fn planner_text_of(s: &[u8], text: &mut [u8], place: &mut u64) -> u64
+pub fn planner_text_of(s: &[u8], text: &mut [u8], place: &mut u64) -> u64
     ensures value { result ≡ put_number (export_answer (length text.old) s.now) }
     ensures place_after { place.new ≡ put_place (export_answer (length text.old) s.now) }
     ensures text_after { text.new ≡ export_bytes text.old s.now }
@@ -160,8 +154,7 @@ pub extern "C" fn planner_text_of(s: &[u8], text: &mut [u8], place: &mut u64) ->
 }
 
 // The length of the sheet that a text stands for, which goes to the run.
-#[unsafe(no_mangle)]
-pub extern "C" fn planner_sheet_of(text: &[u8], s: &mut [u8], place: &mut u64) -> u64
+pub fn planner_sheet_of(text: &[u8], s: &mut [u8], place: &mut u64) -> u64
     ensures value { result ≡ put_number (import_answer (length s.old) text.now) }
     ensures place_after { place.new ≡ put_place (import_answer (length s.old) text.now) }
     ensures s_after { s.new ≡ import_bytes s.old text.now }
@@ -170,8 +163,7 @@ pub extern "C" fn planner_sheet_of(text: &[u8], s: &mut [u8], place: &mut u64) -
 }
 
 // The length of a sheet rewritten, which goes to the run: a ring of kind 3 as one of kinds 9 and 10, any other sheet as it is.
-#[unsafe(no_mangle)]
-pub extern "C" fn planner_rewritten(s: &[u8], new: &mut [u8], place: &mut u64) -> u64
+pub fn planner_rewritten(s: &[u8], new: &mut [u8], place: &mut u64) -> u64
     ensures value { result ≡ put_number (rewrite_answer (length new.old) s.now) }
     ensures place_after { place.new ≡ put_place (rewrite_answer (length new.old) s.now) }
     ensures after { new.new ≡ rewrite_bytes new.old s.now }
