@@ -20,15 +20,26 @@ def missing_functions(text):
             yield "%s::%s" % (crate, name)
 
 
+def of_must_fail(text):
+    """What stands behind `Must fail:`, up to the next line that begins an item of its own."""
+    return re.findall(r"(?ms)^ *- Must fail:(.*?)(?=^- |^\*\*|^#|\Z)", text)
+
+
 def missing_labels(text):
     labels = {path.stem for path in CRATES.glob("*/must-fail/*.edit")}
     functions = set(re.findall(r"::(\w+)", text)) | {path.name for path in CRATES.iterdir()}
     code = "".join(path.read_text() for path in CRATES.glob("*/src/*.rt"))
     stated = {word for path in CRATES.glob("*/*/*.antt") for word in re.findall(r"[\w']+", path.read_text())}
-    for word in sorted(set(re.findall(r"\b[a-z0-9]+(?:_[a-zA-Z0-9]+)+\b", text))):
-        if word in labels or word in functions or word in stated or re.search(r"fn %s\b" % word, code):
+    crates = {path.name for path in CRATES.iterdir()}
+    word = r"\b[a-z0-9]+(?:_[a-zA-Z0-9]+)+\b"
+    for found in sorted(set(re.findall(word, text))):
+        if found in labels or found in functions or found in stated or re.search(r"fn %s\b" % found, code):
             continue
-        yield "must-fail edit %s" % word
+        yield "must-fail edit %s" % found
+    # behind `Must fail:` a word is an edit's name, whatever else is called so
+    for item in of_must_fail(text):
+        for found in sorted(set(re.findall(word, item)) - labels - crates):
+            yield "must-fail edit %s" % found
 
 
 def files_of(crate, name):
