@@ -13,7 +13,6 @@ use Rattle.sheet_rules.specs.Whole.{Outcome, or_else}
 use Rattle.sheet_rules.specs.Whole.Outcome.{Read, Not}
 use Rattle.pnet_rules.specs.Segment.{Segment, segment_of}
 use Rattle.pnet_plan.specs.Planned.{plan_of, at_place}
-use Rattle.pnet_plan.specs.declared.answer.Plan.TheVariants as answer
 use Rattle.capture_log.specs.Log.{fresh}
 use Rattle.capture_log.specs.Records.{heard}
 use Rattle.pnet_bounds.specs.Bounded.{bounded, stream_run}
@@ -21,6 +20,8 @@ use Rattle.pnet_bounds.proofs.Bounded.{bounded_fits, bounded_declared}
 use Rattle.capture_compare.specs.Compared.{compared_by, compared}
 use Rattle.capture_tally.specs.Pieces.{most}
 use Rattle.capture_compare.specs.Steps.{plan_by, run_by}
+use Rattle.std.specs.declared.result.Result.TheVariants.{Ok, Err}
+use Rattle.common.specs.Checks.{refusal}
 
 -- ---- A sheet that is accepted with room for its streams
 
@@ -33,15 +34,15 @@ pub record Accepts (s : List ℕ) (room m k : ℕ) : Type 0 where
   pub few : k ≤ most
 
 -- what an outcome that is told as accepted is
-told_accepted : (o : Outcome) (m k : ℕ) → plan_of o ≡ answer.Accepted m k → (H : Sheet) × ((o ≡ Read H) × ((masters_of H ≡ m) × (length H.streams ≡ k)))
+told_accepted : (o : Outcome) (m k : ℕ) → plan_of o ≡ Ok (record { masters = m; streams = k }) → (H : Sheet) × ((o ≡ Read H) × ((masters_of H ≡ m) × (length H.streams ≡ k)))
 told_accepted (Read H) m k e = (H, (refl, (cc, cc)))
 told_accepted (Not n p) m k e = let z : ◌≡◌ {A = ℕ} 0 1 = cc in absurd (omega arith)
 
-pub told_refused : (o : Outcome) (n p : ℕ) → plan_of o ≡ answer.Refused n p → o ≡ Not n p
+pub told_refused : (o : Outcome) (n p : ℕ) → plan_of o ≡ Err (refusal n p) → o ≡ Not n p
 told_refused (Read H) n p e = let z : ◌≡◌ {A = ℕ} 0 1 = cc in absurd (omega arith)
 told_refused (Not a b) n p e = cc
 
-pub accepts : (s : List ℕ) (room m k : ℕ) → plan_of (bounded s room) ≡ answer.Accepted m k → Accepts s room m k
+pub accepts : (s : List ℕ) (room m k : ℕ) → plan_of (bounded s room) ≡ Ok (record { masters = m; streams = k }) → Accepts s room m k
 unfolding segment_of
 accepts s room m k e =
     let t = told_accepted (bounded s room) m k e in

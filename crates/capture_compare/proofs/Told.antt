@@ -13,11 +13,13 @@ use Rattle.common.proofs.Runs.{filled_same, get_d_tab, zero_at}
 use Rattle.capture_log.specs.Log.{Before, fresh, answers, answered, largest, above, left, shown}
 use Rattle.capture_log.specs.Records.{size, event_at, events_in, records, events, heard}
 use Rattle.capture_tally.proofs.Answers.{told_refused, told_passed}
-use Rattle.capture_tally.specs.declared.Taken.{Taken}
-use Rattle.capture_tally.specs.declared.Taken.TheVariants as answer
 use Rattle.capture_tally.specs.Pieces as Pieces
-use Rattle.capture_tally.specs.Pieces.{most, before, taken_by, answer_to, left_after, answers_after, largest_after, above_after}
+use Rattle.capture_tally.specs.Pieces.{most, before, answer_to, left_after, answers_after, largest_after, above_after}
 use Rattle.capture_compare.specs.Steps.{run_by}
+use Rattle.std.specs.declared.result.Result.TheVariants.{Ok, Err}
+use Rattle.common.specs.Checks.{refusal, unless}
+use Rattle.std.specs.declared.result.Result.{Result}
+use Rattle.common.specs.declared.Refusal.{Refusal}
 
 -- ---- Counts are small
 
@@ -50,17 +52,17 @@ module _ (c : List ℕ) (n : ℕ) (few : n ≤ most) where
   heard_same : heard c (min n most) (before none none) ≡ heard c n fresh
   heard_same = let e : min n most ≡ n = omega arith in rw (e, begins_fresh) refl
 
-  pub whole_refused : (r p : ℕ) → answer_to c n (before none none) ≡ answer.Refused r p → heard c n fresh ≡ Refused r p
+  pub whole_refused : (r p : ℕ) → answer_to c n (before none none) ≡ Err (refusal r p) → heard c n fresh ≡ Refused r p
   unfolding answer_to
   whole_refused r p e = sym heard_same ∙ told_refused _ r p e
 
-  pub whole_passed : answer_to c n (before none none) ≡ answer.All → heard c n fresh ≡ Passed
+  pub whole_passed : answer_to c n (before none none) ≡ (Ok tt) → heard c n fresh ≡ Passed
   unfolding answer_to
   whole_passed e = sym heard_same ∙ told_passed _ e
 
-  pub whole_taken : heard c n fresh ≡ Passed → answer_to c n (before none none) ≡ answer.All
+  pub whole_taken : heard c n fresh ≡ Passed → answer_to c n (before none none) ≡ (Ok tt)
   unfolding answer_to
-  whole_taken h = ap taken_by (heard_same ∙ h)
+  whole_taken h = ap unless (heard_same ∙ h) tt
 
 -- the runs then
 module _ (c : List ℕ) (i : ℕ) (l : i < most) where
@@ -94,9 +96,9 @@ module _ (c : List ℕ) (i : ℕ) (l : i < most) where
         ∙ rw (zero_at most i) (omega (arith, above_few fresh (get_or bound i 0) c (records c) (i + 1), some_records))
 
 -- a run that is handed over, where the capture is heard to its end: taking it as one piece made `kept` of the zeros
-pub handed : (c : List ℕ) (n : ℕ) (f : ℕ → ℕ) (run kept zeros old new : List ℕ) {t : Taken} → t ≡ answer.All → heard c n fresh ≡ Passed
+pub handed : (c : List ℕ) (n : ℕ) (f : ℕ → ℕ) (run kept zeros old new : List ℕ) {t : Result ⊤ Refusal} → t ≡ (Ok tt) → heard c n fresh ≡ Passed
     → new ≡ filled (λ i. get_or run i 0) n old → run ≡ Pieces.run_by t kept zeros → ((i : ℕ) → i < n → get_or kept i 0 ≡ f i) → new ≡ run_by (heard c n fresh) f n old
 handed c n f run kept zeros old new all h e k w =
-    let is : run ≡ kept = k ∙ ap (λ (x : Taken). Pieces.run_by x kept zeros) all in
+    let is : run ≡ kept = k ∙ ap (λ (x : Result ⊤ Refusal). Pieces.run_by x kept zeros) all in
     let same : new ≡ filled f n old = e ∙ filled_same (λ i. get_or run i 0) f n old (λ i l. ap (λ (x : List ℕ). get_or x i 0) is ∙ w i l) in
     rw h same

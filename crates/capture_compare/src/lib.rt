@@ -13,7 +13,7 @@ ghost use Rattle.capture_tally.specs.Pieces.{most};
 ghost use Rattle.capture_compare.specs.Compared.{compared, answered_of, largest_of, above_of, left_of};
 ghost use Rattle.capture_compare.specs.Steps.{plan_by, run_by};
 
-use capture_tally::Taken;
+use common::Refusal;
 use pnet_plan::Plan;
 use sheet_read::MOST;
 
@@ -61,7 +61,7 @@ fn compare_to(
     largest: &mut [u32],
     above: &mut [u64],
     left: &mut [u8],
-) -> Plan
+) -> Result<Plan, Refusal>
     requires { (streams ≤ most) × (streams ≤ length answers.old) × (streams ≤ length largest.old) × (streams ≤ length above.old) × (streams ≤ length left.old) }
     ensures { let told = heard c.now streams fresh in
         let all = events c.now in
@@ -76,7 +76,7 @@ fn compare_to(
     let mut own_answers = [0u64; MOST];
     let mut own_largest = [0u32; MOST];
     let mut own_above = [0u64; MOST];
-    let taken = capture_tally::take(
+    capture_tally::take(
         c,
         streams,
         bound,
@@ -85,24 +85,19 @@ fn compare_to(
         &mut own_answers,
         &mut own_largest,
         &mut own_above,
+    )?;
+    hand_over(
+        streams,
+        &own_answers,
+        &own_largest,
+        &own_above,
+        &own_left,
+        answers,
+        largest,
+        above,
+        left,
     );
-    match taken {
-        Taken::Refused { no, place } => Plan::Refused { no, place },
-        Taken::All => {
-            hand_over(
-                streams,
-                &own_answers,
-                &own_largest,
-                &own_above,
-                &own_left,
-                answers,
-                largest,
-                above,
-                left,
-            );
-            Plan::Accepted { masters, streams }
-        }
-    }
+    Ok(Plan { masters, streams })
 }
 
 // A capture beside the bounds of a sheet: for each stream its answers, its largest response in bp, its answers above the bound and
@@ -114,7 +109,7 @@ pub fn compare(
     largest: &mut [u32],
     above: &mut [u64],
     left: &mut [u8],
-) -> Plan
+) -> Result<Plan, Refusal>
     ensures { let outcome = compared s.now c.now (length answers.old) (length largest.old) (length above.old) (length left.old) in
         (result ≡ plan_of outcome)
         × (answers.new ≡ stream_run outcome (answered_of c.now) answers.old)
@@ -130,12 +125,15 @@ pub fn compare(
     let mut bound = [0u32; MOST];
     let mut spacing = [0u32; MOST];
     let mut jitter = [0u32; MOST];
-    let plan = pnet_bounds::bounds(s, room, &mut masters, &mut bound, &mut spacing, &mut jitter);
-    match plan {
-        Plan::Refused { no, place } => Plan::Refused { no, place },
-        Plan::Accepted {
-            masters: count,
-            streams,
-        } => compare_to(c, count, streams, &bound, answers, largest, above, left),
-    }
+    let plan = pnet_bounds::bounds(s, room, &mut masters, &mut bound, &mut spacing, &mut jitter)?;
+    compare_to(
+        c,
+        plan.masters,
+        plan.streams,
+        &bound,
+        answers,
+        largest,
+        above,
+        left,
+    )
 }

@@ -2,14 +2,16 @@
 -- stream i + 1, and what a piece makes of it. A piece ends with a record, but for the last, whose end is the capture's.
 -- Assumes nothing.
 use Rattle.std.specs.Prelude.{ℕ, ◌+◌, ◌-◌, ◌%◌, ◌^◌, min, max, List, slice_index}
-use Rattle.common.specs.Checks.{Verdict}
+use Rattle.common.specs.Checks.{Verdict, unless}
 use Rattle.common.specs.Checks.Verdict.{Passed, Refused}
 use Rattle.common.specs.Runs.{tab}
 use Rattle.capture_log.specs.Log as Log
 use Rattle.capture_log.specs.Log.{Before}
 use Rattle.capture_log.specs.Records.{events, heard}
-use Rattle.capture_tally.specs.declared.Taken.{Taken}
-use Rattle.capture_tally.specs.declared.Taken.TheVariants as answer
+use Rattle.std.specs.declared.result.Result.TheVariants.{Ok, Err}
+use Rattle.common.specs.Checks.{refusal}
+use Rattle.std.specs.declared.result.Result.{Result}
+use Rattle.common.specs.declared.Refusal.{Refusal}
 
 -- no sheet has more streams
 abbrev pub most : ℕ
@@ -22,25 +24,21 @@ before left since = record { waiting = λ i. slice_index left (i - 1); stamp = �
 -- ---- The answer to the piece p, for n streams, behind b
 
 -- all of it, or the refusal with its place in the piece
-abbrev pub taken_by : Verdict → Taken
-taken_by Passed = answer.All
-taken_by (Refused n p) = answer.Refused n p
-
-unfoldable pub answer_to : List ℕ → ℕ → Before → Taken
+unfoldable pub answer_to : List ℕ → ℕ → Before → Result ⊤ Refusal
 unfolding heard
-answer_to p n b = taken_by (heard p (min n most) b)
+answer_to p n b = unless (heard p (min n most) b) tt
 
 -- the answer to a piece with d bytes before it: its place is counted from their start
-abbrev pub behind : ℕ → Taken → Taken
-behind d answer.All = answer.All
-behind d (answer.Refused r q) = answer.Refused r (d + q)
+abbrev pub behind : ℕ → Result ⊤ Refusal → Result ⊤ Refusal
+behind d (Ok tt) = (Ok tt)
+behind d (Err r) = Err (refusal r.no (d + r.place))
 
 -- ---- The runs then
 
 -- a run holds `new` where all of the piece is taken, and where it is refused what it had, `old`
-abbrev pub run_by : Taken → List ℕ → List ℕ → List ℕ
-run_by answer.All new old = new
-run_by (answer.Refused r q) new old = old
+abbrev pub run_by : Result ⊤ Refusal → List ℕ → List ℕ → List ℕ
+run_by (Ok tt) new old = new
+run_by (Err r) new old = old
 
 -- what is new of each of the five, by all records of the piece
 unfoldable pub left_after : List ℕ → Before → List ℕ

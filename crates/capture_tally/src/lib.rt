@@ -12,14 +12,8 @@ ghost use Rattle.capture_tally.specs.Pieces.{most, before, answer_to, run_by, le
 ghost use Rattle.capture_tally.specs.Steps.{Long, no_of, open_no, spot, left_with, since_with, answers_with, largest_with, above_with};
 
 use capture_log::Event;
+use common::Refusal;
 use sheet_read::MOST;
-
-// What taking a piece answers: all its records, or the refusal's number and its place in the piece.
-#[derive(Clone, Copy)]
-pub enum Taken {
-    All,
-    Refused { no: u8, place: usize },
-}
 
 fn larger(a: u32, b: u32) -> u32
     ensures { result ≡ max a b }
@@ -115,28 +109,28 @@ fn take_each(
     answers: &mut [u64],
     largest: &mut [u32],
     above: &mut [u64],
-) -> Taken
+) -> Result<(), Refusal>
     requires { Long bound.now left.old since.old answers.old largest.old above.old }
     ensures { let p = piece.now in
         let b = before left.old since.old in
         (result ≡ answer_to p streams b)
-        × (result ≡ answer.All → left.new ≡ left_after p b)
-        × (result ≡ answer.All → since.new ≡ since_after p b)
-        × (result ≡ answer.All → answers.new ≡ answers_after p answers.old)
-        × (result ≡ answer.All → largest.new ≡ largest_after p b largest.old)
-        × (result ≡ answer.All → above.new ≡ above_after p b bound.now above.old) }
+        × (result ≡ Ok tt → left.new ≡ left_after p b)
+        × (result ≡ Ok tt → since.new ≡ since_after p b)
+        × (result ≡ Ok tt → answers.new ≡ answers_after p answers.old)
+        × (result ≡ Ok tt → largest.new ≡ largest_after p b largest.old)
+        × (result ≡ Ok tt → above.new ≡ above_after p b bound.now above.old) }
 {
     let mut at: usize = 0;
     while at < piece.len() {
         let no = refusal(piece, at, streams, left);
         if no != 0 {
-            return Taken::Refused { no, place: at };
+            return Err(Refusal { no, place: at });
         }
         let e = capture_log::event_at(piece, at);
         keep(e, bound, left, since, answers, largest, above);
         at += capture_log::SIZE;
     }
-    Taken::All
+    Ok(())
 }
 
 // Takes the records of a piece, the next of a capture, behind those whose open requests, stamps and figures the runs keep. A refused piece
@@ -150,7 +144,7 @@ pub fn take(
     answers: &mut [u64; MOST],
     largest: &mut [u32; MOST],
     above: &mut [u64; MOST],
-) -> Taken
+) -> Result<(), Refusal>
     ensures { let p = piece.now in
         let b = before left.old since.old in
         let told = answer_to p streams b in
@@ -167,7 +161,7 @@ pub fn take(
     let old_largest = *largest;
     let old_above = *above;
     let taken = take_each(piece, streams, bound, left, since, answers, largest, above);
-    if let Taken::Refused { no: _, place: _ } = taken {
+    if taken.is_err() {
         *left = old_left;
         *since = old_since;
         *answers = old_answers;

@@ -22,8 +22,6 @@ use Rattle.pnet_run.proofs.Keeping.{Keeps}
 use Rattle.capture_log.specs.Log.{fresh, left}
 use Rattle.capture_log.specs.Records.{size, events_in, events, heard}
 use Rattle.pnet_bounds.specs.Bounded.{spacing_of, jitter_of, stream_run}
-use Rattle.capture_tally.specs.declared.Taken.{Taken}
-use Rattle.capture_tally.specs.declared.Taken.TheVariants as answer
 use Rattle.capture_tally.specs.Pieces.{before, answer_to, run_by, left_after, largest_after, above_after}
 use Rattle.capture_compare.proofs.Told.{whole_taken, left_whole, largest_whole, above_whole}
 use Rattle.capture_ages.specs.Ages.{clock, soon, beyond}
@@ -35,6 +33,9 @@ use Rattle.demands.specs.Logged.{log_of, instants_of, Close}
 use Rattle.demands.proofs.Matching.{Counts, Punctual, AllSpaced, Within, all_within, above_none, largest_most}
 use Rattle.demands.proofs.Passing.{all_pass, none_refused}
 use Rattle.demands.proofs.Clocked.{recorded, clock_within, unbroken, Timely, timely, timely_kept, soon_none, whose_none, none_soon, open_within}
+use Rattle.std.specs.declared.result.Result.TheVariants.{Ok, Err}
+use Rattle.std.specs.declared.result.Result.{Result}
+use Rattle.common.specs.declared.Refusal.{Refusal}
 
 -- 800 places that hold nothing yet
 unfoldable pub zeros : List ℕ
@@ -83,7 +84,7 @@ module _ {D : Discipline} {K : Keeps D} (C : Counts D K) (given : Outcome) (H : 
   kept = followed T J (seen began zeros zeros) (met_in c (length c / size))
 
   -- what taking it answers; and of each stream, 1 or 0 requests that are open then, its answers above the figure and its largest response
-  abbrev pub told : Taken
+  abbrev pub told : Result ⊤ Refusal
   told = answer_to c (length H.streams) (before zeros zeros)
 
   abbrev pub lefts : List ℕ
@@ -137,7 +138,7 @@ module _ {D : Discipline} {K : Keeps D} (C : Counts D K) (given : Outcome) (H : 
     passes = none_refused c (length H.streams) n long (rw logged (all_pass C (figure (segment_of H)) punctual z run spaced))
 
     -- all of its records are taken
-    pub all_are_taken : told ≡ answer.All
+    pub all_are_taken : told ≡ (Ok tt)
     unfolding zeros
     all_are_taken = whole_taken c (length H.streams) streams_few passes
 

@@ -9,7 +9,6 @@ use lib.ListN.{length, take}
 use Rattle.common.specs.Checks.{Verdict, verdict}
 use Rattle.common.specs.Checks.Verdict.{Passed, Refused}
 use Rattle.sheet_record.specs.declared.Record.{Record}
-use Rattle.sheet_write.specs.declared.Put.TheVariants as put
 use Rattle.sheet_write.specs.Writing.{put_answer, put_bytes}
 use Rattle.sheet_write.proofs.Writing.{refused_keeps}
 use Rattle.sheet_rules.specs.Sheets.{Sheet}
@@ -24,12 +23,12 @@ use Rattle.pnet_rules.specs.Segment.{Segment}
 use Rattle.pnet_plan.specs.Planned.{planned, run_of}
 use Rattle.worldfip_figures.specs.Declares.{traffic_of}
 use Rattle.worldfip_plan.specs.Answer as fip
-use Rattle.worldfip_plan.specs.declared.answer.Plan.TheVariants as plan
 use Rattle.capture_log.specs.Log.{Before}
-use Rattle.capture_tally.specs.declared.Taken.TheVariants as taken
 use Rattle.capture_tally.specs.Pieces.{answer_to, run_by}
 use Rattle.capture_compare.specs.Compared.{compared}
 use Rattle.pnet_bounds.specs.Bounded.{stream_run}
+use Rattle.std.specs.declared.result.Result.TheVariants.{Ok, Err}
+use Rattle.common.specs.Checks.{refusal}
 
 -- ---- 'Every byte sequence offered as a sheet gets an answer.'
 
@@ -58,15 +57,15 @@ pub pnet_refusal_keeps_every_run : (s : List ℕ) (la lb lc n p : ℕ) → plann
 pnet_refusal_keeps_every_run s la lb lc n p e figure old = rw e
 
 -- the WorldFIP planner's rows, also where the table is only known to fail at its end
-pub worldfip_refusal_keeps_the_rows : (s old : List ℕ) (n p : ℕ) → fip.plan_of (reading s) (length old) ≡ plan.Refused n p → fip.run_of (reading s) old ≡ old
+pub worldfip_refusal_keeps_the_rows : (s old : List ℕ) (n p : ℕ) → fip.plan_of (reading s) (length old) ≡ Err (refusal n p) → fip.run_of (reading s) old ≡ old
 unfolding fip.plan_of fip.run_of
 worldfip_refusal_keeps_the_rows s old n p e = split (reading s) e
   where
-    by : (S : Sheet) (v : Verdict) → fip.plan_by v (traffic_of S) ≡ plan.Refused n p → fip.run_by v (traffic_of S) old ≡ old
+    by : (S : Sheet) (v : Verdict) → fip.plan_by v (traffic_of S) ≡ Err (refusal n p) → fip.run_by v (traffic_of S) old ≡ old
     by S Passed q = let z : ◌≡◌ {A = ℕ} 0 1 = cc in absurd (omega arith)
     by S (Refused m k) q = refl
 
-    split : (o : Outcome) → fip.plan_of o (length old) ≡ plan.Refused n p → fip.run_of o old ≡ old
+    split : (o : Outcome) → fip.plan_of o (length old) ≡ Err (refusal n p) → fip.run_of o old ≡ old
     split (Read S) q = by S (verdict (fip.plan_checks S (length old))) q
     split (Not m k) q = refl
 
@@ -76,11 +75,11 @@ unfolding counts_told
 reading_refusal_keeps_the_counts s old n p e = rw e
 
 -- the writer's buffer
-pub writing_refusal_keeps_the_buffer : (b : List ℕ) (at : ℕ) (r : Record) (n p : ℕ) → put_answer (length b) at r ≡ put.Refused n p → put_bytes b at r ≡ b
+pub writing_refusal_keeps_the_buffer : (b : List ℕ) (at : ℕ) (r : Record) (n p : ℕ) → put_answer (length b) at r ≡ Err (refusal n p) → put_bytes b at r ≡ b
 writing_refusal_keeps_the_buffer = refused_keeps
 
 -- the five runs that are kept of a capture, whatever each was to hold behind a piece that is refused, also at its last record
-pub piece_refusal_keeps_every_run : (p : List ℕ) (n : ℕ) (b : Before) (r q : ℕ) → answer_to p n b ≡ taken.Refused r q → (new old : List ℕ)
+pub piece_refusal_keeps_every_run : (p : List ℕ) (n : ℕ) (b : Before) (r q : ℕ) → answer_to p n b ≡ Err (refusal r q) → (new old : List ℕ)
     → run_by (answer_to p n b) new old ≡ old
 piece_refusal_keeps_every_run p n b r q e new old = rw e
 

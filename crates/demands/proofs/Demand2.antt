@@ -9,7 +9,6 @@ use lib.Seq.{slice}
 use Rattle.sheet_record.specs.declared.Record.{Record}
 use Rattle.sheet_record.specs.Numbers.{pasted}
 use Rattle.sheet_record.specs.Kinds.{nothing}
-use Rattle.sheet_write.specs.declared.Put.TheVariants as put
 use Rattle.sheet_write.specs.Writing.{put_answer}
 use Rattle.sheet_rules.specs.Sheets.{Sheet, sheet_of}
 use Rattle.sheet_rules.specs.Whole.{reading}
@@ -38,6 +37,10 @@ use Rattle.worldfip_plan.specs.Answer as table
 use Rattle.worldfip_plan.specs.Refusals as fip
 use Rattle.worldfip_plan.specs.declared.answer.Plan as tablePlan
 use Rattle.worldfip_plan.proofs.Refusals as worldfip
+use Rattle.std.specs.declared.result.Result.TheVariants.{Ok, Err}
+use Rattle.common.specs.Checks.{refusal}
+use Rattle.std.specs.declared.result.Result.{Result}
+use Rattle.common.specs.declared.Refusal.{Refusal}
 
 -- ---- 'P-NET bounds and the least refined solution'
 
@@ -71,7 +74,7 @@ module _ (s : List ℕ) (S : Sheet) (reads : reading s ≡ Read S) where
   pub profibus_answers_as_published : Answers S (plan_of (reading s))
   profibus_answers_as_published = rw reads (profibus.plan_answers s S (reading_read s S reads))
 
-  pub no_other_answer : {p : Plan} → Answers S p → p ≡ plan_of (reading s)
+  pub no_other_answer : {p : Result Plan Refusal} → Answers S p → p ≡ plan_of (reading s)
   no_other_answer a = rw reads (profibus.answers_plan s S (reading_read s S reads) a)
 
 pub no_larger_target_passes : (R : Ring) (ttr i : ℕ) → Limited R ttr i → (u : ℕ) → AllPass R u → u ≤ ttr
@@ -109,7 +112,7 @@ pub written_comes_back : {b b' : List ℕ} {at end : ℕ} {rs : List Record} →
 written_comes_back = writes_read
 
 -- a record of kind 3 is refused with 2 wherever it is put, so no sheet that begins with one is written
-pub a_ring_of_kind_3_is_refused : (n at : ℕ) (r : Record) → r.kind ≡ 3 → put_answer n at r ≡ put.Refused 2 at
+pub a_ring_of_kind_3_is_refused : (n at : ℕ) (r : Record) → r.kind ≡ 3 → put_answer n at r ≡ Err (refusal 2 at)
 a_ring_of_kind_3_is_refused = old_ring_refused
 
 -- the records of any other accepted sheet, written in order into a buffer of its length, give its bytes

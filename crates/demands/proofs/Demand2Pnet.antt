@@ -24,6 +24,8 @@ use Rattle.pnet_plan.specs.declared.answer.Plan.{Plan}
 use Rattle.pnet_plan.specs.Refusals.{Accepted}
 use Rattle.pnet_plan.proofs.Refusals as pnet
 use Rattle.demands.specs.Pnet.{Figures, LaterKept, Answers, refused, accepted}
+use Rattle.std.specs.declared.result.Result.{Result}
+use Rattle.common.specs.declared.Refusal.{Refusal}
 
 -- ---- One master
 
@@ -114,7 +116,7 @@ module _ (s lent_R lent_W lent_rounds : List ℕ) where
       by (Not n p) e = refused ((pnet.refused_exactly s (length lent_R) (length lent_W) (length lent_rounds) n p).0 e)
 
   -- and no other answer, and no other numbers in the runs, are as the page says
-  pub no_other_pnet_answer : {answer : Plan} {R W m : List ℕ} → Answers s lent_R lent_W lent_rounds answer R W m
+  pub no_other_pnet_answer : {answer : Result Plan Refusal} {R W m : List ℕ} → Answers s lent_R lent_W lent_rounds answer R W m
       → (answer ≡ plan_of outcome) × (R ≡ run_of outcome bound lent_R) × (W ≡ run_of outcome refined lent_W) × (m ≡ run_of outcome rounds lent_rounds)
   unfolding segment_of
   no_other_pnet_answer (refused {n} {p} g) =

@@ -16,11 +16,13 @@ use Rattle.profibus_rules.specs.Target.{Limited, target, first_failing}
 use Rattle.profibus_rules.proofs.Declared.{declared}
 use Rattle.profibus_rules.proofs.Shorter.{shorter_accepted, never_lower, rises_by, shortened_ring}
 use Rattle.profibus_plan.specs.declared.answer.Plan.{Plan}
-use Rattle.profibus_plan.specs.declared.answer.Plan.TheVariants as plan
 use Rattle.profibus_plan.specs.Planned.{plan_of, Answers}
 use Rattle.profibus_plan.specs.Planned.Answers.{another_bus, fails, limited}
 use Rattle.profibus_plan.proofs.Answers.{plan_answers, plan_limited}
 use Rattle.demands.proofs.Rewritten.{m_is_every_masters, the_sum_is_n_times_M}
+use Rattle.std.specs.declared.result.Result.TheVariants.{Ok, Err}
+use Rattle.std.specs.declared.result.Result.{Result}
+use Rattle.common.specs.declared.Refusal.{Refusal}
 
 -- the ring of S, of kind 3, with a longest message of at most M for each master
 pub record OwnMessages (S S' : Sheet) : Type 0 where
@@ -35,7 +37,7 @@ pub record OwnMessages (S S' : Sheet) : Type 0 where
 pub record Raised (S S' : Sheet) (ttr : ℕ) : Type 0 where
   pub rotation : ℕ
   pub by : ℕ
-  pub answer : plan_of (Read S') ≡ plan.Target (ring_bp rotation) by
+  pub answer : plan_of (Read S') ≡ Ok (record { rotation = (ring_bp rotation); stream = by })
   pub no_lower : ttr ≤ rotation
   pub exactly : rotation + messages (ring_of S') ≡ ttr + masters_of S * S.head.c
 
@@ -44,7 +46,7 @@ module _ (s s' : List ℕ) (S S' : Sheet) (was_read : reading s ≡ Read S) (is_
   shortened =
       shortened_ring S S' own.masters own.latency (λ y lo hi. omega (arith, m_is_every_masters S own.with_M y, own.messages y lo hi)) own.streams
 
-  pub own_messages_raise_TTR : (ttr i : ℕ) → plan_of (reading s) ≡ plan.Target (ring_bp ttr) i → Raised S S' ttr
+  pub own_messages_raise_TTR : (ttr i : ℕ) → plan_of (reading s) ≡ Ok (record { rotation = (ring_bp ttr); stream = i }) → Raised S S' ttr
   own_messages_raise_TTR ttr i planned = split (plan_answers s S (reading_read s S was_read)) (rw was_read at planned)
     where
       raised : bus_in S ≡ profibus → Limited (ring_of S) ttr i → Raised S S' ttr
@@ -62,7 +64,7 @@ module _ (s s' : List ℕ) (S S' : Sheet) (was_read : reading s ≡ Read S) (is_
                 omega (arith, rises_by shortened ttr i (target R') (first_failing R' (target R' + 1)) d d' a b, the_sum_is_n_times_M S own.with_M);
           }
 
-      split : {p : Plan} → Answers S p → p ≡ plan.Target (ring_bp ttr) i → Raised S S' ttr
+      split : {p : Result Plan Refusal} → Answers S p → p ≡ Ok (record { rotation = (ring_bp ttr); stream = i }) → Raised S S' ttr
       split (another_bus other) e = let z : ◌≡◌ {A = ℕ} 0 1 = cc in absurd (omega arith)
       split (fails j bus f) e = let z : ◌≡◌ {A = ℕ} 0 1 = cc in absurd (omega arith)
       split (limited t j bus a) e =

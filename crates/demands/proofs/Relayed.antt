@@ -23,7 +23,6 @@ use Rattle.pnet_run.proofs.Demand.{each_request_is_answered_within_the_bound, so
 use Rattle.units.specs.Units.{bp}
 use Rattle.pnet_sender.specs.Sender.{sound}
 use Rattle.pnet_bounds.proofs.Bounded.{bounded_passes}
-use Rattle.pnet_crossing.specs.declared.Crossing.TheVariants as crossing
 use Rattle.pnet_crossing.specs.Cost.{segment_step, gateway_step, cost_over}
 use Rattle.pnet_path.specs.Path.{Path, gateways, sheet_at, bound_from, bound_at, sender_at, forwarding_at, crossed}
 use Rattle.pnet_path.specs.Refusals.{Present, Sender, Accepted as AcceptedPath}
@@ -32,6 +31,7 @@ use Rattle.pnet_path.specs.Ways.{answer_of, way_over}
 use Rattle.pnet_path.proofs.Whole.{path_handed_over}
 use Rattle.demands.specs.Relayed.{Sent, Forwarded, sent, arrived, through, Asked, Awaited, asked, no_further, sent_on, segment_from, segment_at, Exchange, OnItsWay}
 use Rattle.demands.proofs.Demand3.{accepted_on_bus}
+use Rattle.std.specs.declared.result.Result.TheVariants.{Ok, Err}
 
 -- ---- Any segments S with their senders k, gateways with their forwarding times F, and a figure R for each segment
 
@@ -133,12 +133,12 @@ module _ (o : Outcome) (k : ℕ) (H : Sheet) (is : o ≡ Read H) (accepted : Acc
 -- ---- An accepted path
 
 -- what the code answers for P, handed over segment by segment, is what is said of P below
-pub answered_as_crossed : (P : Path) (c : ℕ) → P.segments < 2 ^ 64 → answer_of (way_over P P.segments) P.deadline ≡ crossing.Within (bp c)
-    → crossed P ≡ crossing.Within (bp c)
+pub answered_as_crossed : (P : Path) (c : ℕ) → P.segments < 2 ^ 64 → answer_of (way_over P P.segments) P.deadline ≡ Ok (bp c)
+    → crossed P ≡ Ok (bp c)
 answered_as_crossed P c few e = sym (path_handed_over P few) ∙ e
 
 -- P is accepted at the cost c
-module _ (P : Path) (c : ℕ) (accepts : crossed P ≡ crossing.Within (bp c)) where
+module _ (P : Path) (c : ℕ) (accepts : crossed P ≡ Ok (bp c)) where
   passed : AcceptedPath P c
   passed = (accepted_exactly P c).0 accepts
 

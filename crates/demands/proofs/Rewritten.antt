@@ -7,8 +7,6 @@ use mathlib.Core.Logic.{◌↔◌}
 use native.Mathlib.Omega.{arith}
 use lib.ListN.{length, get_or, take}
 use Rattle.sheet_record.specs.Numbers.{pasted}
-use Rattle.sheet_write.specs.declared.Put.{Put}
-use Rattle.sheet_write.specs.declared.Put.TheVariants as put
 use Rattle.sheet_rules.specs.Sheets.{Sheet, masters_of, message_of}
 use Rattle.sheet_rules.specs.Whole.{reading}
 use Rattle.sheet_rules.specs.Whole.Outcome.{Read}
@@ -29,6 +27,11 @@ use Rattle.profibus_plan.specs.Planned.{plan_of}
 use Rattle.profibus_plan.proofs.Same.{same_plan}
 use Rattle.report_sheet.specs.Whole.{report_of, accepts}
 use Rattle.report_sheet.proofs.Alike.{read_alike, rings_alike}
+use Rattle.std.specs.declared.result.Result.TheVariants.{Ok, Err}
+use Rattle.common.specs.Checks.{refusal}
+use Rattle.std.specs.declared.result.Result.{Result}
+use Rattle.common.specs.declared.Refusal.{Refusal}
+use Rattle.sheet_read.specs.Told.{accepted}
 
 -- ---- 'mean M for every master'
 
@@ -59,13 +62,13 @@ pub record Renewed (s new : List ℕ) : Type 0 where
 
 module _ (old s : List ℕ) where
   -- refused exactly as reading refuses, or for want of room, and then no byte changes
-  pub rewriting_is_refused_exactly : (n p : ℕ) → (rewrite_answer (length old) s ≡ put.Refused n p) ↔ RewriteRefused s (length old) n p
+  pub rewriting_is_refused_exactly : (n p : ℕ) → (rewrite_answer (length old) s ≡ Err (refusal n p)) ↔ RewriteRefused s (length old) n p
   rewriting_is_refused_exactly = rewrite_refused (length old) s
 
-  pub refused_rewriting_changes_nothing : (n p : ℕ) → rewrite_answer (length old) s ≡ put.Refused n p → rewrite_bytes old s ≡ old
+  pub refused_rewriting_changes_nothing : (n p : ℕ) → rewrite_answer (length old) s ≡ Err (refusal n p) → rewrite_bytes old s ≡ old
   refused_rewriting_changes_nothing = rewrite_keeps old s
 
-  module _ (n : ℕ) (accepted : rewrite_answer (length old) s ≡ put.Next n) where
+  module _ (n : ℕ) (accepted : rewrite_answer (length old) s ≡ Ok n) where
     pub new : List ℕ
     new = take n (rewrite_bytes old s)
 
@@ -73,7 +76,7 @@ module _ (old s : List ℕ) where
     unfolding new
     rewritten_means_the_same = by (rewrites old s) accepted
       where
-        by : {p : Put} → Rewrites s p (rewrite_bytes old s) → p ≡ put.Next n → Renewed s (take n (rewrite_bytes old s))
+        by : {p : Result ℕ Refusal} → Rewrites s p (rewrite_bytes old s) → p ≡ Ok n → Renewed s (take n (rewrite_bytes old s))
         by refused e = let z : ◌≡◌ {A = ℕ} 0 1 = cc in absurd (omega arith)
         by (kept {n = m} {S = S} {S' = S'} r r' same other) e =
             let q : m ≡ n = cc in

@@ -23,8 +23,6 @@ use Rattle.capture_log.specs.Log.{fresh}
 use Rattle.capture_log.specs.Records.{size, events_in, heard}
 use Rattle.pnet_bounds.specs.Bounded.{bounded, bound_of, spacing_of, jitter_of, stream_run}
 use Rattle.pnet_bounds.proofs.Bounded.{bounded_read}
-use Rattle.capture_tally.specs.declared.Taken.{Taken}
-use Rattle.capture_tally.specs.declared.Taken.TheVariants as answer
 use Rattle.capture_tally.specs.Pieces.{before, answer_to, run_by, left_after}
 use Rattle.capture_ages.specs.Ages.{clock, soon}
 use Rattle.capture_ages.specs.Clock.{began}
@@ -34,6 +32,9 @@ use Rattle.demands.proofs.Demand3.{accepted_as_demanded}
 use Rattle.demands.proofs.Matching.{Punctual, AllSpaced}
 use Rattle.demands.proofs.FirstCome.{first_come_counts, each_punctual}
 use Rattle.demands.proofs.Beside.{zeros, none_counted_then_spaced, all_are_taken, none_too_soon, none_named, none_far, none_open_too_long}
+use Rattle.std.specs.declared.result.Result.TheVariants.{Ok, Err}
+use Rattle.std.specs.declared.result.Result.{Result}
+use Rattle.common.specs.declared.Refusal.{Refusal}
 
 -- the bytes s, and the planner's three lent runs; it accepts the sheet H that the bytes say
 module _ (s bounds refined rounds : List ℕ) (H : Sheet) (accepts : planned s (length bounds) (length refined) (length rounds) ≡ Read H)
@@ -60,7 +61,7 @@ module _ (s bounds refined rounds : List ℕ) (H : Sheet) (accepts : planned s (
   kept = followed T J (seen began zeros zeros) (met_in c (length c / size))
 
   -- what taking it answers, and 1 or 0 requests of each stream that are open then
-  abbrev pub told : Taken
+  abbrev pub told : Result ⊤ Refusal
   told = answer_to c (length H.streams) (before zeros zeros)
 
   abbrev pub lefts : List ℕ
@@ -98,7 +99,7 @@ module _ (s bounds refined rounds : List ℕ) (H : Sheet) (accepts : planned s (
 
   module _ (spaced : (k : ℕ) → Spaced (segment_of H) k came) where
     -- all of its records are taken
-    pub the_capture_is_taken : told ≡ answer.All
+    pub the_capture_is_taken : told ≡ (Ok tt)
     the_capture_is_taken = all_are_taken first_come_counts (bounded s most) H the_sheet_is_taken as_demanded.declared bound_of each run z close lasts c n few long logged limits spacings jitters spaced
 
     -- the count of requests that came too soon is 0, so no stream is named

@@ -7,8 +7,11 @@ use Rattle.pnet_rules.specs.Segment.{Segment, segment_of, count, turn}
 use Rattle.pnet_rules.specs.Search.{value_from}
 use Rattle.pnet_rules.specs.Refined.{right}
 use Rattle.pnet_plan.specs.declared.answer.Plan.{Plan}
-use Rattle.pnet_plan.specs.declared.answer.Plan.TheVariants as plan
 use Rattle.pnet_plan.specs.Refusals.{Given, Accepted}
+use Rattle.std.specs.declared.result.Result.TheVariants.{Ok, Err}
+use Rattle.common.specs.Checks.{refusal}
+use Rattle.std.specs.declared.result.Result.{Result}
+use Rattle.common.specs.declared.Refusal.{Refusal}
 
 -- the three numbers of master k
 pub record Figures (S : Segment) (k R W rounds : ℕ) : Type 0 where
@@ -33,12 +36,12 @@ pub record LaterKept (N : ℕ) (old run : List ℕ) : Type 0 where
   pub later : (i : ℕ) → N ≤ i → get_or run i 0 ≡ get_or old i 0
 
 -- the answer to the bytes s and what is in the runs then, lent as `lent-R`, `lent-W` and `lent-rounds`
-pub data Answers (s lent_R lent_W lent_rounds : List ℕ) : Plan → List ℕ → List ℕ → List ℕ → Type 0 where
+pub data Answers (s lent_R lent_W lent_rounds : List ℕ) : Result Plan Refusal → List ℕ → List ℕ → List ℕ → Type 0 where
   -- 'A refusal gives its number and place only; all lent result memory keeps its bytes.' `Given` is the page's list
-  refused : {n p : ℕ} → Given s (length lent_R) (length lent_W) (length lent_rounds) n p → Answers s lent_R lent_W lent_rounds (plan.Refused n p) lent_R lent_W lent_rounds
+  refused : {n p : ℕ} → Given s (length lent_R) (length lent_W) (length lent_rounds) n p → Answers s lent_R lent_W lent_rounds (Err (refusal n p)) lent_R lent_W lent_rounds
   -- else 'R, W and rounds for masters 1..N', master k's at place k - 1. `Accepted`: the bytes read as a P-NET sheet H, each run has N places, and
   -- each stream's R is at most its D
   accepted : {H : Sheet} {R W rounds : List ℕ} → Accepted s (length lent_R) (length lent_W) (length lent_rounds) H
       → ((k : ℕ) → 1 ≤ k → k ≤ masters_of H → Figures (segment_of H) k (get_or R (k - 1) 0) (get_or W (k - 1) 0) (get_or rounds (k - 1) 0))
       → LaterKept (masters_of H) lent_R R → LaterKept (masters_of H) lent_W W → LaterKept (masters_of H) lent_rounds rounds
-      → Answers s lent_R lent_W lent_rounds (plan.Accepted (masters_of H) (length H.streams)) R W rounds
+      → Answers s lent_R lent_W lent_rounds (Ok (record { masters = (masters_of H); streams = (length H.streams) })) R W rounds

@@ -23,8 +23,6 @@ use Rattle.pnet_urgent_run.proofs.Kept.{stacked_keeps}
 use Rattle.capture_log.specs.Log.{fresh}
 use Rattle.capture_log.specs.Records.{size, events_in, heard}
 use Rattle.pnet_bounds.specs.Bounded.{spacing_of, jitter_of, stream_run}
-use Rattle.capture_tally.specs.declared.Taken.{Taken}
-use Rattle.capture_tally.specs.declared.Taken.TheVariants as answer
 use Rattle.capture_tally.specs.Pieces.{before, answer_to, run_by, left_after, largest_after, above_after}
 use Rattle.capture_ages.specs.Clock.{began}
 use Rattle.capture_watch.specs.Follow.{most, Seen, seen, followed, met_in, overdue_run}
@@ -35,6 +33,9 @@ use Rattle.demands.proofs.Beside as beside
 use Rattle.demands_urgent.specs.Written.{written_at}
 use Rattle.demands_urgent.proofs.Written.{in_range_law, all_met}
 use Rattle.demands_urgent.proofs.Captured.{stacked_counts, each_punctual}
+use Rattle.std.specs.declared.result.Result.TheVariants.{Ok, Err}
+use Rattle.std.specs.declared.result.Result.{Result}
+use Rattle.common.specs.declared.Refusal.{Refusal}
 
 -- the bytes s; with a place for each of 800 streams, urgent requests first accept the sheet H that they say
 module _ (s : List ℕ) (H : Sheet) (accepts : urgently s most ≡ Read H)
@@ -62,7 +63,7 @@ module _ (s : List ℕ) (H : Sheet) (accepts : urgently s most ≡ Read H)
   kept = followed T J (seen began zeros zeros) (met_in c (length c / size))
 
   -- what taking it answers; and of each stream, 1 or 0 requests that are open then, its answers above x and its largest response
-  abbrev pub told : Taken
+  abbrev pub told : Result ⊤ Refusal
   told = answer_to c (length H.streams) (before zeros zeros)
 
   abbrev pub lefts : List ℕ
@@ -98,7 +99,7 @@ module _ (s : List ℕ) (H : Sheet) (accepts : urgently s most ≡ Read H)
 
   module _ (spaced : AllSpaced S came) where
     -- all of its records are taken
-    pub the_capture_is_taken : told ≡ answer.All
+    pub the_capture_is_taken : told ≡ (Ok tt)
     the_capture_is_taken = beside.all_are_taken (stacked_counts S Everyone) (urgently s most) H accepts declared figure each run z close lasts c n few long logged limits spacings jitters spaced
 
     -- the count of requests that came too soon is 0, so no stream is named

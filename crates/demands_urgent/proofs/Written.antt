@@ -30,6 +30,8 @@ use Rattle.pnet_urgent_rules.proofs.Figures.{solves_if, solves_then, figure_in_t
 use Rattle.pnet_urgent_rules.proofs.Refusals.{refused_exactly, accepted_exactly}
 use Rattle.demands.proofs.Demand2Pnet.{kept_filled, same_run}
 use Rattle.demands_urgent.specs.Written.{written_at, Figures, room_in, Answers, refused, accepted}
+use Rattle.std.specs.declared.result.Result.{Result}
+use Rattle.common.specs.declared.Refusal.{Refusal}
 
 -- ---- One stream
 
@@ -135,7 +137,7 @@ module _ (s lent-places lent-x lent-rounds : List ℕ) where
       by (Not n p) e = refused ((urgent_refused_exactly n p).0 e)
 
   -- and no other answer, and no other numbers in the runs, are as the page says
-  pub no_other_urgent_answer : {answer : Plan} {places x m : List ℕ} → Answers s lent-places lent-x lent-rounds answer places x m
+  pub no_other_urgent_answer : {answer : Result Plan Refusal} {places x m : List ℕ} → Answers s lent-places lent-x lent-rounds answer places x m
       → (answer ≡ plan_of outcome) × (places ≡ stream_run outcome place lent-places) × (x ≡ stream_run outcome figure lent-x) × (m ≡ stream_run outcome rounds lent-rounds)
   no_other_urgent_answer (refused {n} {p} g) = rw ((urgent_refused_exactly n p).1 g) (refl, refl, refl, refl)
   no_other_urgent_answer (accepted {H = H} {places = places} {x = x} {rounds = m} a own kp kx km) =

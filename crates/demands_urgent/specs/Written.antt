@@ -5,10 +5,13 @@ use Rattle.sheet_rules.specs.Sheets.{Sheet, masters_of}
 use Rattle.pnet_rules.specs.Segment.{Segment, segment_of, turn}
 use Rattle.pnet_rules.specs.Search.{value_from}
 use Rattle.pnet_plan.specs.declared.answer.Plan.{Plan}
-use Rattle.pnet_plan.specs.declared.answer.Plan.TheVariants as plan
 use Rattle.pnet_urgent_rules.specs.Urgent.{rank, right}
 use Rattle.pnet_urgent_rules.specs.Refusals.{Solves, Given, Accepted}
 use Rattle.demands.specs.Pnet.{LaterKept}
+use Rattle.std.specs.declared.result.Result.TheVariants.{Ok, Err}
+use Rattle.common.specs.Checks.{refusal}
+use Rattle.std.specs.declared.result.Result.{Result}
+use Rattle.common.specs.declared.Refusal.{Refusal}
 
 -- what a run with 'a place for each stream' holds for stream i
 abbrev pub written_at : List ℕ → ℕ → ℕ
@@ -34,12 +37,12 @@ abbrev pub room_in : List ℕ → List ℕ → List ℕ → ℕ
 room_in a b c = min (length a) (min (length b) (length c))
 
 -- the answer to the bytes s and what is in the runs then, lent as `lent-places`, `lent-x` and `lent-rounds`
-pub data Answers (s lent-places lent-x lent-rounds : List ℕ) : Plan → List ℕ → List ℕ → List ℕ → Type 0 where
+pub data Answers (s lent-places lent-x lent-rounds : List ℕ) : Result Plan Refusal → List ℕ → List ℕ → List ℕ → Type 0 where
   -- 'A refusal gives its number and place only; all lent result memory keeps its bytes.' `Given` is the page's list
-  refused : {n p : ℕ} → Given s (room_in lent-places lent-x lent-rounds) n p → Answers s lent-places lent-x lent-rounds (plan.Refused n p) lent-places lent-x lent-rounds
+  refused : {n p : ℕ} → Given s (room_in lent-places lent-x lent-rounds) n p → Answers s lent-places lent-x lent-rounds (Err (refusal n p)) lent-places lent-x lent-rounds
   -- else the three numbers of each stream; 'later places keep what they had'. `Accepted`: the bytes read as a P-NET sheet H, each run has a place for each stream, and each
   -- stream is accepted
   accepted : {H : Sheet} {places x rounds : List ℕ} → Accepted s (room_in lent-places lent-x lent-rounds) H
       → ((i : ℕ) → 1 ≤ i → i ≤ length H.streams → Figures (segment_of H) i (written_at places i) (written_at x i) (written_at rounds i))
       → LaterKept (length H.streams) lent-places places → LaterKept (length H.streams) lent-x x → LaterKept (length H.streams) lent-rounds rounds
-      → Answers s lent-places lent-x lent-rounds (plan.Accepted (masters_of H) (length H.streams)) places x rounds
+      → Answers s lent-places lent-x lent-rounds (Ok (record { masters = (masters_of H); streams = (length H.streams) })) places x rounds

@@ -13,10 +13,12 @@ use Rattle.pnet_rules.specs.Refined.{refined, rounds}
 use Rattle.pnet_plan.specs.Planned.{planned, at_place}
 use Rattle.profibus_plan.specs.Planned as ring
 use Rattle.profibus_plan.specs.declared.answer.Plan.{Plan}
-use Rattle.profibus_plan.specs.declared.answer.Plan.TheVariants as ringPlan
 use Rattle.worldfip_plan.specs.Answer as fip
 use Rattle.worldfip_plan.specs.declared.answer.Plan as fipPlan
-use Rattle.worldfip_plan.specs.declared.answer.Plan.TheVariants as fipAnswer
+use Rattle.std.specs.declared.result.Result.TheVariants.{Ok, Err}
+use Rattle.common.specs.Checks.{refusal}
+use Rattle.std.specs.declared.result.Result.{Result}
+use Rattle.common.specs.declared.Refusal.{Refusal}
 
 -- ---- What a case works out to, as a list of numbers; a refusal is its number and place
 
@@ -33,9 +35,9 @@ unfolding planned bytes_of turn bound refined rounds tab
 pnet rs = pnet_figures (planned (bytes_of rs) 32 32 32)
 
 -- TTR and the stream that limits it
-abbrev pub ring_figures : Plan → List ℕ
-ring_figures (ringPlan.Target rotation stream) = rotation.0 ∷ stream ∷ []
-ring_figures (ringPlan.Refused n p) = n ∷ p ∷ []
+abbrev pub ring_figures : Result Plan Refusal → List ℕ
+ring_figures (Ok x) = x.rotation.0 ∷ x.stream ∷ []
+ring_figures (Err r) = r.no ∷ r.place ∷ []
 
 unfoldable pub profibus : List Record → List ℕ
 unfolding reading bytes_of
@@ -43,8 +45,8 @@ profibus rs = ring_figures (ring.plan_of (reading (bytes_of rs)))
 
 -- slots, then the rows
 abbrev pub table_figures : fipPlan.Plan → List ℕ → List ℕ
-table_figures (fipAnswer.Accepted microcycle slots rows) run = slots ∷ run
-table_figures (fipAnswer.Refused n p) run = n ∷ p ∷ []
+table_figures (Ok x) run = x.slots ∷ run
+table_figures (Err r) run = r.no ∷ r.place ∷ []
 
 unfoldable pub worldfip : List Record → List ℕ → List ℕ
 unfolding reading bytes_of

@@ -1,50 +1,49 @@
 -- A planner's answer, and that of export, import and rewriting, as two numbers: a figure where the sheet is accepted, else 2^32 and the refusal's number; and a place. Assumes nothing.
 use Rattle.std.specs.Prelude.{ℕ, ◌+◌}
+use Rattle.std.specs.declared.result.Result.{Result}
+use Rattle.std.specs.declared.result.Result.TheVariants.{Ok, Err}
+use Rattle.common.specs.declared.Refusal.{Refusal}
 use Rattle.pnet_plan.specs.declared.answer.Plan as pnet
-use Rattle.pnet_plan.specs.declared.answer.Plan.TheVariants as pnetPlan
 use Rattle.profibus_plan.specs.declared.answer.Plan as ring
-use Rattle.profibus_plan.specs.declared.answer.Plan.TheVariants as ringPlan
 use Rattle.worldfip_plan.specs.declared.answer.Plan as fip
-use Rattle.worldfip_plan.specs.declared.answer.Plan.TheVariants as fipPlan
-use Rattle.sheet_write.specs.declared.Put.{Put}
-use Rattle.sheet_write.specs.declared.Put.TheVariants as put
 
-abbrev pub pnet_number : pnet.Plan → ℕ
-pnet_number (pnetPlan.Accepted masters streams) = masters
-pnet_number (pnetPlan.Refused no' place) = 4294967296 + no'
+-- a figure of what is accepted
+abbrev pub number_by : {A : Type 0} → (A → ℕ) → Result A Refusal → ℕ
+number_by figure (Ok x) = figure x
+number_by figure (Err r) = 4294967296 + r.no
 
-abbrev pub profibus_number : ring.Plan → ℕ
-profibus_number (ringPlan.Target rotation stream) = rotation.0
-profibus_number (ringPlan.Refused no' place) = 4294967296 + no'
+-- the refusal's place, or the one that goes with what is accepted
+abbrev pub place_by : {A : Type 0} → (A → ℕ) → Result A Refusal → ℕ
+place_by place (Ok x) = place x
+place_by place (Err r) = r.place
 
-abbrev pub worldfip_number : fip.Plan → ℕ
-worldfip_number (fipPlan.Accepted microcycle slots rows) = rows
-worldfip_number (fipPlan.Refused no' place) = 4294967296 + no'
+abbrev pub pnet_number : Result pnet.Plan Refusal → ℕ
+pnet_number answer = number_by (λ plan. plan.masters) answer
+
+abbrev pub profibus_number : Result ring.Plan Refusal → ℕ
+profibus_number answer = number_by (λ plan. plan.rotation.0) answer
+
+abbrev pub worldfip_number : Result fip.Plan Refusal → ℕ
+worldfip_number answer = number_by (λ plan. plan.rows) answer
 
 -- where the runs have a place for each stream: urgent requests first, and beside a capture
-abbrev pub streams_number : pnet.Plan → ℕ
-streams_number (pnetPlan.Accepted masters streams) = streams
-streams_number (pnetPlan.Refused no' place) = 4294967296 + no'
+abbrev pub streams_number : Result pnet.Plan Refusal → ℕ
+streams_number answer = number_by (λ plan. plan.streams) answer
 
 -- of a text or a sheet that was written, its length
-abbrev pub put_number : Put → ℕ
-put_number (put.Next n) = n
-put_number (put.Refused no' place) = 4294967296 + no'
+abbrev pub put_number : Result ℕ Refusal → ℕ
+put_number answer = number_by (λ n. n) answer
 
 -- ---- The place: the refusal's, else 0, or the stream that limits a ring; it is pnet_place too where urgent requests go first, and beside a capture
 
-abbrev pub pnet_place : pnet.Plan → ℕ
-pnet_place (pnetPlan.Accepted masters streams) = 0
-pnet_place (pnetPlan.Refused no' place) = place
+abbrev pub pnet_place : Result pnet.Plan Refusal → ℕ
+pnet_place answer = place_by (λ plan. 0) answer
 
-abbrev pub profibus_place : ring.Plan → ℕ
-profibus_place (ringPlan.Target rotation stream) = stream
-profibus_place (ringPlan.Refused no' place) = place
+abbrev pub profibus_place : Result ring.Plan Refusal → ℕ
+profibus_place answer = place_by (λ plan. plan.stream) answer
 
-abbrev pub worldfip_place : fip.Plan → ℕ
-worldfip_place (fipPlan.Accepted microcycle slots rows) = 0
-worldfip_place (fipPlan.Refused no' place) = place
+abbrev pub worldfip_place : Result fip.Plan Refusal → ℕ
+worldfip_place answer = place_by (λ plan. 0) answer
 
-abbrev pub put_place : Put → ℕ
-put_place (put.Next n) = 0
-put_place (put.Refused no' place) = place
+abbrev pub put_place : Result ℕ Refusal → ℕ
+put_place answer = place_by (λ n. 0) answer

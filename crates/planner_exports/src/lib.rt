@@ -20,15 +20,25 @@ ghost use Rattle.sheet_text.specs.Answers.{export_answer, export_bytes, import_a
 ghost use Rattle.sheet_rewrite.specs.Rewriting.{rewrite_answer, rewrite_bytes};
 ghost use Rattle.planner_exports.specs.Numbers.{put_number, put_place};
 
+use common::Refusal;
+
 const REFUSED: u64 = 4294967296;
 
-// Answers a number, and sets the cell for the place.
-fn told(number: u64, at: usize, place: &mut u64) -> u64
-    ensures value { result ≡ number }
-    ensures place_after { place.new ≡ at }
+// Answers the first of two numbers of what is accepted and sets the cell for the place to the second; else 2^32 and the refusal's number, and its place.
+fn told(answer: Result<(u64, usize), Refusal>, place: &mut u64) -> u64
+    ensures value { result ≡ number_by (λ told. told.0) answer }
+    ensures place_after { place.new ≡ place_by (λ told. told.1) answer }
 {
-    *place = at as u64;
-    number
+    match answer {
+        Ok((number, at)) => {
+            *place = at as u64;
+            number
+        }
+        Err(refusal) => {
+            *place = refusal.place as u64;
+            REFUSED + refusal.no as u64
+        }
+    }
 }
 
 // The masters of a P-NET segment; R, W and rounds go to the three runs.
@@ -46,13 +56,8 @@ pub fn planner_pnet(
         × (refined.new ≡ Planned.run_of outcome Refined.refined refined.old)
         × (rounds.new ≡ Planned.run_of outcome Refined.rounds rounds.old) }
 {
-    match pnet_plan::plan(s, bound, refined, rounds) {
-        pnet_plan::Plan::Accepted {
-            masters,
-            streams: _,
-        } => told(masters as u64, 0, place),
-        pnet_plan::Plan::Refused { no, place: at } => told(REFUSED + no as u64, at, place),
-    }
+    let answer = pnet_plan::plan(s, bound, refined, rounds);
+    told(answer.map(|plan| (plan.masters as u64, 0)), place)
 }
 
 // The streams of a P-NET segment whose urgent requests go first; the place in its master's order, x and rounds of each go to the three runs.
@@ -70,13 +75,8 @@ pub fn planner_urgent(
         × (figure.new ≡ stream_run outcome Urgent.figure figure.old)
         × (rounds.new ≡ stream_run outcome Urgent.rounds rounds.old) }
 {
-    match pnet_urgent::plan(s, places, figure, rounds) {
-        pnet_plan::Plan::Accepted {
-            masters: _,
-            streams,
-        } => told(streams as u64, 0, place),
-        pnet_plan::Plan::Refused { no, place: at } => told(REFUSED + no as u64, at, place),
-    }
+    let answer = pnet_urgent::plan(s, places, figure, rounds);
+    told(answer.map(|plan| (plan.streams as u64, 0)), place)
 }
 
 // TTR of a PROFIBUS ring, in bp of that ring, and the stream that limits it in the place of a refusal's.
@@ -84,10 +84,8 @@ pub fn planner_profibus(s: &[u8], place: &mut u64) -> u64
     ensures value { result ≡ profibus_number (Ring.plan_of (reading s.now)) }
     ensures place_after { place.new ≡ profibus_place (Ring.plan_of (reading s.now)) }
 {
-    match profibus_plan::plan(s) {
-        profibus_plan::Plan::Target { rotation, stream } => told(rotation.0 as u64, stream, place),
-        profibus_plan::Plan::Refused { no, place: at } => told(REFUSED + no as u64, at, place),
-    }
+    let answer = profibus_plan::plan(s);
+    told(answer.map(|plan| (plan.rotation.0 as u64, plan.stream)), place)
 }
 
 // The rows of a WorldFIP table, which go to the run.
@@ -96,14 +94,8 @@ pub fn planner_worldfip(s: &[u8], rows: &mut [u64], place: &mut u64) -> u64
     ensures place_after { place.new ≡ worldfip_place (Answer.plan_of (reading s.now) (length rows.old)) }
     ensures rows_after { rows.new ≡ Answer.run_of (reading s.now) rows.old }
 {
-    match worldfip_plan::plan(s, rows) {
-        worldfip_plan::Plan::Accepted {
-            microcycle: _,
-            slots: _,
-            rows: count,
-        } => told(count as u64, 0, place),
-        worldfip_plan::Plan::Refused { no, place: at } => told(REFUSED + no as u64, at, place),
-    }
+    let answer = worldfip_plan::plan(s, rows);
+    told(answer.map(|plan| (plan.rows as u64, 0)), place)
 }
 
 // The streams of a P-NET sheet that a capture is laid beside; their figures go to the four runs.
@@ -124,24 +116,8 @@ pub fn planner_capture(
         × (above.new ≡ stream_run outcome (above_of c.now) above.old)
         × (left.new ≡ stream_run outcome (left_of c.now) left.old) }
 {
-    match capture_compare::compare(s, c, answers, largest, above, left) {
-        pnet_plan::Plan::Accepted {
-            masters: _,
-            streams,
-        } => told(streams as u64, 0, place),
-        pnet_plan::Plan::Refused { no, place: at } => told(REFUSED + no as u64, at, place),
-    }
-}
-
-// What writing answered, as a number and a place.
-fn put_told(answer: sheet_write::Put, place: &mut u64) -> u64
-    ensures value { result ≡ put_number answer }
-    ensures place_after { place.new ≡ put_place answer }
-{
-    match answer {
-        sheet_write::Put::Next(n) => told(n as u64, 0, place),
-        sheet_write::Put::Refused { no, place: at } => told(REFUSED + no as u64, at, place),
-    }
+    let answer = capture_compare::compare(s, c, answers, largest, above, left);
+    told(answer.map(|plan| (plan.streams as u64, 0)), place)
 }
 
 // The length of a sheet's text, which goes to the run.
@@ -150,7 +126,7 @@ pub fn planner_text_of(s: &[u8], text: &mut [u8], place: &mut u64) -> u64
     ensures place_after { place.new ≡ put_place (export_answer (length text.old) s.now) }
     ensures text_after { text.new ≡ export_bytes text.old s.now }
 {
-    put_told(sheet_text::export(s, text), place)
+    told(sheet_text::export(s, text).map(|n| (n as u64, 0)), place)
 }
 
 // The length of the sheet that a text stands for, which goes to the run.
@@ -159,7 +135,7 @@ pub fn planner_sheet_of(text: &[u8], s: &mut [u8], place: &mut u64) -> u64
     ensures place_after { place.new ≡ put_place (import_answer (length s.old) text.now) }
     ensures s_after { s.new ≡ import_bytes s.old text.now }
 {
-    put_told(sheet_text::import(text, s), place)
+    told(sheet_text::import(text, s).map(|n| (n as u64, 0)), place)
 }
 
 // The length of a sheet rewritten, which goes to the run: a ring of kind 3 as one of kinds 9 and 10, any other sheet as it is.
@@ -168,5 +144,5 @@ pub fn planner_rewritten(s: &[u8], new: &mut [u8], place: &mut u64) -> u64
     ensures place_after { place.new ≡ put_place (rewrite_answer (length new.old) s.now) }
     ensures after { new.new ≡ rewrite_bytes new.old s.now }
 {
-    put_told(sheet_rewrite::rewrite(s, new), place)
+    told(sheet_rewrite::rewrite(s, new).map(|n| (n as u64, 0)), place)
 }

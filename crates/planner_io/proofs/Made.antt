@@ -16,12 +16,13 @@ use Rattle.sheet_pieces.specs.Steps.{State, started, room, steps, ended_as}
 use Rattle.sheet_pieces.specs.Comes.{Comes}
 use Rattle.sheet_pieces.specs.Comes.Comes.{stands, bad}
 use Rattle.sheet_pieces.specs.declared.Taken.{Taken}
-use Rattle.sheet_pieces.specs.declared.Ended.TheVariants as ending
 use Rattle.sheet_pieces.proofs.Stepped.{state, TakenAll, taken_is}
 use Rattle.sheet_pieces.proofs.Whole.{steps_append, comes_to}
 use Rattle.planner_io.specs.declared.input.Given.{Given}
 use Rattle.planner_io.specs.Made.{Took, Made}
 use Rattle.planner_io.specs.Made.Made.{no_text, a_sheet}
+use Rattle.std.specs.declared.result.Result.TheVariants.{Ok, Err}
+use Rattle.common.specs.Checks.{refusal}
 
 -- ---- Pieces
 
@@ -80,7 +81,7 @@ module _ {first : List ℕ} {st : State} (k : Took first st) where
   comes = rw k.state_is (comes_to (first ++ k.rest) k.front k.sheet k.wide k.roomy)
 
   -- a line is not of the form
-  pub took_bad : (r : Given) → ended_as st.taken ≡ ending.Bad r.line → Made first st.sheet r
+  pub took_bad : (r : Given) → ended_as st.taken ≡ Err (refusal 23 r.line) → Made first st.sheet r
   took_bad r ended = by (meaning (first ++ k.rest)) refl comes
     where
       by : (m : Meaning) → meaning (first ++ k.rest) ≡ m → Comes st m → Made first st.sheet r
@@ -88,7 +89,7 @@ module _ {first : List ℕ} {st : State} (k : Took first st) where
       by m e (bad {n = n} q) = no_text k.rest n e cc
 
   -- a sheet, of which l bytes are kept
-  pub took_sheet : (r : Given) (l : ℕ) → ended_as st.taken ≡ ending.Sheet l → r.line ≡ 0 → r.length ≡ min l (length st.sheet) → Made first st.sheet r
+  pub took_sheet : (r : Given) (l : ℕ) → ended_as st.taken ≡ Ok l → r.line ≡ 0 → r.length ≡ min l (length st.sheet) → Made first st.sheet r
   took_sheet r l ended line long = by (meaning (first ++ k.rest)) refl comes
     where
       by : (m : Meaning) → meaning (first ++ k.rest) ≡ m → Comes st m → Made first st.sheet r

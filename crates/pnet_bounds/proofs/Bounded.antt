@@ -18,10 +18,8 @@ use Rattle.sheet_record.specs.declared.Record.{Record}
 use Rattle.sheet_record.specs.Kinds.{pnet, bus_of}
 use Rattle.sheet_rules.specs.Sheets.{Sheet, bus_in, masters_of}
 use Rattle.sheet_rules.specs.Whole.{Outcome, or_else, reading}
-use Rattle.sheet_read.specs.Told.{told}
+use Rattle.sheet_read.specs.Told.{told, accepted}
 use Rattle.sheet_rules.specs.Whole.Outcome.{Read, Not}
-use Rattle.sheet_read.specs.declared.Reading.{Reading}
-use Rattle.sheet_read.specs.declared.Reading.TheVariants as reader
 use Rattle.sheet_rules.specs.Ready.{sheet_in, Ready}
 use Rattle.sheet_rules.proofs.Known.{reading_read}
 use Rattle.sheet_read.proofs.Taken.{Taken, taken, not_taken, taken_ready}
@@ -31,10 +29,14 @@ use Rattle.pnet_rules.proofs.Declares.{declared}
 use Rattle.pnet_turn.specs.Turn.{at}
 use Rattle.pnet_plan.specs.Planned.{first_late, segment_checks, plan_of, at_place}
 use Rattle.pnet_plan.specs.declared.answer.Plan.{Plan}
-use Rattle.pnet_plan.specs.declared.answer.Plan.TheVariants as answer
 use Rattle.pnet_plan.specs.Arrays.{segment_in, Sheeted}
 use Rattle.pnet_plan.proofs.Bytes.{Here, its_bound}
 use Rattle.pnet_bounds.specs.Bounded.{bounded_by, bounded, bound_of, master_of, spacing_of, jitter_of, stream_run}
+use Rattle.std.specs.declared.result.Result.TheVariants.{Ok, Err}
+use Rattle.common.specs.Checks.{refusal}
+use Rattle.std.specs.declared.result.Result.{Result}
+use Rattle.common.specs.declared.Refusal.{Refusal}
+use Rattle.sheet_read.specs.declared.Accepted.{Accepted}
 
 -- ---- What is refused
 
@@ -102,11 +104,11 @@ module _ (s : List ℕ) (room : ℕ) (H : Sheet) (e : bounded s room ≡ Read H)
 
 -- ---- From the reader's answer, as the code takes it apart
 
-module _ (s : List ℕ) {answered : Reading} (e : answered ≡ told s (reading s)) where
-  pub answer_taken : {head : Record} {n first : ℕ} → answered ≡ reader.Accepted head n first → Taken s head n first
+module _ (s : List ℕ) {answered : Result Accepted Refusal} (e : answered ≡ told s (reading s)) where
+  pub answer_taken : {head : Record} {n first : ℕ} → answered ≡ Ok (accepted head n first) → Taken s head n first
   answer_taken {head} {n} {first} q = taken s head n first (sym e ∙ q)
 
-  pub answer_refused : {n p : ℕ} → answered ≡ reader.Refused n p → (room : ℕ) → bounded s room ≡ Not n p
+  pub answer_refused : {n p : ℕ} → answered ≡ Err (refusal n p) → (room : ℕ) → bounded s room ≡ Not n p
   answer_refused {n} {p} q room = bounded_unread s room n p (not_taken s n p (sym e ∙ q))
 
 module _ {s : List ℕ} {head : Record} {n first : ℕ} (took : Taken s head n first) (room : ℕ) where
@@ -119,7 +121,7 @@ module _ {s : List ℕ} {head : Record} {n first : ℕ} (took : Taken s head n f
 -- ---- The answer and the four runs together, as the code returns them
 
 -- the answer r, and the runs a, b, c and d where x, y, z and u were lent
-abbrev pub Returned : List ℕ → ℕ → List ℕ → List ℕ → List ℕ → List ℕ → Plan → List ℕ → List ℕ → List ℕ → List ℕ → Type 0
+abbrev pub Returned : List ℕ → ℕ → List ℕ → List ℕ → List ℕ → List ℕ → Result Plan Refusal → List ℕ → List ℕ → List ℕ → List ℕ → Type 0
 Returned s room x y z u r a b c d =
     (r ≡ plan_of (bounded s room))
     × ((a ≡ stream_run (bounded s room) master_of x)
@@ -127,7 +129,7 @@ Returned s room x y z u r a b c d =
     × ((c ≡ stream_run (bounded s room) spacing_of z) × (d ≡ stream_run (bounded s room) jitter_of u))))
 
 pub returned_refused : (s : List ℕ) (room : ℕ) (x y z u : List ℕ) (n p : ℕ) → bounded s room ≡ Not n p
-    → Returned s room x y z u (answer.Refused n p) x y z u
+    → Returned s room x y z u (Err (refusal n p)) x y z u
 returned_refused s room x y z u n p e = (ap plan_of (sym e), (run_kept master_of x, (run_kept bound_of y, (run_kept spacing_of z, run_kept jitter_of u))))
   where
     run_kept : (figure : Segment → ℕ → ℕ) (old : List ℕ) → old ≡ stream_run (bounded s room) figure old
@@ -143,7 +145,7 @@ module _ {s : List ℕ} {N n first : ℕ} {counts longests : List ℕ} (h : Shee
   pub sheeted_late : late ≤ n → bounded s room ≡ Not 8 late
   sheeted_late l = bounded_late s room (sheet_in s) h.ready.reads h.ready.on_bus few late first-late (omega (arith, h.ready.number))
 
-  pub returned_late : late ≤ n → (x y z u : List ℕ) → Returned s room x y z u (answer.Refused 8 late) x y z u
+  pub returned_late : late ≤ n → (x y z u : List ℕ) → Returned s room x y z u (Err (refusal 8 late)) x y z u
   returned_late l x y z u = returned_refused s room x y z u 8 late (sheeted_late l)
 
   module _ (l : n < late) where
@@ -158,10 +160,10 @@ module _ {s : List ℕ} {N n first : ℕ} {counts longests : List ℕ} (h : Shee
 
     pub returned_accepted : (x y z u a b c d : List ℕ) → a ≡ filled (at_place (master_of (segment_in s))) n x
         → b ≡ filled (at_place (bound_of (segment_in s))) n y → c ≡ filled (at_place (spacing_of (segment_in s))) n z
-        → d ≡ filled (at_place (jitter_of (segment_in s))) n u → Returned s room x y z u (answer.Accepted N n) a b c d
+        → d ≡ filled (at_place (jitter_of (segment_in s))) n u → Returned s room x y z u (Ok (record { masters = N; streams = n })) a b c d
     unfolding segment_of
     returned_accepted x y z u a b c d p q t v =
-        let r : answer.Accepted N n ≡ plan_of (Read (sheet_in s)) = ap (λ (k : ℕ). answer.Accepted k n) h.masters_are ∙ ap (answer.Accepted (masters_of (sheet_in s))) (sym h.ready.number) in
+        let r : Ok (record { masters = N; streams = n }) ≡ plan_of (Read (sheet_in s)) = ap (λ (k : ℕ). Ok (record { masters = k; streams = n })) h.masters_are ∙ ap (λ k. Ok (record { masters = (masters_of (sheet_in s)); streams = k })) (sym h.ready.number) in
         (r ∙ ap plan_of (sym sheeted_read), (run_read master_of x a p, (run_read bound_of y b q, (run_read spacing_of z c t, run_read jitter_of u d v))))
 
 -- ---- Stream by stream

@@ -12,7 +12,8 @@ ghost use Rattle.pnet_plan.specs.Planned.{plan_of, at_place};
 ghost use Rattle.pnet_bounds.specs.Bounded.{bounded, bound_of, master_of, spacing_of, jitter_of, stream_run};
 
 use pnet_plan::Plan;
-use sheet_read::{MOST, Reading};
+use common::Refusal;
+use sheet_read::MOST;
 
 // Each stream's master, bound, spacing and jitter; turn is V.
 fn by_stream(
@@ -60,7 +61,7 @@ fn bounds_of(
     bound: &mut [u32; MOST],
     spacing: &mut [u32; MOST],
     jitter: &mut [u32; MOST],
-) -> Plan
+) -> Result<Plan, Refusal>
     requires { Sheeted s.now all n first counts.now longests.now × (n ≤ room) }
     ensures value { result ≡ plan_of (bounded s.now room) }
     ensures masters_after { masters.new ≡ stream_run (bounded s.now room) master_of masters.old }
@@ -71,15 +72,15 @@ fn bounds_of(
     let found = pnet_late::judge(s, all, first, n, counts, longests);
     let late = found.late;
     if late <= n {
-        return Plan::Refused { no: 8, place: late };
+        return Err(Refusal { no: 8, place: late });
     }
     by_stream(
         s, first, n, counts, found.turn, masters, bound, spacing, jitter,
     );
-    Plan::Accepted {
+    Ok(Plan {
         masters: all,
         streams: n,
-    }
+    })
 }
 
 // The sheet that a capture is laid beside: each stream's master, bound, spacing and jitter, where `room` is the length of the shortest run lent
@@ -91,7 +92,7 @@ pub fn bounds(
     bound: &mut [u32; MOST],
     spacing: &mut [u32; MOST],
     jitter: &mut [u32; MOST],
-) -> Plan
+) -> Result<Plan, Refusal>
     ensures value { result ≡ plan_of (bounded s.now room) }
     ensures masters_after { masters.new ≡ stream_run (bounded s.now room) master_of masters.old }
     ensures bound_after { bound.new ≡ stream_run (bounded s.now room) bound_of bound.old }
@@ -100,36 +101,28 @@ pub fn bounds(
 {
     let mut counts: [u8; 33] = [0; 33];
     let mut longests: [u32; 33] = [0; 33];
-    let read = sheet_read::read_gathering(s, &mut counts, &mut longests);
-    match read {
-        Reading::Refused { no, place } => Plan::Refused { no, place },
-        Reading::Accepted {
-            head,
-            streams,
-            first,
-        } => {
-            if sheet_record::bus_of(head.kind) != 1 {
-                return Plan::Refused { no: 3, place: 0 };
-            }
-            if room < streams {
-                return Plan::Refused {
-                    no: 13,
-                    place: streams,
-                };
-            }
-            bounds_of(
-                s,
-                head.a as usize,
-                first,
-                streams,
-                room,
-                &counts,
-                &longests,
-                masters,
-                bound,
-                spacing,
-                jitter,
-            )
-        }
+    let sheet = sheet_read::read_gathering(s, &mut counts, &mut longests)?;
+    if sheet_record::bus_of(sheet.head.kind) != 1 {
+        return Err(Refusal { no: 3, place: 0 });
     }
+    let streams = sheet.streams;
+    if room < streams {
+        return Err(Refusal {
+            no: 13,
+            place: streams,
+        });
+    }
+    bounds_of(
+        s,
+        sheet.head.a as usize,
+        sheet.first,
+        streams,
+        room,
+        &counts,
+        &longests,
+        masters,
+        bound,
+        spacing,
+        jitter,
+    )
 }

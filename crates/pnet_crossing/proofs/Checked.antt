@@ -4,7 +4,7 @@ use mathlib.Core.Bool.{Bool, true, false, not, ◌||◌}
 use Prim.Native.Nat.{ℕ, ◌+◌, ◌*◌, ◌≤◌, ◌<◌}
 use borrow.Author.Tests.{lt-ltb, le-ltb, le-leb, lt-leb}
 use lib.Dec.{leb, ltb}
-use Rattle.common.specs.Checks.{Verdict}
+use Rattle.common.specs.Checks.{Verdict, unless}
 use Rattle.common.specs.Sums.{first_of}
 use Rattle.common.proofs.Checks.{Applies, refused_if, passed_if}
 use Rattle.common.proofs.Checks.Applies.{here, later}
@@ -13,8 +13,9 @@ use Rattle.common.proofs.Outside.{outside_is}
 use Rattle.sheet_record.specs.Kinds.{within}
 use Rattle.sheet_ranges.proofs.Ranges.{range_within}
 use Rattle.units.specs.Units.{bp}
-use Rattle.pnet_crossing.specs.Cost.{segment_step, is_too_long, cost_over, path_checks, cost_or, crossing_by}
-use Rattle.pnet_crossing.specs.declared.Crossing.TheVariants as answer
+use Rattle.pnet_crossing.specs.Cost.{segment_step, is_too_long, cost_over, path_checks, crossing_by}
+use Rattle.std.specs.declared.result.Result.TheVariants.{Ok, Err}
+use Rattle.common.specs.Checks.{refusal}
 
 -- ---- Out of range, as the code tests it
 
@@ -25,11 +26,11 @@ outside lo x hi = outside_is lo x hi
 -- ---- The refusals
 
 module _ (R F : ℕ → ℕ) (absent : ℕ → Bool) (g D : ℕ) where
-  refused : {n p : ℕ} → Applies (path_checks R F absent g D) n p → answer.Refused n p ≡ crossing_by R F absent g D
+  refused : {n p : ℕ} → Applies (path_checks R F absent g D) n p → Err (refusal n p) ≡ crossing_by R F absent g D
   unfolding crossing_by
-  refused a = ap (λ (v : Verdict). cost_or v (cost_over R F g)) (sym (refused_if a))
+  refused a = ap (λ (v : Verdict). unless v (bp (cost_over R F g))) (sym (refused_if a))
 
-  pub too_many : (ltb g 1 || ltb 10 g) ≡ true → answer.Refused 17 g ≡ crossing_by R F absent g D
+  pub too_many : (ltb g 1 || ltb 10 g) ≡ true → Err (refusal 17 g) ≡ crossing_by R F absent g D
   unfolding path_checks
   too_many e = refused (here (outside 1 g 10 ∙ e))
 
@@ -37,7 +38,7 @@ module _ (R F : ℕ → ℕ) (absent : ℕ → Bool) (g D : ℕ) where
     number : not (within 1 g 10) ≡ false
     number = ap not (range_within 1 g 10 (record { least = few.0; most = few.1 }))
 
-    pub time_out_of_range : long ≤ g → answer.Refused 4 long ≡ crossing_by R F absent g D
+    pub time_out_of_range : long ≤ g → Err (refusal 4 long) ≡ crossing_by R F absent g D
     unfolding path_checks
     time_out_of_range l = rw long-is (refused (later number (here (le-leb _ _ (rw long-is at l)))))
 
@@ -45,7 +46,7 @@ module _ (R F : ℕ → ℕ) (absent : ℕ → Bool) (g D : ℕ) where
       times : leb (first_of (is_too_long F) g 1) g ≡ false
       times = lt-leb _ _ (rw long-is at short)
 
-      pub deadline_out_of_range : (ltb D 1 || ltb 1000000000 D) ≡ true → answer.Refused 4 0 ≡ crossing_by R F absent g D
+      pub deadline_out_of_range : (ltb D 1 || ltb 1000000000 D) ≡ true → Err (refusal 4 0) ≡ crossing_by R F absent g D
       unfolding path_checks
       deadline_out_of_range e = refused (later number (later times (here (outside 1 D 1000000000 ∙ e))))
 
@@ -53,7 +54,7 @@ module _ (R F : ℕ → ℕ) (absent : ℕ → Bool) (g D : ℕ) where
         deadline : not (within 1 D 1000000000) ≡ false
         deadline = outside 1 D 1000000000 ∙ in-range
 
-        pub sender_absent : without ≤ g + 1 → answer.Refused 18 without ≡ crossing_by R F absent g D
+        pub sender_absent : without ≤ g + 1 → Err (refusal 18 without) ≡ crossing_by R F absent g D
         unfolding path_checks
         sender_absent l = rw without_is (refused (later number (later times (later deadline (here (le-leb _ _ (rw without_is at l)))))))
 
@@ -65,13 +66,13 @@ module _ (R F : ℕ → ℕ) (absent : ℕ → Bool) (g D : ℕ) where
           unfolding cost_over
           cost_is = cost-of ∙ ap (λ (n : ℕ). segment_step R F n 1) hops-are
 
-          pub late : D < cost → answer.Refused 19 0 ≡ crossing_by R F absent g D
+          pub late : D < cost → Err (refusal 19 0) ≡ crossing_by R F absent g D
           unfolding path_checks
           late l = refused (later number (later times (later deadline (later senders (here (lt-ltb _ _ (rw cost_is at l)))))))
 
-          pub in_time : cost ≤ D → answer.Within (bp cost) ≡ crossing_by R F absent g D
+          pub in_time : cost ≤ D → Ok (bp cost) ≡ crossing_by R F absent g D
           unfolding crossing_by path_checks
           in_time l =
               rw cost_is
-              (ap (λ (v : Verdict). cost_or v (cost_over R F g))
+              (ap (λ (v : Verdict). unless v (bp (cost_over R F g)))
               (sym (passed_if (and number (and times (and deadline (and senders (and (le-ltb _ _ (rw cost_is at l)) none))))))))

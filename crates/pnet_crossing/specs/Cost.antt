@@ -1,14 +1,16 @@
 -- Page 02, 'Ask 4', several P-NET segments: what a path costs by its figures, and its refusals behind the sheets' own in their order. R i is the bound of
 -- segment i's sender, F i the forwarding time of gateway i. Assumes nothing.
 use Rattle.std.specs.Prelude.{ℕ, zero, suc, ◌+◌, ◌*◌, List, [], ◌∷◌, Bool, not, get_or, eqb, leb, ltb}
-use Rattle.common.specs.Checks.{Check, check, Verdict, verdict}
+use Rattle.common.specs.Checks.{Check, check, Verdict, verdict, unless}
 use Rattle.common.specs.Checks.Verdict.{Passed, Refused}
 use Rattle.common.specs.Sums.{first_of}
 use Rattle.sheet_record.specs.Kinds.{within}
 use Rattle.units.specs.Units.{bp}
 use Rattle.units.specs.declared.BitPeriods.{BitPeriods}
-use Rattle.pnet_crossing.specs.declared.Crossing.{Crossing}
-use Rattle.pnet_crossing.specs.declared.Crossing.TheVariants as answer
+use Rattle.std.specs.declared.result.Result.TheVariants.{Ok, Err}
+use Rattle.common.specs.Checks.{refusal}
+use Rattle.std.specs.declared.result.Result.{Result}
+use Rattle.common.specs.declared.Refusal.{Refusal}
 
 -- ---- What it costs
 
@@ -49,15 +51,10 @@ path_checks R F absent g D =
 
 -- ---- The answer
 
--- what it costs, or the refusal
-abbrev pub cost_or : Verdict → ℕ → Crossing
-cost_or Passed cost = answer.Within (bp cost)
-cost_or (Refused n p) cost = answer.Refused n p
-
--- by R, F and what is absent, where no sheet is refused
-unfoldable pub crossing_by : (ℕ → ℕ) → (ℕ → ℕ) → (ℕ → Bool) → ℕ → ℕ → Crossing
+-- what it costs, or the refusal, by R, F and what is absent, where no sheet is refused
+unfoldable pub crossing_by : (ℕ → ℕ) → (ℕ → ℕ) → (ℕ → Bool) → ℕ → ℕ → Result BitPeriods Refusal
 unfolding verdict path_checks cost_over
-crossing_by R F absent g D = cost_or (verdict (path_checks R F absent g D)) (cost_over R F g)
+crossing_by R F absent g D = unless (verdict (path_checks R F absent g D)) (bp (cost_over R F g))
 
 -- ---- Figures that stand in runs
 

@@ -6,14 +6,8 @@ ghost use Rattle.std.specs.Prelude.{◌≡◌, ◌+◌, ◌*◌, ◌≤◌, ◌<
 ghost use Rattle.common.specs.Sums.{first_of};
 ghost use Rattle.pnet_crossing.specs.Cost.{segment_step, gateway_step, is_too_long, crossing_by, kept, no_bound};
 
+use common::Refusal;
 use units::BitPeriods;
-
-// What a path costs, or the refusal's number and place.
-#[derive(Clone, Copy)]
-pub enum Crossing {
-    Within(BitPeriods),
-    Refused { no: u8, place: usize },
-}
 
 fn wide(b: BitPeriods) -> u64
     ensures { (result ≡ b.0) × (result < 4294967296) }
@@ -81,51 +75,51 @@ fn first_without(bounds: [BitPeriods; 12], n: usize) -> usize
     i
 }
 
-// What 1 to 10 gateways answer.
+// What a path over 1 to 10 gateways costs.
 fn cross(
     bounds: [BitPeriods; 12],
     times: [BitPeriods; 11],
     gateways: usize,
     deadline: BitPeriods,
-) -> Crossing
+) -> Result<BitPeriods, Refusal>
     requires { (1 ≤ gateways) × (gateways ≤ 10) }
     ensures { result ≡ crossing_by (kept bounds) (kept times) (no_bound bounds) gateways deadline.0 }
 {
     let long = first_too_long(times, gateways);
     if long <= gateways {
-        return Crossing::Refused { no: 4, place: long };
+        return Err(Refusal { no: 4, place: long });
     }
     if (deadline.0 < 1) | (deadline.0 > 1_000_000_000) {
-        return Crossing::Refused { no: 4, place: 0 };
+        return Err(Refusal { no: 4, place: 0 });
     }
     let without = first_without(bounds, gateways + 1);
     if without <= gateways + 1 {
-        return Crossing::Refused {
+        return Err(Refusal {
             no: 18,
             place: without,
-        };
+        });
     }
     let cost = segment_step(bounds, times, 1, 2 * gateways + 1);
     if cost > deadline.0 as u64 {
-        return Crossing::Refused { no: 19, place: 0 };
+        return Err(Refusal { no: 19, place: 0 });
     }
-    Crossing::Within(BitPeriods(cost as u32))
+    Ok(BitPeriods(cost as u32))
 }
 
-// What any number of gateways answers.
+// What a path over any number of gateways costs.
 pub fn over_gateways(
     bounds: [BitPeriods; 12],
     times: [BitPeriods; 11],
     gateways: usize,
     deadline: BitPeriods,
-) -> Crossing
+) -> Result<BitPeriods, Refusal>
     ensures { result ≡ crossing_by (kept bounds) (kept times) (no_bound bounds) gateways deadline.0 }
 {
     if (gateways < 1) | (gateways > 10) {
-        return Crossing::Refused {
+        return Err(Refusal {
             no: 17,
             place: gateways,
-        };
+        });
     }
     cross(bounds, times, gateways, deadline)
 }

@@ -5,8 +5,9 @@ use mathlib.Core.List.{List, [], ◌∷◌}
 use Prim.Native.Nat.{ℕ}
 use lib.Dec.{eqb}
 use Rattle.units.specs.Units.{bp}
-use Rattle.pnet_crossing.specs.declared.Crossing.TheVariants as answer
 use Rattle.pnet_path.specs.Path.{Path, crossed}
+use Rattle.std.specs.declared.result.Result.TheVariants.{Ok, Err}
+use Rattle.common.specs.Checks.{refusal}
 
 -- N masters, of which the first two have a stream each, C = 203, T = D = 9,999: with N = 2, R is 500 for both
 unfoldable pub sheet : ℕ → List ℕ
@@ -22,50 +23,50 @@ abbrev pub path : ℕ → ℕ → List ℕ → ℕ → ℕ → Path
 path n F s k D = record { segments = n; hop = λ i. record { forwarding = F; sheet = cond (eqb i 1) (sheet 2) s; sender = cond (eqb i 1) 1 k }; deadline = D }
 
 -- 500 + 30 + 500 + 30 is within D,
-pub at_the_deadline : crossed (path 2 30 (sheet 2) 2 1060) ≡ answer.Within (bp 1060)
+pub at_the_deadline : crossed (path 2 30 (sheet 2) 2 1060) ≡ Ok (bp 1060)
 unfolding crossed sheet
 at_the_deadline = refl
 
 -- and one above it
-pub above_the_deadline : crossed (path 2 30 (sheet 2) 2 1059) ≡ answer.Refused 19 0
+pub above_the_deadline : crossed (path 2 30 (sheet 2) 2 1059) ≡ Err (refusal 19 0)
 unfolding crossed sheet
 above_the_deadline = refl
 
 -- no gateway: one segment, and none
-pub one_segment : crossed (path 1 30 (sheet 2) 2 1060) ≡ answer.Refused 17 0
+pub one_segment : crossed (path 1 30 (sheet 2) 2 1060) ≡ Err (refusal 17 0)
 unfolding crossed sheet
 one_segment = refl
 
-pub no_segment : crossed (path 0 30 (sheet 2) 2 1060) ≡ answer.Refused 17 0
+pub no_segment : crossed (path 0 30 (sheet 2) 2 1060) ≡ Err (refusal 17 0)
 unfolding crossed sheet
 no_segment = refl
 
 -- eleven gateways
-pub twelve_segments : crossed (path 12 30 (sheet 2) 2 10000) ≡ answer.Refused 17 11
+pub twelve_segments : crossed (path 12 30 (sheet 2) 2 10000) ≡ Err (refusal 17 11)
 unfolding crossed sheet
 twelve_segments = refl
 
 -- an empty sheet on each segment behind the first: its own comes before 17
-pub empty_sheet : crossed (path 12 30 [] 2 10000) ≡ answer.Refused 1 0
+pub empty_sheet : crossed (path 12 30 [] 2 10000) ≡ Err (refusal 1 0)
 unfolding crossed sheet
 empty_sheet = refl
 
 -- a forwarding time of 1,000,001 comes before D
-pub too_long_a_time : crossed (path 2 1000001 (sheet 2) 2 0) ≡ answer.Refused 4 1
+pub too_long_a_time : crossed (path 2 1000001 (sheet 2) 2 0) ≡ Err (refusal 4 1)
 unfolding crossed sheet
 too_long_a_time = refl
 
 -- D comes before the senders
-pub no_deadline : crossed (path 2 30 (sheet 2) 9 0) ≡ answer.Refused 4 0
+pub no_deadline : crossed (path 2 30 (sheet 2) 9 0) ≡ Err (refusal 4 0)
 unfolding crossed sheet
 no_deadline = refl
 
 -- master 9 is not there, which comes before the total
-pub absent_sender : crossed (path 2 30 (sheet 2) 9 1) ≡ answer.Refused 18 2
+pub absent_sender : crossed (path 2 30 (sheet 2) 9 1) ≡ Err (refusal 18 2)
 unfolding crossed sheet
 absent_sender = refl
 
 -- master 3 is there, without streams
-pub silent_sender : crossed (path 2 30 (sheet 3) 3 1) ≡ answer.Refused 18 2
+pub silent_sender : crossed (path 2 30 (sheet 3) 3 1) ≡ Err (refusal 18 2)
 unfolding crossed sheet
 silent_sender = refl

@@ -4,21 +4,22 @@ use mathlib.Core.Bool.{Bool, true, false, cond}
 use mathlib.Core.List.{List}
 use Prim.Native.Nat.{ℕ, ◌-◌}
 use Rattle.pnet_sender.specs.Sender.{sound, sender_of}
-use Rattle.pnet_sender.specs.declared.Sender.{Sender}
 use Rattle.pnet_crossing.specs.Cost.{crossing_by, kept, no_bound}
-use Rattle.pnet_crossing.specs.declared.Crossing.{Crossing}
-use Rattle.pnet_crossing.specs.declared.Crossing.TheVariants as answer
 use Rattle.pnet_path.specs.Ways.{over_by, over_to, answer_of}
 use Rattle.pnet_path.specs.declared.Way.{Way}
+use Rattle.std.specs.declared.result.Result.{Result}
+use Rattle.common.specs.declared.Refusal.{Refusal}
+use Rattle.std.specs.declared.result.Result.TheVariants.{Ok, Err}
+use Rattle.common.specs.Checks.{refusal}
 
 -- ---- What a way answers
 
 module _ (w : Way) (D : ℕ) where
-  pub answer_of_refused : w.refused ≡ true → answer.Refused w.no w.place ≡ answer_of w D
+  pub answer_of_refused : w.refused ≡ true → Err (refusal w.no w.place) ≡ answer_of w D
   unfolding answer_of
   answer_of_refused e = rw e
 
-  pub answer_of_others : w.refused ≡ false → (g : ℕ) → g ≡ w.segments - 1 → (r : Crossing)
+  pub answer_of_others : w.refused ≡ false → (g : ℕ) → g ≡ w.segments - 1 → (r : Result BitPeriods Refusal)
       → r ≡ crossing_by (kept w.bounds) (kept w.times) (no_bound w.bounds) g D → r ≡ answer_of w D
   unfolding answer_of
   answer_of_others e g q r h = rw (e, ← q) h
@@ -35,5 +36,5 @@ module _ (w : Way) (F : ℕ) (s : List ℕ) (k : ℕ) where
   over_goes e = ap (λ (b : Bool). cond b w (over_by w F k (sender_of (sound s) k))) e
 
   -- by what its sheet was told to be
-  pub over_told : w.refused ≡ false → (t : Sender) → t ≡ sender_of (sound s) k → (r : Way) → r ≡ over_by w F k t → r ≡ over_to w F s k
+  pub over_told : w.refused ≡ false → (t : Result BitPeriods Refusal) → t ≡ sender_of (sound s) k → (r : Way) → r ≡ over_by w F k t → r ≡ over_to w F s k
   over_told e t q r h = h ∙ (ap (over_by w F k) q ∙ sym (over_goes e))

@@ -10,7 +10,7 @@ use native.Mathlib.Decide.{ℕ_discrete}
 use native.Mathlib.Omega.{arith}
 use borrow.Author.Tests.{ltb-true, ltb-false, leb-true, leb-false, eqb-true, eqb-false, not-true, not-false, lt-ltb, le-ltb, le-leb, lt-leb, eq-eqb, ne_eqb}
 use lib.Dec.{leb, ltb, eqb}
-use Rattle.common.specs.Checks.{Check, Verdict, verdict}
+use Rattle.common.specs.Checks.{Check, Verdict, verdict, unless}
 use Rattle.common.specs.Checks.Verdict.{Passed, Refused}
 use Rattle.common.specs.Sums.{first_of}
 use Rattle.common.proofs.Checks.{Applies, Clear, refused_if, refused_then, passed_if, passed_then}
@@ -25,14 +25,16 @@ use Rattle.sheet_rules.specs.Whole.Outcome.{Read, Not}
 use Rattle.sheet_rules.proofs.Known.{both_fail}
 use Rattle.pnet_rules.specs.Segment.{Segment, segment_of, count}
 use Rattle.units.specs.Units.{bp}
-use Rattle.pnet_crossing.specs.Cost.{is_too_long, path_checks, cost_or, crossing_by}
-use Rattle.pnet_crossing.specs.declared.Crossing.{Crossing}
-use Rattle.pnet_crossing.specs.declared.Crossing.TheVariants as answer
+use Rattle.pnet_crossing.specs.Cost.{is_too_long, path_checks, crossing_by}
 use Rattle.pnet_crossing.proofs.Laws.{Searched, searched_here, searched_end}
 use Rattle.pnet_path.specs.Path.{Path, gateways, sheet_at, bound_at, forwarding_at, absent_in, absent_from, absent_at, refused_or, crossed_from, crossed}
 use Rattle.pnet_path.specs.Refusals.{Between, Each, FirstBad, Taken, Untaken, Few, Short, Long, Dated, Present, Absent, Sender, total, Sheets, Times, Senders, Given, Accepted}
 use Rattle.pnet_path.specs.Refusals.Absent.{not_there, no_streams}
 use Rattle.pnet_path.specs.Refusals.Given.{own, not_few, too_long, undated, no_sender, too_late}
+use Rattle.std.specs.declared.result.Result.TheVariants.{Ok, Err}
+use Rattle.common.specs.Checks.{refusal}
+use Rattle.std.specs.declared.result.Result.{Result}
+use Rattle.common.specs.declared.Refusal.{Refusal}
 
 -- ---- Tests
 
@@ -174,7 +176,7 @@ module _ (P : Path) where
       ∙ ap (λ (o : Outcome). refused_or o (crossed_from P m (suc (suc n)))) (t (suc n) (omega arith) (omega arith)).reads
 
   -- the first that is refused, for itself
-  pub refused_own : {i n p : ℕ} → FirstBad (Taken P) (Untaken n p P) P.segments i → crossed P ≡ answer.Refused n p
+  pub refused_own : {i n p : ℕ} → FirstBad (Taken P) (Untaken n p P) P.segments i → crossed P ≡ Err (refusal n p)
   unfolding crossed_from
   refused_own {i = zero} b = absurd (omega (arith, b.from))
   refused_own {i = suc i} b =
@@ -229,12 +231,12 @@ module _ (P : Path) where
 
   module _ (t : Sheets P) where
     -- the list decides, and a line that applies is the answer
-    answered : crossed P ≡ cost_or (verdict checks) (total P)
+    answered : crossed P ≡ unless (verdict checks) (bp (total P))
     unfolding crossed_from crossing_by
     answered = behind P.segments 0 (add-zero P.segments) t
 
-    listed : {n p : ℕ} → Applies checks n p → crossed P ≡ answer.Refused n p
-    listed a = answered ∙ ap (λ (v : Verdict). cost_or v (total P)) (refused_if a)
+    listed : {n p : ℕ} → Applies checks n p → crossed P ≡ Err (refusal n p)
+    listed a = answered ∙ ap (λ (v : Verdict). unless v (bp (total P))) (refused_if a)
 
     abbrev first_absent : ℕ
     first_absent = first_of (absent_at P) (g + 1) 1
@@ -286,7 +288,7 @@ module _ (P : Path) where
 
   -- ---- Exactly if
 
-  given_if : (n p : ℕ) → Given P n p → crossed P ≡ answer.Refused n p
+  given_if : (n p : ℕ) → Given P n p → crossed P ≡ Err (refusal n p)
   unfolding path_checks
   given_if n p (own b) = refused_own b
   given_if n p (not_few t f) = listed t (here (few.if_bad f))
@@ -301,7 +303,7 @@ module _ (P : Path) where
       listed t
       (later (few.if_good f) (later (times.if_good b) (later (dated.if_good c) (later ((senders t f).if_good d) (here (in_time.if_bad e))))))
 
-  accepted_if : (c : ℕ) → Accepted P c → crossed P ≡ answer.Within (bp c)
+  accepted_if : (c : ℕ) → Accepted P c → crossed P ≡ Ok (bp c)
   unfolding path_checks
   accepted_if c a =
       let t = a.sheets in
@@ -310,17 +312,17 @@ module _ (P : Path) where
       (and (times.if_good a.times)
       (and (dated.if_good a.dated)
       (and ((senders t a.few).if_good a.senders) (and (in_time.if_good (omega (arith, a.cost, a.in_time))) none)))) in
-      answered t ∙ (ap (λ (v : Verdict). cost_or v (total P)) (passed_if clear) ∙ ap (λ (x : ℕ). answer.Within (bp x)) (sym a.cost))
+      answered t ∙ (ap (λ (v : Verdict). unless v (bp (total P))) (passed_if clear) ∙ ap (λ (x : ℕ). Ok (bp x)) (sym a.cost))
 
   -- each answer is one that the words give
-  data Told : Crossing → Type 0 where
-    refused : {n p : ℕ} → Given P n p → Told (answer.Refused n p)
-    accepted : {c : ℕ} → Accepted P c → Told (answer.Within (bp c))
+  data Told : Result BitPeriods Refusal → Type 0 where
+    refused : {n p : ℕ} → Given P n p → Told (Err (refusal n p))
+    accepted : {c : ℕ} → Accepted P c → Told (Ok (bp c))
 
   told : Told (crossed P)
   told = split (looked P.segments)
     where
-      by : (t : Sheets P) (v : Verdict) → verdict checks ≡ v → Told (cost_or v (total P))
+      by : (t : Sheets P) (v : Verdict) → verdict checks ≡ v → Told (unless v (bp (total P)))
       by t Passed q = accepted (no_line t (passed_then checks q))
       by t (Refused n p) q = refused (line t (refused_then checks n p q))
 
@@ -328,28 +330,28 @@ module _ (P : Path) where
       split (all t) = rw (answered t) (by t (verdict checks) refl)
       split (up_to b) = rw (refused_own b) (refused (own b))
 
-  given_then : (n p : ℕ) → crossed P ≡ answer.Refused n p → Given P n p
+  given_then : (n p : ℕ) → crossed P ≡ Err (refusal n p) → Given P n p
   given_then n p e = by (subst Told e told)
     where
-      by : Told (answer.Refused n p) → Given P n p
+      by : Told (Err (refusal n p)) → Given P n p
       by (refused g) = g
 
-  accepted_then : (c : ℕ) → crossed P ≡ answer.Within (bp c) → Accepted P c
+  accepted_then : (c : ℕ) → crossed P ≡ Ok (bp c) → Accepted P c
   accepted_then c e = by (subst Told e told)
     where
-      by : Told (answer.Within (bp c)) → Accepted P c
+      by : Told (Ok (bp c)) → Accepted P c
       by (accepted a) = a
 
   -- a number with a place exactly if the words give it
-  pub refused_exactly : (n p : ℕ) → (crossed P ≡ answer.Refused n p) ↔ Given P n p
+  pub refused_exactly : (n p : ℕ) → (crossed P ≡ Err (refusal n p)) ↔ Given P n p
   refused_exactly n p = (given_then n p, given_if n p)
 
   -- a cost exactly if they give none
-  pub accepted_exactly : (c : ℕ) → (crossed P ≡ answer.Within (bp c)) ↔ Accepted P c
+  pub accepted_exactly : (c : ℕ) → (crossed P ≡ Ok (bp c)) ↔ Accepted P c
   accepted_exactly c = (accepted_then c, accepted_if c)
 
   -- so one number and place at most is given
   pub given_once : (n p m q : ℕ) → Given P n p → Given P m q → (n ≡ m) × (p ≡ q)
   given_once n p m q a b =
-      let e : answer.Refused n p ≡ answer.Refused m q = sym (given_if n p a) ∙ given_if m q b in
+      let e : Err (refusal n p) ≡ Err (refusal m q) = sym (given_if n p a) ∙ given_if m q b in
       (cc, cc)

@@ -24,7 +24,6 @@ use Rattle.pnet_bounds.proofs.Bounded.{bounded_declared}
 use Rattle.units.specs.Units.{bp}
 use Rattle.units.specs.declared.BitPeriods.{BitPeriods}
 use Rattle.pnet_crossing.specs.Cost.{crossing_by, kept, no_bound}
-use Rattle.pnet_crossing.specs.declared.Crossing.TheVariants as answer
 use Rattle.pnet_crossing.proofs.Same.{crossing_same}
 use Rattle.pnet_path.specs.Path.{Path, gateways, sheet_at, bound_at, bound_from, sender_at, forwarding_at, absent_in, absent_from, absent_at, crossed_from, crossed}
 use Rattle.pnet_path.specs.Refusals.{Each, FirstBad, Taken, Untaken}
@@ -34,6 +33,8 @@ use Rattle.pnet_path.specs.declared.Way.{Way}
 use Rattle.pnet_path.proofs.Laws.{over_stays, over_goes, answer_of_refused, answer_of_others}
 use Rattle.pnet_path.proofs.Refusals.{behind, refused_own, Looked, looked}
 use Rattle.pnet_path.proofs.Refusals.Looked.{all, up_to}
+use Rattle.std.specs.declared.result.Result.TheVariants.{Ok, Err}
+use Rattle.common.specs.Checks.{refusal}
 
 -- ---- Absent is who has no bound
 
@@ -193,7 +194,7 @@ answer_kept P w k =
     })
 
 -- the sheet of segment i is refused
-answer_ended : {i n p : ℕ} (w : Way) (D : ℕ) → Ended i n p w → answer_of w D ≡ answer.Refused n p
+answer_ended : {i n p : ℕ} (w : Way) (D : ℕ) → Ended i n p w → answer_of w D ≡ Err (refusal n p)
 answer_ended w D e = sym (answer_of_refused w D e.refused) ∙ rw (e.no, e.place) refl
 
 pub path_handed_over : (P : Path) → P.segments < 2 ^ 64 → answer_of (way_over P P.segments) P.deadline ≡ crossed P

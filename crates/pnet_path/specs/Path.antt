@@ -7,8 +7,10 @@ use Rattle.pnet_rules.specs.Segment.{Segment, segment_of, count, bound}
 use Rattle.pnet_bounds.specs.Bounded.{bounded}
 use Rattle.pnet_sender.specs.Sender.{sound}
 use Rattle.pnet_crossing.specs.Cost.{crossing_by}
-use Rattle.pnet_crossing.specs.declared.Crossing.{Crossing}
-use Rattle.pnet_crossing.specs.declared.Crossing.TheVariants as answer
+use Rattle.std.specs.declared.result.Result.TheVariants.{Ok, Err}
+use Rattle.common.specs.Checks.{refusal}
+use Rattle.std.specs.declared.result.Result.{Result}
+use Rattle.common.specs.declared.Refusal.{Refusal}
 
 -- ---- A path
 
@@ -71,16 +73,16 @@ absent_at P i = absent_from (sheet_at P i) (P.hop i).sender
 -- ---- The answer
 
 -- a sheet's own refusal, or what follows
-abbrev pub refused_or : Outcome → Crossing → Crossing
+abbrev pub refused_or : Outcome → Result BitPeriods Refusal → Result BitPeriods Refusal
 refused_or (Read H) c = c
-refused_or (Not n p) c = answer.Refused n p
+refused_or (Not n p) c = Err (refusal n p)
 
 -- 'each sheet's own in path order', of n segments from segment i on, and then the path's
-unfoldable pub crossed_from : Path → ℕ → ℕ → Crossing
+unfoldable pub crossed_from : Path → ℕ → ℕ → Result BitPeriods Refusal
 unfolding sheet_at crossing_by bound_at forwarding_at absent_at
 crossed_from P zero i = crossing_by (bound_at P) (forwarding_at P) (absent_at P) (gateways P) P.deadline
 crossed_from P (suc n) i = refused_or (sheet_at P i) (crossed_from P n (suc i))
 
-unfoldable pub crossed : Path → Crossing
+unfoldable pub crossed : Path → Result BitPeriods Refusal
 unfolding crossed_from
 crossed P = crossed_from P P.segments 1

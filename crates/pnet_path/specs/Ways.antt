@@ -2,14 +2,16 @@
 use Rattle.std.specs.Prelude.{◌≡◌, ℕ, zero, suc, ◌+◌, ◌-◌, ◌^◌, ◌≤◌, min, List, true, false, cond, replicate, set}
 use Rattle.pnet_bounds.specs.Bounded.{bounded}
 use Rattle.pnet_sender.specs.Sender.{sound, sender_of}
-use Rattle.pnet_sender.specs.declared.Sender.{Sender}
-use Rattle.pnet_sender.specs.declared.Sender.TheVariants as sender
 use Rattle.units.specs.Units.{bp}
 use Rattle.pnet_crossing.specs.Cost.{crossing_by, kept, no_bound}
-use Rattle.pnet_crossing.specs.declared.Crossing.{Crossing}
-use Rattle.pnet_crossing.specs.declared.Crossing.TheVariants as answer
 use Rattle.pnet_path.specs.Path.{Path}
 use Rattle.pnet_path.specs.declared.Way.{Way}
+use Rattle.std.specs.declared.result.Result.TheVariants.{Ok, Err}
+use Rattle.common.specs.Checks.{refusal}
+use Rattle.std.specs.declared.result.Result.{Result}
+use Rattle.common.specs.declared.Refusal.{Refusal}
+use Rattle.std.specs.declared.option.Option.{Option}
+use Rattle.std.specs.declared.option.Option.TheVariants.{Some, None}
 
 -- ---- What is kept
 
@@ -17,9 +19,7 @@ use Rattle.pnet_path.specs.declared.Way.{Way}
 abbrev pub started : Way
 started = record {
   segments = 0;
-  refused = false;
-  no = 0;
-  place = 0;
+  refused = None;
   masters = replicate 12 0;
   bounds = replicate 12 (bp 0);
   times = replicate 11 (bp 0);
@@ -35,41 +35,42 @@ unfolding one_more_of
 further w F k R = record {
   segments = one_more_of w.segments;
   refused = w.refused;
-  no = w.no;
-  place = w.place;
   masters = set w.masters (w.segments + 1) k;
   bounds = set w.bounds (w.segments + 1) (bp R);
   times = set w.times w.segments (bp F);
 }
 
 -- a segment whose sheet is refused: it is the last
-unfoldable pub stopped : Way → ℕ → ℕ → Way
+unfoldable pub stopped : Way → Refusal → Way
 unfolding one_more_of
-stopped w n p = record {
+stopped w r = record {
   segments = one_more_of w.segments;
-  refused = true;
-  no = n;
-  place = p;
+  refused = Some r;
   masters = w.masters;
   bounds = w.bounds;
   times = w.times;
 }
 
-abbrev pub over_by : Way → ℕ → ℕ → Sender → Way
-over_by w F k (sender.Bound R) = further w F k R.0
-over_by w F k (sender.Refused n p) = stopped w n p
+abbrev pub over_by : Way → ℕ → ℕ → Result BitPeriods Refusal → Way
+over_by w F k (Ok R) = further w F k R.0
+over_by w F k (Err r) = stopped w r
 
 -- the segment of a sheet s is handed over, with its sender k and the forwarding time F of the gateway that leads there; behind a refused
 -- sheet nothing is looked at
 unfoldable pub over_to : Way → ℕ → List ℕ → ℕ → Way
 unfolding bounded further stopped
-over_to w F s k = cond w.refused w (over_by w F k (sender_of (sound s) k))
+over_to w F s k = cond (is_some w.refused) w (over_by w F k (sender_of (sound s) k))
 
 -- ---- The answer
 
-unfoldable pub answer_of : Way → ℕ → Crossing
+-- the refusal of a sheet, or else what the whole path costs
+abbrev pub answer_by : Option Refusal → Result BitPeriods Refusal → Result BitPeriods Refusal
+answer_by (Some r) cost = Err r
+answer_by None cost = cost
+
+unfoldable pub answer_of : Way → ℕ → Result BitPeriods Refusal
 unfolding crossing_by no_bound
-answer_of w D = cond w.refused (answer.Refused w.no w.place) (crossing_by (kept w.bounds) (kept w.times) (no_bound w.bounds) (w.segments - 1) D)
+answer_of w D = answer_by w.refused (crossing_by (kept w.bounds) (kept w.times) (no_bound w.bounds) (w.segments - 1) D)
 
 -- ---- A whole path
 
@@ -82,4 +83,4 @@ way_over P (suc n) = over_to (way_over P n) (P.hop (suc n)).forwarding (P.hop (s
 -- P is handed over with its first n segments: they are all, or the sheet of one is refused, and nothing behind it is looked at
 pub data HandedOver (P : Path) : ℕ → Type 0 where
   whole : HandedOver P P.segments
-  up_to_refused : {n : ℕ} → n ≤ P.segments → (way_over P n).refused ≡ true → HandedOver P n
+  up_to_refused : {n : ℕ} → n ≤ P.segments → is_some (way_over P n).refused ≡ true → HandedOver P n

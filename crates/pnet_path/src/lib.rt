@@ -6,18 +6,15 @@ ghost use Rattle.std.specs.Prelude.{◌≡◌, ◌-◌};
 ghost use Rattle.pnet_path.specs.Ways;
 ghost use Rattle.pnet_path.specs.Ways.{started, one_more_of, over_to, answer_of};
 
-pub use pnet_crossing::Crossing;
-use pnet_sender::Sender;
+use common::Refusal;
 use units::BitPeriods;
 
 // The segments so far. Place i of `masters` and `bounds` is for segment i, place i of `times` for gateway i, which lies between segments
-// i and i + 1; place 0 is not looked at. Where the sheet of the last segment was refused, it is so with this number and place.
+// i and i + 1; place 0 is not looked at. Where the sheet of the last segment was refused, its refusal is kept.
 #[derive(Clone, Copy)]
 pub struct Way {
     pub segments: usize,
-    pub refused: bool,
-    pub no: u8,
-    pub place: usize,
+    pub refused: Option<Refusal>,
     pub masters: [u8; 12],
     pub bounds: [BitPeriods; 12],
     pub times: [BitPeriods; 11],
@@ -29,9 +26,7 @@ pub fn start() -> Way
 {
     Way {
         segments: 0,
-        refused: false,
-        no: 0,
-        place: 0,
+        refused: None,
         masters: [0; 12],
         bounds: [BitPeriods(0); 12],
         times: [BitPeriods(0); 11],
@@ -63,15 +58,13 @@ fn further(way: Way, time: BitPeriods, master: u8, bound: BitPeriods) -> Way
 }
 
 // One segment more, whose sheet is refused: it is the last. Public for a sheet that comes as a text and is refused as that.
-pub fn stopped(way: Way, no: u8, place: usize) -> Way
-    ensures { result ≡ Ways.stopped way no place }
+pub fn stopped(way: Way, refusal: Refusal) -> Way
+    ensures { result ≡ Ways.stopped way refusal }
 {
     let n = way.segments;
     let mut next = way;
     next.segments = one_more(n);
-    next.refused = true;
-    next.no = no;
-    next.place = place;
+    next.refused = Some(refusal);
     next
 }
 
@@ -80,13 +73,12 @@ pub fn stopped(way: Way, no: u8, place: usize) -> Way
 pub fn over(way: Way, forwarding: BitPeriods, s: &[u8], master: u8) -> Way
     ensures { result ≡ over_to way forwarding.0 s.now master }
 {
-    if way.refused {
+    if way.refused.is_some() {
         return way;
     }
-    let sender = pnet_sender::bound_of(s, master);
-    match sender {
-        Sender::Bound(bound) => further(way, forwarding, master, bound),
-        Sender::Refused { no, place } => stopped(way, no, place),
+    match pnet_sender::bound_of(s, master) {
+        Ok(bound) => further(way, forwarding, master, bound),
+        Err(refusal) => stopped(way, refusal),
     }
 }
 
@@ -99,15 +91,12 @@ fn gateways_of(segments: usize) -> usize
     segments - 1
 }
 
-// What the path so far answers, with its deadline.
-pub fn answer(way: Way, deadline: BitPeriods) -> Crossing
+// What the path so far costs, with its deadline.
+pub fn answer(way: Way, deadline: BitPeriods) -> Result<BitPeriods, Refusal>
     ensures { result ≡ answer_of way deadline.0 }
 {
-    if way.refused {
-        return Crossing::Refused {
-            no: way.no,
-            place: way.place,
-        };
+    if let Some(refusal) = way.refused {
+        return Err(refusal);
     }
     let gateways = gateways_of(way.segments);
     let bounds = way.bounds;

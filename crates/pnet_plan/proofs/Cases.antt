@@ -27,7 +27,6 @@ use Rattle.pnet_rules.specs.Refined.{refined, rounds}
 use Rattle.pnet_rules.specs.Limits.{Declared}
 use Rattle.pnet_rules.proofs.Holds.{longest_at_most}
 use Rattle.pnet_plan.specs.declared.answer.Plan.{Plan}
-use Rattle.pnet_plan.specs.declared.answer.Plan.TheVariants as answer
 use Rattle.pnet_plan.specs.Planned.{first_late, plan_checks, planned_by, planned, plan_of, at_place, run_of}
 use Rattle.units.specs.declared.BitPeriods.{BitPeriods}
 use Rattle.pnet_turn.specs.Turn.{at, charged_in, turn_of}
@@ -37,6 +36,10 @@ use Rattle.pnet_plan.specs.Arrays.{segment_in, Sheeted, SetOut, Grouped}
 use Rattle.pnet_plan.proofs.Bytes.{declares, number_is}
 use Rattle.pnet_plan.proofs.Gathering.{grouped_none}
 use Rattle.pnet_plan.proofs.Tied.{Laid, kept, turn_tied, slack_tied, bound_tied, rounds_tied, refined_tied}
+use Rattle.std.specs.declared.result.Result.TheVariants.{Ok, Err}
+use Rattle.common.specs.Checks.{refusal}
+use Rattle.std.specs.declared.result.Result.{Result}
+use Rattle.common.specs.declared.Refusal.{Refusal}
 
 module _ (s : List ℕ) (la lb lc : ℕ) where
   pub planned_unread : (n p : ℕ) → reading s ≡ Not n p → planned s la lb lc ≡ Not n p
@@ -89,13 +92,13 @@ module _ (s : List ℕ) (la lb lc : ℕ) where
 -- ---- The answer and the three runs together, as the code returns them
 
 -- the answer r, and the runs a, b and c where x, y and z were lent
-abbrev pub Returned : List ℕ → List ℕ → List ℕ → List ℕ → Plan → List ℕ → List ℕ → List ℕ → Type 0
+abbrev pub Returned : List ℕ → List ℕ → List ℕ → List ℕ → Result Plan Refusal → List ℕ → List ℕ → List ℕ → Type 0
 Returned s x y z r a b c =
     let outcome = planned s (length x) (length y) (length z) in
     (r ≡ plan_of outcome) × (a ≡ run_of outcome bound x) × (b ≡ run_of outcome refined y) × (c ≡ run_of outcome rounds z)
 
 module _ (s x y z : List ℕ) where
-  pub returned_refused : (n p : ℕ) → planned s (length x) (length y) (length z) ≡ Not n p → Returned s x y z (answer.Refused n p) x y z
+  pub returned_refused : (n p : ℕ) → planned s (length x) (length y) (length z) ≡ Not n p → Returned s x y z (Err (refusal n p)) x y z
   returned_refused n p e = (
     ap plan_of (sym e),
     ap (λ (o : Outcome). run_of o bound x) (sym e),
@@ -110,10 +113,10 @@ module _ (s x y z : List ℕ) where
         (q ∙ ap (λ (k : ℕ). filled (at_place (figure (segment_in s))) k old) masters) ∙ ap (λ (o : Outcome). run_of o figure old) (sym e)
 
     pub returned_read : (m : ℕ) → m ≡ (segment_in s).number → (a b c : List ℕ) → a ≡ filled (at_place (bound (segment_in s))) n x
-        → b ≡ filled (at_place (refined (segment_in s))) n y → c ≡ filled (at_place (rounds (segment_in s))) n z → Returned s x y z (answer.Accepted n m) a b c
+        → b ≡ filled (at_place (refined (segment_in s))) n y → c ≡ filled (at_place (rounds (segment_in s))) n z → Returned s x y z (Ok (record { masters = n; streams = m })) a b c
     unfolding segment_of
     returned_read m number a b c ea eb ec =
-        let r : answer.Accepted n m ≡ plan_of (Read (sheet_in s)) = ap (λ (x : ℕ). answer.Accepted x m) masters ∙ ap (answer.Accepted (masters_of (sheet_in s))) number in
+        let r : Ok (record { masters = n; streams = m }) ≡ plan_of (Read (sheet_in s)) = ap (λ (x : ℕ). Ok (record { masters = x; streams = m })) masters ∙ ap (λ k. Ok (record { masters = (masters_of (sheet_in s)); streams = k })) number in
         (r ∙ ap plan_of (sym e), run_read bound x a ea, run_read refined y b eb, run_read rounds z c ec)
 
 -- ---- Where the code ends with a segment's arrays
@@ -192,7 +195,7 @@ module _ {s : List ℕ} {N m first : ℕ} {counts longests : List ℕ} (h : Shee
           filled_tied f g old run q e = q ∙ filled_same (at_place f) (at_place g) N old (λ i l'. e (i + 1) (omega arith) (omega (arith, h.masters_are)))
 
           pub returned_filled : (a b c : List ℕ) → a ≡ filled (at_place (bound_in counts charges N)) N x → b ≡ filled (at_place (refined_in counts charges ends' pairs N)) N y
-              → c ≡ filled (at_place (rounds_in counts charges ends' pairs N)) N z → Returned s x y z (answer.Accepted N m) a b c
+              → c ≡ filled (at_place (rounds_in counts charges ends' pairs N)) N z → Returned s x y z (Ok (record { masters = N; streams = m })) a b c
           unfolding segment_of
           returned_filled a b c ea eb ec =
               let S = segment_in s in
@@ -207,7 +210,7 @@ module _ {s : List ℕ} {N m first : ℕ} {counts longests : List ℕ} (h : Shee
               (filled_tied (rounds_in counts charges ends' pairs N) (rounds S) z c ec (λ k lo hi. rw en (rounds_tied d laid k lo hi)))
 
   pub returned_late : (late : ℕ) → late ≡ first_late (segment_in s) → late ≤ m → (x y z : List ℕ) → N ≤ length x → N ≤ length y → N ≤ length z
-      → Returned s x y z (answer.Refused 8 late) x y z
+      → Returned s x y z (Err (refusal 8 late)) x y z
   unfolding segment_of
   returned_late late el l x y z rx ry rz =
       let en = h.masters_are in

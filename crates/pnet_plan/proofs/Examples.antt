@@ -16,8 +16,9 @@ use Rattle.sheet_rules.specs.Whole.{place_of, records_of, before, record_checks,
 use Rattle.pnet_rules.specs.Segment.{Segment, segment_of, stream_at, owns, count, longest, hold, turn_by, bound_by, turn, bound, late}
 use Rattle.pnet_rules.specs.Search.{value_from, stands, rounds_from}
 use Rattle.pnet_rules.specs.Refined.{saving, right_by, most_rounds, asked_by, right, rounds, refined}
-use Rattle.pnet_plan.specs.declared.answer.Plan.TheVariants as answer
 use Rattle.pnet_plan.specs.Planned.{first_late, plan_checks, planned, plan_of, run_of}
+use Rattle.std.specs.declared.result.Result.TheVariants.{Ok, Err}
+use Rattle.common.specs.Checks.{refusal}
 
 -- master m, C 203, T 100,000, D by its four bytes
 abbrev stream : ℕ → ℕ → ℕ → ℕ → List ℕ
@@ -40,11 +41,11 @@ seldom = stream 2 1 134 160
 abbrev often : List ℕ
 often = 2 ∷ 2 ∷ 0 ∷ 203 ∷ 0 ∷ 0 ∷ 3 ∷ 232 ∷ 0 ∷ 0 ∷ 3 ∷ 232 ∷ []
 
-passes : plan_of (planned (four 208) 4 4 4) ≡ answer.Accepted 4 8
+passes : plan_of (planned (four 208) 4 4 4) ≡ Ok (record { masters = 4; streams = 8 })
 unfolding planned plan_checks first_late verdict segment_of stream_at owns count longest hold turn_by bound_by turn bound late upto greatest first_of reading read_from ended judge record_checks end_checks records_of place_of before head_of having sheet_of fits of_kind count_of most_in_all has_masters over_limit met_before kinds line_of fields_of bus_of part_of is_setting is_stream widths size_of known field_at decode limit within ranged in_range be
 passes = refl
 
-fails : plan_of (planned (four 207) 4 4 4) ≡ answer.Refused 8 8
+fails : plan_of (planned (four 207) 4 4 4) ≡ Err (refusal 8 8)
 unfolding planned plan_checks first_late verdict segment_of stream_at owns count longest hold turn_by bound_by turn bound late upto greatest first_of reading read_from ended judge record_checks end_checks records_of place_of before head_of having sheet_of fits of_kind count_of most_in_all has_masters over_limit met_before kinds line_of fields_of bus_of part_of is_setting is_stream widths size_of known field_at decode limit within ranged in_range be
 fails = refl
 

@@ -27,6 +27,8 @@ use Rattle.pnet_plan.specs.Planned.{first_late, plan_checks, planned_by, planned
 use Rattle.pnet_plan.specs.Refusals.{Passes, FirstFails, Room, Given, Accepted}
 use Rattle.pnet_plan.specs.Refusals.Given.{unread, another_bus, no_room, too_late}
 use Rattle.pnet_plan.proofs.Cases.{planned_unread, planned_other, planned_short, planned_late, planned_read, Returned}
+use Rattle.std.specs.declared.result.Result.{Result}
+use Rattle.common.specs.declared.Refusal.{Refusal}
 
 -- ---- The first stream that fails
 
@@ -171,6 +173,6 @@ module _ (s : List ℕ) (la lb lc : ℕ) where
 
 -- ---- Any two outcomes that the contract allows are equal
 
-pub outcomes_equal : (s x y z : List ℕ) (r r' : Plan) (a a' b b' c c' : List ℕ) → Returned s x y z r a b c → Returned s x y z r' a' b' c'
+pub outcomes_equal : (s x y z : List ℕ) (r r' : Result Plan Refusal) (a a' b b' c c' : List ℕ) → Returned s x y z r a b c → Returned s x y z r' a' b' c'
     → (r ≡ r') × (a ≡ a') × (b ≡ b') × (c ≡ c')
 outcomes_equal s x y z r r' a a' b b' c c' (er, ea, eb, ec) (fr, fa, fb, fc) = (er ∙ sym fr, ea ∙ sym fa, eb ∙ sym fb, ec ∙ sym fc)

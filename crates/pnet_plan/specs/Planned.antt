@@ -10,7 +10,10 @@ use Rattle.sheet_rules.specs.Whole.{Outcome, or_else, reading}
 use Rattle.sheet_rules.specs.Whole.Outcome.{Read, Not}
 use Rattle.pnet_rules.specs.Segment.{Segment, segment_of, late}
 use Rattle.pnet_plan.specs.declared.answer.Plan.{Plan}
-use Rattle.pnet_plan.specs.declared.answer.Plan.TheVariants as answer
+use Rattle.std.specs.declared.result.Result.TheVariants.{Ok, Err}
+use Rattle.common.specs.Checks.{refusal}
+use Rattle.std.specs.declared.result.Result.{Result}
+use Rattle.common.specs.declared.Refusal.{Refusal}
 
 -- the first stream whose R is above its D, and the number past the last where there is none
 unfoldable pub first_late : Segment → ℕ
@@ -42,9 +45,9 @@ planned s la lb lc = planned_by (reading s) la lb lc
 -- ---- The answer of the code, and the runs
 
 -- the masters and the streams of the sheet, or the refusal
-abbrev pub plan_of : Outcome → Plan
-plan_of (Read H) = answer.Accepted (masters_of H) (length H.streams)
-plan_of (Not n p) = answer.Refused n p
+abbrev pub plan_of : Outcome → Result Plan Refusal
+plan_of (Read H) = Ok (record { masters = (masters_of H); streams = (length H.streams) })
+plan_of (Not n p) = Err (refusal n p)
 
 -- place i of a run is for master i + 1
 abbrev pub at_place : (ℕ → ℕ) → ℕ → ℕ

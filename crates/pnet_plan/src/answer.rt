@@ -1,6 +1,6 @@
-// What the planner answers: the masters and the streams of the sheet, or the refusal's number and place.
+// What the planner answers of a sheet that it accepts: its masters and its streams.
 #[derive(Clone, Copy)]
-pub enum Plan {
-    Accepted { masters: usize, streams: usize },
-    Refused { no: u8, place: usize },
+pub struct Plan {
+    pub masters: usize,
+    pub streams: usize,
 }

@@ -13,7 +13,8 @@ ghost use Rattle.pnet_turn.specs.Turn.{at, charged_in};
 ghost use Rattle.pnet_plan.specs.Arrays.{segment_in, Sheeted, SetOut, Grouped};
 
 pub use answer::Plan;
-use sheet_read::{MOST, Reading};
+use common::Refusal;
+use sheet_read::MOST;
 use units::BitPeriods;
 
 // The longest spacing of a sheet.
@@ -107,7 +108,7 @@ fn plan_segment(
     bound: &mut [u32],
     refined: &mut [u32],
     rounds: &mut [u32],
-) -> Plan
+) -> Result<Plan, Refusal>
     requires sheeted { Sheeted s.now n streams first counts.now longests.now × (2 * streams ≤ length pairs.old) }
     requires n_in_bounds { (n ≤ length bound.old) × (n ≤ length refined.old) × (n ≤ length rounds.old) }
     ensures { let outcome = planned s.now (length bound.old) (length refined.old) (length rounds.old) in
@@ -133,19 +134,24 @@ fn plan_segment(
         pairs,
     );
     if late <= streams {
-        return Plan::Refused { no: 8, place: late };
+        return Err(Refusal { no: 8, place: late });
     }
     pnet_search::fill(
         counts, &charges, &ends, &slacks, pairs, n, turn, bound, refined, rounds,
     );
-    Plan::Accepted {
+    Ok(Plan {
         masters: n,
         streams,
-    }
+    })
 }
 
 // The plan of a sheet: R, W and rounds of masters 1..N into the first N places of the three runs, which keep what they had on a refusal.
-pub fn plan(s: &[u8], bound: &mut [u32], refined: &mut [u32], rounds: &mut [u32]) -> Plan
+pub fn plan(
+    s: &[u8],
+    bound: &mut [u32],
+    refined: &mut [u32],
+    rounds: &mut [u32],
+) -> Result<Plan, Refusal>
     ensures { let outcome = planned s.now (length bound.old) (length refined.old) (length rounds.old) in
         (result ≡ plan_of outcome)
         × (bound.new ≡ run_of outcome Segment.bound bound.old)
@@ -154,32 +160,25 @@ pub fn plan(s: &[u8], bound: &mut [u32], refined: &mut [u32], rounds: &mut [u32]
 {
     let mut counts: [u8; 33] = [0; 33];
     let mut longests: [u32; 33] = [0; 33];
-    let read = sheet_read::read_gathering(s, &mut counts, &mut longests);
-    match read {
-        Reading::Refused { no, place } => Plan::Refused { no, place },
-        Reading::Accepted {
-            head,
-            streams,
-            first,
-        } => {
-            if sheet_record::bus_of(head.kind) != 1 {
-                return Plan::Refused { no: 3, place: 0 };
-            }
-            let n = head.a as usize;
-            if bound.len() < n || refined.len() < n || rounds.len() < n {
-                return Plan::Refused { no: 13, place: n };
-            }
-            // Little is cleared for a small sheet.
-            if streams <= FEW {
-                let mut few = [0u32; FEW_PAIRED];
-                return plan_segment(
-                    s, n, streams, first, &counts, &longests, &mut few, bound, refined, rounds,
-                );
-            }
-            let mut most = [0u32; MOST_PAIRED];
-            plan_segment(
-                s, n, streams, first, &counts, &longests, &mut most, bound, refined, rounds,
-            )
-        }
+    let sheet = sheet_read::read_gathering(s, &mut counts, &mut longests)?;
+    if sheet_record::bus_of(sheet.head.kind) != 1 {
+        return Err(Refusal { no: 3, place: 0 });
     }
+    let n = sheet.head.a as usize;
+    if bound.len() < n || refined.len() < n || rounds.len() < n {
+        return Err(Refusal { no: 13, place: n });
+    }
+    let streams = sheet.streams;
+    let first = sheet.first;
+    // Little is cleared for a small sheet.
+    if streams <= FEW {
+        let mut few = [0u32; FEW_PAIRED];
+        return plan_segment(
+            s, n, streams, first, &counts, &longests, &mut few, bound, refined, rounds,
+        );
+    }
+    let mut most = [0u32; MOST_PAIRED];
+    plan_segment(
+        s, n, streams, first, &counts, &longests, &mut most, bound, refined, rounds,
+    )
 }

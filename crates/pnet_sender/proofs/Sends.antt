@@ -21,9 +21,10 @@ use Rattle.pnet_plan.proofs.Bytes.{declares, streams_few}
 use Rattle.pnet_plan.proofs.Cases.{counts_at}
 use Rattle.pnet_bounds.proofs.Bounded.{sheeted_late, sheeted_read}
 use Rattle.pnet_sender.specs.Sender.{sound, sender_of}
-use Rattle.pnet_sender.specs.declared.Sender.TheVariants as answer
+use Rattle.std.specs.declared.result.Result.TheVariants.{Ok, Err}
+use Rattle.common.specs.Checks.{refusal}
 
-pub sender_refused : (s : List ℕ) (k n p : ℕ) → sound s ≡ Not n p → answer.Refused n p ≡ sender_of (sound s) k
+pub sender_refused : (s : List ℕ) (k n p : ℕ) → sound s ≡ Not n p → Err (refusal n p) ≡ sender_of (sound s) k
 sender_refused s k n p e = ap (λ (o : Outcome). sender_of o k) (sym e)
 
 module _ {s : List ℕ} {N n first : ℕ} {counts longests : List ℕ} (h : Sheeted s N n first counts longests) (k : ℕ) where
@@ -46,9 +47,9 @@ module _ {s : List ℕ} {N n first : ℕ} {counts longests : List ℕ} (h : Shee
     pub own_small : own * v ≤ 4083200
     own_small = omega (arith, own_bound, bound_at_most (segment_in s) (declares h.ready) k)
 
-    pub sender_bound : (late : ℕ) → late ≡ first_late (segment_in s) → n < late → answer.Bound (bp (own * v)) ≡ sender_of (sound s) k
+    pub sender_bound : (late : ℕ) → late ≡ first_late (segment_in s) → n < late → Ok (bp (own * v)) ≡ sender_of (sound s) k
     sender_bound late q l =
-        ap (λ (b : ℕ). answer.Bound (bp b)) own_bound ∙ ap (λ (o : Outcome). sender_of o k) (sym (sheeted_read h 800 (streams_few h.ready) late q l))
+        ap (λ (b : ℕ). Ok (bp b)) own_bound ∙ ap (λ (o : Outcome). sender_of o k) (sym (sheeted_read h 800 (streams_few h.ready) late q l))
 
-  pub sender_late : (late : ℕ) → late ≡ first_late (segment_in s) → late ≤ n → answer.Refused 8 late ≡ sender_of (sound s) k
+  pub sender_late : (late : ℕ) → late ≡ first_late (segment_in s) → late ≤ n → Err (refusal 8 late) ≡ sender_of (sound s) k
   sender_late late q l = sender_refused s k 8 late (sheeted_late h 800 (streams_few h.ready) late q l)

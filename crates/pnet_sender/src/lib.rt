@@ -7,15 +7,8 @@ ghost use Rattle.pnet_turn.specs.Turn.{at};
 ghost use Rattle.pnet_plan.specs.Arrays.{Sheeted};
 ghost use Rattle.pnet_sender.specs.Sender.{sound, sender_of};
 
-use sheet_read::Reading;
+use common::Refusal;
 use units::BitPeriods;
-
-// What the sheet of a segment says of the master that sends there: its R, or the refusal's number and place.
-#[derive(Clone, Copy)]
-pub enum Sender {
-    Bound(BitPeriods),
-    Refused { no: u8, place: usize },
-}
 
 // How many streams a master has; one above 32 has none.
 fn streams_of(counts: &[u8; 33], master: u8) -> u8
@@ -36,7 +29,7 @@ fn bound_by(
     counts: &[u8; 33],
     longests: &[u32; 33],
     master: u8,
-) -> Sender
+) -> Result<BitPeriods, Refusal>
     requires { Sheeted s.now all n first counts.now longests.now }
     ensures { result ≡ sender_of (sound s.now) master }
 {
@@ -45,39 +38,29 @@ fn bound_by(
     if n < late {
         let own = streams_of(counts, master) as u32;
         let bound = own * found.turn;
-        return Sender::Bound(BitPeriods(bound));
+        return Ok(BitPeriods(bound));
     }
-    Sender::Refused { no: 8, place: late }
+    Err(Refusal { no: 8, place: late })
 }
 
 // The sheet of one segment of a path, and R of the master that sends there: 0 for a master that it does not have, or that has no
 // streams.
-pub fn bound_of(s: &[u8], master: u8) -> Sender
+pub fn bound_of(s: &[u8], master: u8) -> Result<BitPeriods, Refusal>
     ensures { result ≡ sender_of (sound s.now) master }
 {
     let mut counts: [u8; 33] = [0; 33];
     let mut longests: [u32; 33] = [0; 33];
-    let read = sheet_read::read_gathering(s, &mut counts, &mut longests);
-    match read {
-        Reading::Refused { no, place } => Sender::Refused { no, place },
-        Reading::Accepted {
-            head,
-            streams,
-            first,
-        } => {
-            if sheet_record::bus_of(head.kind) == 1 {
-                bound_by(
-                    s,
-                    head.a as usize,
-                    first,
-                    streams,
-                    &counts,
-                    &longests,
-                    master,
-                )
-            } else {
-                Sender::Refused { no: 3, place: 0 }
-            }
-        }
+    let sheet = sheet_read::read_gathering(s, &mut counts, &mut longests)?;
+    if sheet_record::bus_of(sheet.head.kind) != 1 {
+        return Err(Refusal { no: 3, place: 0 });
     }
+    bound_by(
+        s,
+        sheet.head.a as usize,
+        sheet.first,
+        sheet.streams,
+        &counts,
+        &longests,
+        master,
+    )
 }

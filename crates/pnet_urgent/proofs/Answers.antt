@@ -22,7 +22,6 @@ use Rattle.pnet_turn.specs.Turn.{at}
 use Rattle.pnet_plan.specs.Arrays.{segment_in, Sheeted}
 use Rattle.pnet_plan.specs.Planned.{plan_of, at_place}
 use Rattle.pnet_plan.specs.declared.answer.Plan.{Plan}
-use Rattle.pnet_plan.specs.declared.answer.Plan.TheVariants as answer
 use Rattle.pnet_plan.proofs.Bytes.{declares, number_is}
 use Rattle.pnet_bounds.specs.Bounded.{stream_run}
 use Rattle.pnet_urgent_rules.specs.Urgent.{place, figure, rounds, unmet}
@@ -30,18 +29,22 @@ use Rattle.pnet_urgent_rules.specs.Planned.{first_unmet, urgently}
 use Rattle.pnet_urgent_rules.proofs.Cases.{ready_unmet, ready_read}
 use Rattle.pnet_urgent.specs.Masters.{Sought, Solved}
 use Rattle.pnet_urgent.specs.Masters.Sought.{met, not_met}
+use Rattle.std.specs.declared.result.Result.TheVariants.{Ok, Err}
+use Rattle.common.specs.Checks.{refusal}
+use Rattle.std.specs.declared.result.Result.{Result}
+use Rattle.common.specs.declared.Refusal.{Refusal}
 
 -- the length of the shortest of three runs
 abbrev pub room_of : List ℕ → List ℕ → List ℕ → ℕ
 room_of x y z = min (length x) (min (length y) (length z))
 
 -- the answer r, and the runs a, b and c where x, y and z were lent
-abbrev pub Returned : List ℕ → List ℕ → List ℕ → List ℕ → Plan → List ℕ → List ℕ → List ℕ → Type 0
+abbrev pub Returned : List ℕ → List ℕ → List ℕ → List ℕ → Result Plan Refusal → List ℕ → List ℕ → List ℕ → Type 0
 Returned s x y z r a b c =
     let outcome = urgently s (room_of x y z) in
     (r ≡ plan_of outcome) × (a ≡ stream_run outcome place x) × (b ≡ stream_run outcome figure y) × (c ≡ stream_run outcome rounds z)
 
-pub returned_refused : (s x y z : List ℕ) (n p : ℕ) → urgently s (room_of x y z) ≡ Not n p → Returned s x y z (answer.Refused n p) x y z
+pub returned_refused : (s x y z : List ℕ) (n p : ℕ) → urgently s (room_of x y z) ≡ Not n p → Returned s x y z (Err (refusal n p)) x y z
 returned_refused s x y z n p e = (
   ap plan_of (sym e),
   ap (λ (o : Outcome). stream_run o place x) (sym e),
@@ -85,7 +88,7 @@ module _ {s : List ℕ} {N n first : ℕ} {counts longests : List ℕ} (h : Shee
       ∙ (first_same (λ i. eqb (at figures (i - 1)) 0) (unmet S) n 1 (λ j from to. sought_zero (sought_at j from (omega arith)))
       ∙ ap (λ (k : ℕ). first_of (unmet S) k 1) (number_is h.ready))
 
-  pub returned_unmet : u ≤ n → Returned s x y z (answer.Refused 21 u) x y z
+  pub returned_unmet : u ≤ n → Returned s x y z (Err (refusal 21 u)) x y z
   returned_unmet l = returned_refused s x y z 21 u (ready_unmet h.ready (room_of x y z) (omega arith) u first_is_unmet l)
 
   module _ (l : n < u) where
@@ -104,10 +107,10 @@ module _ {s : List ℕ} {N n first : ℕ} {counts longests : List ℕ} (h : Shee
         ∙ ap (λ (o : Outcome). stream_run o f old) (sym read)
 
     pub returned_read : (a b c : List ℕ) → a ≡ filled (at ranks) n x → b ≡ filled (at figures) n y → c ≡ filled (at turns) n z
-        → Returned s x y z (answer.Accepted N n) a b c
+        → Returned s x y z (Ok (record { masters = N; streams = n })) a b c
     unfolding segment_of
     returned_read a b c ea eb ec =
-        let r : answer.Accepted N n ≡ plan_of (Read (sheet_in s)) = ap (λ (k : ℕ). answer.Accepted k n) h.masters_are ∙ ap (answer.Accepted (masters_of (sheet_in s))) (sym h.ready.number) in (
+        let r : Ok (record { masters = N; streams = n }) ≡ plan_of (Read (sheet_in s)) = ap (λ (k : ℕ). Ok (record { masters = k; streams = n })) h.masters_are ∙ ap (λ k. Ok (record { masters = (masters_of (sheet_in s)); streams = k })) (sym h.ready.number) in (
           r ∙ ap plan_of (sym read),
           run_read place ranks x a ea (λ i from to. v.placed i from (omega (arith, number_is h.ready)) (within i from to)),
           run_read figure figures y b eb (λ i from to. sought_figure (sought_at i from to) (all_met i from to)),

@@ -16,7 +16,8 @@ ghost use Rattle.pnet_urgent_rules.specs.Planned.{urgently};
 ghost use Rattle.pnet_urgent.specs.Masters.{Keyed, Ranged, Gathered, Spread, Searched, Served, Solved};
 
 use pnet_plan::Plan;
-use sheet_read::{MOST, Reading};
+use common::Refusal;
+use sheet_read::MOST;
 
 // The most streams of one master.
 const OWN: usize = 80;
@@ -207,7 +208,7 @@ fn plan_segment(
     places: &mut [u32],
     figure: &mut [u32],
     rounds: &mut [u32],
-) -> Plan
+) -> Result<Plan, Refusal>
     requires sheeted { Sheeted s.now all n first counts.now longests.now }
     requires n_in_bounds { (n ≤ length places.old) × (n ≤ length figure.old) × (n ≤ length rounds.old) }
     ensures { let outcome = urgently s.now (min (length places.old) (min (length figure.old) (length rounds.old))) in
@@ -234,22 +235,27 @@ fn plan_segment(
     );
     let unmet = first_unmet(&figures, n);
     if unmet <= n {
-        return Plan::Refused {
+        return Err(Refusal {
             no: 21,
             place: unmet,
-        };
+        });
     }
     copy(&ranks, n, places);
     copy(&figures, n, figure);
     copy(&turns, n, rounds);
-    Plan::Accepted {
+    Ok(Plan {
         masters: all,
         streams: n,
-    }
+    })
 }
 
 // The plan of a sheet: the place in its master's order, x and rounds of streams 1..n into the first n places of the three runs, which keep what they had on a refusal.
-pub fn plan(s: &[u8], places: &mut [u32], figure: &mut [u32], rounds: &mut [u32]) -> Plan
+pub fn plan(
+    s: &[u8],
+    places: &mut [u32],
+    figure: &mut [u32],
+    rounds: &mut [u32],
+) -> Result<Plan, Refusal>
     ensures { let outcome = urgently s.now (min (length places.old) (min (length figure.old) (length rounds.old))) in
         (result ≡ plan_of outcome)
         × (places.new ≡ stream_run outcome Urgent.place places.old)
@@ -258,34 +264,26 @@ pub fn plan(s: &[u8], places: &mut [u32], figure: &mut [u32], rounds: &mut [u32]
 {
     let mut counts: [u8; 33] = [0; 33];
     let mut longests: [u32; 33] = [0; 33];
-    let read = sheet_read::read_gathering(s, &mut counts, &mut longests);
-    match read {
-        Reading::Refused { no, place } => Plan::Refused { no, place },
-        Reading::Accepted {
-            head,
-            streams,
-            first,
-        } => {
-            if sheet_record::bus_of(head.kind) != 1 {
-                return Plan::Refused { no: 3, place: 0 };
-            }
-            if places.len() < streams || figure.len() < streams || rounds.len() < streams {
-                return Plan::Refused {
-                    no: 13,
-                    place: streams,
-                };
-            }
-            plan_segment(
-                s,
-                head.a as usize,
-                first,
-                streams,
-                &counts,
-                &longests,
-                places,
-                figure,
-                rounds,
-            )
-        }
+    let sheet = sheet_read::read_gathering(s, &mut counts, &mut longests)?;
+    if sheet_record::bus_of(sheet.head.kind) != 1 {
+        return Err(Refusal { no: 3, place: 0 });
     }
+    let streams = sheet.streams;
+    if places.len() < streams || figure.len() < streams || rounds.len() < streams {
+        return Err(Refusal {
+            no: 13,
+            place: streams,
+        });
+    }
+    plan_segment(
+        s,
+        sheet.head.a as usize,
+        sheet.first,
+        streams,
+        &counts,
+        &longests,
+        places,
+        figure,
+        rounds,
+    )
 }

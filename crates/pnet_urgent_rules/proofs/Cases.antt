@@ -16,10 +16,8 @@ use Rattle.sheet_record.specs.declared.Record.{Record}
 use Rattle.sheet_record.specs.Kinds.{pnet, bus_of}
 use Rattle.sheet_rules.specs.Sheets.{Sheet, bus_in}
 use Rattle.sheet_rules.specs.Whole.{Outcome, or_else, reading}
-use Rattle.sheet_read.specs.Told.{told}
+use Rattle.sheet_read.specs.Told.{told, accepted}
 use Rattle.sheet_rules.specs.Whole.Outcome.{Read, Not}
-use Rattle.sheet_read.specs.declared.Reading.{Reading}
-use Rattle.sheet_read.specs.declared.Reading.TheVariants as reader
 use Rattle.sheet_rules.specs.Ready.{sheet_in, Ready}
 use Rattle.sheet_rules.proofs.Known.{reading_read}
 use Rattle.sheet_read.proofs.Taken.{Taken, taken, not_taken, taken_ready}
@@ -27,6 +25,11 @@ use Rattle.pnet_rules.specs.Segment.{segment_of}
 use Rattle.pnet_rules.specs.Limits.{Declared}
 use Rattle.pnet_rules.proofs.Declares.{declared}
 use Rattle.pnet_urgent_rules.specs.Planned.{first_unmet, urgent_checks, urgent_by, urgently}
+use Rattle.std.specs.declared.result.Result.TheVariants.{Ok, Err}
+use Rattle.common.specs.Checks.{refusal}
+use Rattle.std.specs.declared.result.Result.{Result}
+use Rattle.common.specs.declared.Refusal.{Refusal}
+use Rattle.sheet_read.specs.declared.Accepted.{Accepted}
 
 -- ---- What is refused
 
@@ -92,11 +95,11 @@ module _ (s : List ℕ) (room : ℕ) (H : Sheet) (e : urgently s room ≡ Read H
 
 -- ---- From the reader's answer, as the code takes it apart
 
-module _ (s : List ℕ) {answered : Reading} (e : answered ≡ told s (reading s)) where
-  pub answer_taken : {head : Record} {n first : ℕ} → answered ≡ reader.Accepted head n first → Taken s head n first
+module _ (s : List ℕ) {answered : Result Accepted Refusal} (e : answered ≡ told s (reading s)) where
+  pub answer_taken : {head : Record} {n first : ℕ} → answered ≡ Ok (accepted head n first) → Taken s head n first
   answer_taken {head} {n} {first} q = taken s head n first (sym e ∙ q)
 
-  pub answer_refused : {n p : ℕ} → answered ≡ reader.Refused n p → (room : ℕ) → urgently s room ≡ Not n p
+  pub answer_refused : {n p : ℕ} → answered ≡ Err (refusal n p) → (room : ℕ) → urgently s room ≡ Not n p
   answer_refused {n} {p} q room = urgently_unread s room n p (not_taken s n p (sym e ∙ q))
 
 module _ {s : List ℕ} {head : Record} {n first : ℕ} (took : Taken s head n first) (room : ℕ) where

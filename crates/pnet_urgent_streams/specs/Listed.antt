@@ -8,7 +8,10 @@ use Rattle.pnet_rules.specs.Segment.{Segment, segment_of}
 use Rattle.pnet_plan.specs.Planned.{first_late}
 use Rattle.pnet_bounds.specs.Bounded.{bound_of}
 use Rattle.pnet_urgent_streams.specs.declared.answer.Listed.{Listed}
-use Rattle.pnet_urgent_streams.specs.declared.answer.Listed.TheVariants as answer
+use Rattle.std.specs.declared.result.Result.TheVariants.{Ok, Err}
+use Rattle.common.specs.Checks.{refusal}
+use Rattle.std.specs.declared.result.Result.{Result}
+use Rattle.common.specs.declared.Refusal.{Refusal}
 
 -- D of stream i
 abbrev pub deadline_of : Segment → ℕ → ℕ
@@ -20,6 +23,6 @@ unfolding first_late bound_of
 late_bound S = when (leb (first_late S) S.number) (bound_of S (first_late S))
 
 -- the streams of the sheet, the first that first-come refuses, the number past the last where there is none, and its R; or the refusal
-abbrev pub listed_of : Outcome → Listed
-listed_of (Read H) = answer.Accepted (length H.streams) (first_late (segment_of H)) (bp (late_bound (segment_of H)))
-listed_of (Not n p) = answer.Refused n p
+abbrev pub listed_of : Outcome → Result Listed Refusal
+listed_of (Read H) = Ok (record { streams = (length H.streams); late = (first_late (segment_of H)); bound = (bp (late_bound (segment_of H))) })
+listed_of (Not n p) = Err (refusal n p)

@@ -1,16 +1,10 @@
 use units::BitPeriods;
 
-// What a report goes by: the streams, the first that first-come refuses, the number past the last where there is none, and its R, 0 where there is none; or the
-// refusal's number and place.
+// What a report goes by of a sheet that is accepted: the streams, the first that first-come refuses, the number past the last where there is none, and its R, 0 where
+// there is none.
 #[derive(Clone, Copy)]
-pub enum Listed {
-    Accepted {
-        streams: usize,
-        late: usize,
-        bound: BitPeriods,
-    },
-    Refused {
-        no: u8,
-        place: usize,
-    },
+pub struct Listed {
+    pub streams: usize,
+    pub late: usize,
+    pub bound: BitPeriods,
 }

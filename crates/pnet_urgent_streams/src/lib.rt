@@ -20,7 +20,8 @@ ghost use Rattle.pnet_urgent_streams.specs.Listed.{deadline_of, listed_of};
 
 pub use answer::Listed;
 use pnet_plan::Plan;
-use sheet_read::{MOST, Reading};
+use common::Refusal;
+use sheet_read::MOST;
 use units::BitPeriods;
 
 // ---- For a capture
@@ -61,7 +62,7 @@ fn figures_of(
     figure: &mut [u32; MOST],
     spacing: &mut [u32; MOST],
     jitter: &mut [u32; MOST],
-) -> Plan
+) -> Result<Plan, Refusal>
     requires { Ready s.now pnet first n }
     ensures { let outcome = urgently s.now 800 in
         (result ≡ plan_of outcome)
@@ -72,20 +73,9 @@ fn figures_of(
 {
     let mut places = [0u32; MOST];
     let mut rounds = [0u32; MOST];
-    let plan = pnet_urgent::plan(s, &mut places, figure, &mut rounds);
-    match plan {
-        Plan::Refused { no, place } => Plan::Refused { no, place },
-        Plan::Accepted {
-            masters: all,
-            streams,
-        } => {
-            by_spacing(s, first, n, masters, spacing, jitter);
-            Plan::Accepted {
-                masters: all,
-                streams,
-            }
-        }
-    }
+    let plan = pnet_urgent::plan(s, &mut places, figure, &mut rounds)?;
+    by_spacing(s, first, n, masters, spacing, jitter);
+    Ok(plan)
 }
 
 // The sheet that a capture is laid beside where urgent requests go first: each stream's master, figure, spacing and jitter, where `room` is the length of the shortest run
@@ -97,33 +87,25 @@ pub fn figures(
     figure: &mut [u32; MOST],
     spacing: &mut [u32; MOST],
     jitter: &mut [u32; MOST],
-) -> Plan
+) -> Result<Plan, Refusal>
     ensures value { result ≡ plan_of (urgently s.now room) }
     ensures masters_after { masters.new ≡ stream_run (urgently s.now room) master_of masters.old }
     ensures figure_after { figure.new ≡ stream_run (urgently s.now room) Urgent.figure figure.old }
     ensures spacing_after { spacing.new ≡ stream_run (urgently s.now room) spacing_of spacing.old }
     ensures jitter_after { jitter.new ≡ stream_run (urgently s.now room) jitter_of jitter.old }
 {
-    let read = sheet_read::read(s);
-    match read {
-        Reading::Refused { no, place } => Plan::Refused { no, place },
-        Reading::Accepted {
-            head,
-            streams,
-            first,
-        } => {
-            if sheet_record::bus_of(head.kind) != 1 {
-                return Plan::Refused { no: 3, place: 0 };
-            }
-            if room < streams {
-                return Plan::Refused {
-                    no: 13,
-                    place: streams,
-                };
-            }
-            figures_of(s, first, streams, masters, figure, spacing, jitter)
-        }
+    let sheet = sheet_read::read(s)?;
+    if sheet_record::bus_of(sheet.head.kind) != 1 {
+        return Err(Refusal { no: 3, place: 0 });
     }
+    let streams = sheet.streams;
+    if room < streams {
+        return Err(Refusal {
+            no: 13,
+            place: streams,
+        });
+    }
+    figures_of(s, sheet.first, streams, masters, figure, spacing, jitter)
 }
 
 // ---- For a report
@@ -175,7 +157,7 @@ fn beside(
 ) -> Listed
     requires { Sheeted s.now all n first counts.now longests.now × (n ≤ length masters.old) × (n ≤ length deadlines.old) }
     ensures { let outcome = Read (sheet_in s.now) in
-        (result ≡ listed_of outcome)
+        (Ok result ≡ listed_of outcome)
         × (masters.new ≡ stream_run outcome master_of masters.old)
         × (deadlines.new ≡ stream_run outcome deadline_of deadlines.old) }
 {
@@ -183,7 +165,7 @@ fn beside(
     let found = pnet_late::judge(s, all, first, n, counts, longests);
     let late = found.late;
     let bound = late_bound(late, n, masters, counts, found.turn);
-    Listed::Accepted {
+    Listed {
         streams: n,
         late,
         bound,
@@ -203,7 +185,7 @@ fn listed_of(
     figure: &mut [u32; MOST],
     rounds: &mut [u32; MOST],
     deadlines: &mut [u32; MOST],
-) -> Listed
+) -> Result<Listed, Refusal>
     requires { Sheeted s.now all n first counts.now longests.now }
     ensures { let outcome = urgently s.now 800 in
         (result ≡ listed_of outcome)
@@ -213,14 +195,8 @@ fn listed_of(
         × (rounds.new ≡ stream_run outcome Urgent.rounds rounds.old)
         × (deadlines.new ≡ stream_run outcome deadline_of deadlines.old) }
 {
-    let plan = pnet_urgent::plan(s, places, figure, rounds);
-    match plan {
-        Plan::Refused { no, place } => Listed::Refused { no, place },
-        Plan::Accepted {
-            masters: _,
-            streams: _,
-        } => beside(s, all, first, n, counts, longests, masters, deadlines),
-    }
+    pnet_urgent::plan(s, places, figure, rounds)?;
+    Ok(beside(s, all, first, n, counts, longests, masters, deadlines))
 }
 
 // What a report goes by of a sheet whose urgent requests go first: each stream's master, place in its master's order, figure, rounds and deadline.
@@ -231,7 +207,7 @@ pub fn listed(
     figure: &mut [u32; MOST],
     rounds: &mut [u32; MOST],
     deadlines: &mut [u32; MOST],
-) -> Listed
+) -> Result<Listed, Refusal>
     ensures { let outcome = urgently s.now 800 in
         (result ≡ listed_of outcome)
         × (masters.new ≡ stream_run outcome master_of masters.old)
@@ -242,30 +218,21 @@ pub fn listed(
 {
     let mut counts: [u8; 33] = [0; 33];
     let mut longests: [u32; 33] = [0; 33];
-    let read = sheet_read::read_gathering(s, &mut counts, &mut longests);
-    match read {
-        Reading::Refused { no, place } => Listed::Refused { no, place },
-        Reading::Accepted {
-            head,
-            streams,
-            first,
-        } => {
-            if sheet_record::bus_of(head.kind) != 1 {
-                return Listed::Refused { no: 3, place: 0 };
-            }
-            listed_of(
-                s,
-                head.a as usize,
-                first,
-                streams,
-                &counts,
-                &longests,
-                masters,
-                places,
-                figure,
-                rounds,
-                deadlines,
-            )
-        }
+    let sheet = sheet_read::read_gathering(s, &mut counts, &mut longests)?;
+    if sheet_record::bus_of(sheet.head.kind) != 1 {
+        return Err(Refusal { no: 3, place: 0 });
     }
+    listed_of(
+        s,
+        sheet.head.a as usize,
+        sheet.first,
+        sheet.streams,
+        &counts,
+        &longests,
+        masters,
+        places,
+        figure,
+        rounds,
+        deadlines,
+    )
 }

@@ -18,30 +18,33 @@ use Rattle.profibus_rules.proofs.Rule.{all_pass_below}
 use Rattle.profibus_rules.proofs.Declared.{declared}
 use Rattle.profibus_rules.proofs.Answer.{named_fails, none_fails, fails_named, none_named, target_limited, limited_is}
 use Rattle.profibus_plan.specs.declared.answer.Plan.{Plan}
-use Rattle.profibus_plan.specs.declared.answer.Plan.TheVariants as plan
 use Rattle.profibus_plan.specs.Planned.{fails_at_latency, plan_checks, plan_by, plan_of, Answers}
 use Rattle.profibus_plan.specs.Planned.Answers.{another_bus, fails, limited}
+use Rattle.std.specs.declared.result.Result.TheVariants.{Ok, Err}
+use Rattle.common.specs.Checks.{refusal}
+use Rattle.std.specs.declared.result.Result.{Result}
+use Rattle.common.specs.declared.Refusal.{Refusal}
 
 module _ (S : Sheet) where
-  pub plan_other_bus : (bus_in S ≡ profibus → ⊥) → plan_of (Read S) ≡ plan.Refused 3 0
+  pub plan_other_bus : (bus_in S ≡ profibus → ⊥) → plan_of (Read S) ≡ Err (refusal 3 0)
   unfolding plan_of plan_by plan_checks verdict
   plan_other_bus e = rw (ne_eqb (bus_in S) profibus e)
 
   module _ (bus : bus_in S ≡ profibus) where
-    pub plan_fails : (i : ℕ) → FirstFails (ring_of S) (ring_of S).latency i → plan_of (Read S) ≡ plan.Refused 9 i
+    pub plan_fails : (i : ℕ) → FirstFails (ring_of S) (ring_of S).latency i → plan_of (Read S) ≡ Err (refusal 9 i)
     unfolding plan_of plan_by plan_checks fails_at_latency verdict
     plan_fails i f =
         let R = ring_of S in
         rw (eq-eqb (bus_in S) profibus bus, fails_named R R.latency i f, le-leb i R.number f.there.1)
 
     pub plan_passes : AllPass (ring_of S) (ring_of S).latency
-        → plan_of (Read S) ≡ plan.Target (ring_bp (target (ring_of S))) (first_failing (ring_of S) (target (ring_of S) + 1))
+        → plan_of (Read S) ≡ Ok (record { rotation = (ring_bp (target (ring_of S))); stream = (first_failing (ring_of S) (target (ring_of S) + 1)) })
     unfolding plan_of plan_by plan_checks fails_at_latency verdict
     plan_passes p =
         let R = ring_of S in
         rw (eq-eqb (bus_in S) profibus bus, none_named R R.latency p, lt-leb (1 + R.number) R.number (omega arith))
 
-    pub plan_limited : Declared (ring_of S) → (ttr i : ℕ) → Limited (ring_of S) ttr i → plan_of (Read S) ≡ plan.Target (ring_bp ttr) i
+    pub plan_limited : Declared (ring_of S) → (ttr i : ℕ) → Limited (ring_of S) ttr i → plan_of (Read S) ≡ Ok (record { rotation = (ring_bp ttr); stream = i })
     plan_limited within ttr i a =
         let R = ring_of S in
         let e = limited_is R within ttr i a in
@@ -67,7 +70,7 @@ module _ (s : List ℕ) (S : Sheet) (known : Known s S) where
       by_bus (yes bus) = at_latency bus (dec_le (first_failing (ring_of S) (ring_of S).latency) (ring_of S).number)
       by_bus (no e) = rw (plan_other_bus S e) (another_bus e)
 
-  pub answers_plan : {p : Plan} → Answers S p → p ≡ plan_of (Read S)
+  pub answers_plan : {p : Result Plan Refusal} → Answers S p → p ≡ plan_of (Read S)
   answers_plan (another_bus e) = sym (plan_other_bus S e)
   answers_plan (fails i bus f) = sym (plan_fails S bus i f)
   answers_plan (limited ttr i bus a) = sym (plan_limited S bus (declared s S known bus) ttr i a)

@@ -13,8 +13,8 @@ use Rattle.units.specs.Units.{ring_bp}
 use Rattle.profibus_rules.specs.Ring.{Ring, ring_of, SameRings}
 use Rattle.profibus_rules.specs.Target.{target, first_failing}
 use Rattle.profibus_rules.proofs.Same.{same_target, same_first}
-use Rattle.profibus_plan.specs.declared.answer.Plan.TheVariants as plan
 use Rattle.profibus_plan.specs.Planned.{fails_at_latency, plan_checks, plan_by, plan_of}
+use Rattle.std.specs.declared.result.Result.TheVariants.{Ok, Err}
 
 module _ {R R' : Ring} (same : SameRings R R') where
   same_at_latency : first_failing R' R'.latency ≡ first_failing R R.latency
@@ -29,8 +29,8 @@ module _ {R R' : Ring} (same : SameRings R R') where
   same_by : (v : Verdict) → plan_by v R' ≡ plan_by v R
   unfolding plan_by
   same_by Passed =
-      ap (λ (t : ℕ). plan.Target (ring_bp t) (first_failing R' (t + 1))) (same_target same)
-      ∙ ap (plan.Target (ring_bp (target R))) (same_first same (target R + 1))
+      ap (λ (t : ℕ). Ok (record { rotation = (ring_bp t); stream = (first_failing R' (t + 1)) })) (same_target same)
+      ∙ ap (λ k. Ok (record { rotation = (ring_bp (target R)); stream = k })) (same_first same (target R + 1))
   same_by (Refused n p) = refl
 
 pub same_plan : (S S' : Sheet) → bus_in S' ≡ bus_in S → SameRings (ring_of S) (ring_of S') → plan_of (Read S') ≡ plan_of (Read S)

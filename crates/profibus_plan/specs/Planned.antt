@@ -11,7 +11,10 @@ use Rattle.units.specs.Units.{ring_bp}
 use Rattle.profibus_rules.specs.Ring.{Ring, ring_of}
 use Rattle.profibus_rules.specs.Target.{FirstFails, Limited, target, first_failing}
 use Rattle.profibus_plan.specs.declared.answer.Plan.{Plan}
-use Rattle.profibus_plan.specs.declared.answer.Plan.TheVariants as plan
+use Rattle.std.specs.declared.result.Result.TheVariants.{Ok, Err}
+use Rattle.common.specs.Checks.{refusal}
+use Rattle.std.specs.declared.result.Result.{Result}
+use Rattle.common.specs.declared.Refusal.{Refusal}
 
 -- 9 for the first stream that fails at L
 unfoldable pub fails_at_latency : Ring → Check
@@ -23,20 +26,20 @@ unfolding fails_at_latency ring_of
 plan_checks S = check 3 (not (eqb (bus_in S) profibus)) 0 ∷ fails_at_latency (ring_of S) ∷ []
 
 -- the largest TTR and the first stream that fails at TTR + 1, or the refusal
-unfoldable pub plan_by : Verdict → Ring → Plan
+unfoldable pub plan_by : Verdict → Ring → Result Plan Refusal
 unfolding target first_failing
-plan_by Passed R = plan.Target (ring_bp (target R)) (first_failing R (target R + 1))
-plan_by (Refused n p) R = plan.Refused n p
+plan_by Passed R = Ok (record { rotation = (ring_bp (target R)); stream = (first_failing R (target R + 1)) })
+plan_by (Refused n p) R = Err (refusal n p)
 
-unfoldable pub plan_of : Outcome → Plan
+unfoldable pub plan_of : Outcome → Result Plan Refusal
 unfolding plan_by plan_checks verdict ring_of
 plan_of (Read S) = plan_by (verdict (plan_checks S)) (ring_of S)
-plan_of (Not n p) = plan.Refused n p
+plan_of (Not n p) = Err (refusal n p)
 
 -- ---- The answer as the page says it
 
 -- an answer to a sheet that reads without refusal
-pub data Answers (S : Sheet) : Plan → Type 0 where
-  another_bus : (bus_in S ≡ profibus → ⊥) → Answers S (plan.Refused 3 0)
-  fails : (i : ℕ) → bus_in S ≡ profibus → FirstFails (ring_of S) (ring_of S).latency i → Answers S (plan.Refused 9 i)
-  limited : (ttr i : ℕ) → bus_in S ≡ profibus → Limited (ring_of S) ttr i → Answers S (plan.Target (ring_bp ttr) i)
+pub data Answers (S : Sheet) : Result Plan Refusal → Type 0 where
+  another_bus : (bus_in S ≡ profibus → ⊥) → Answers S (Err (refusal 3 0))
+  fails : (i : ℕ) → bus_in S ≡ profibus → FirstFails (ring_of S) (ring_of S).latency i → Answers S (Err (refusal 9 i))
+  limited : (ttr i : ℕ) → bus_in S ≡ profibus → Limited (ring_of S) ttr i → Answers S (Ok (record { rotation = (ring_bp ttr); stream = i }))

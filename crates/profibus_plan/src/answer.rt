@@ -1,16 +1,8 @@
 use units::RingPeriods;
 
-// What the planner answers.
+// What the planner answers of a sheet that it accepts: the largest TTR, and the first stream that fails at TTR + 1.
 #[derive(Clone, Copy)]
-pub enum Plan {
-    // The largest TTR, and the first stream that fails at TTR + 1.
-    Target {
-        rotation: RingPeriods,
-        stream: usize,
-    },
-    // The refusal's number, and its place.
-    Refused {
-        no: u8,
-        place: usize,
-    },
+pub struct Plan {
+    pub rotation: RingPeriods,
+    pub stream: usize,
 }

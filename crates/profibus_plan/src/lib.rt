@@ -14,7 +14,7 @@ ghost use Rattle.profibus_rules.specs.Ring.{ring_of, count, messages};
 ghost use Rattle.profibus_plan.specs.Planned.{plan_of};
 
 pub use answer::Plan;
-use sheet_read::Reading;
+use common::Refusal;
 use units::RingPeriods;
 
 // The longest deadline of a sheet. No stream bears a rotation as long, since C is at least 1.
@@ -44,7 +44,7 @@ fn largest_target(
     counts: &[u8; 33],
     latency: u64,
     longest: u64,
-) -> Plan
+) -> Result<Plan, Refusal>
     requires ready { Ready s.now profibus first streams }
     requires counts_value { counts.now ≡ tab (count (ring_of (sheet_in s.now))) 33 }
     requires latency_value { (latency ≡ (ring_of (sheet_in s.now)).latency) × (longest ≡ messages (ring_of (sheet_in s.now))) }
@@ -66,37 +66,30 @@ fn largest_target(
         i += 1;
         if d < h * borne + c {
             if d < h * shortest + c {
-                return Plan::Refused { no: 9, place: i };
+                return Err(Refusal { no: 9, place: i });
             }
             borne = (d - c) / h;
             limiting = i;
         }
     }
     let rotation = RingPeriods((borne - longest) as u32);
-    Plan::Target {
+    Ok(Plan {
         rotation,
         stream: limiting,
-    }
+    })
 }
 
 // The largest rotation target of a PROFIBUS sheet, or the refusal.
-pub fn plan(s: &[u8]) -> Plan
+pub fn plan(s: &[u8]) -> Result<Plan, Refusal>
     ensures { result ≡ plan_of (reading s.now) }
 {
     let mut counts: [u8; 33] = [0; 33];
     let mut messages: [u32; 33] = [0; 33];
-    match sheet_read::read_ring(s, &mut counts, &mut messages) {
-        Reading::Refused { no, place } => Plan::Refused { no, place },
-        Reading::Accepted {
-            head,
-            streams,
-            first,
-        } => {
-            if sheet_record::bus_of(head.kind) != 3 {
-                return Plan::Refused { no: 3, place: 0 };
-            }
-            let longest = together(&messages, head.a);
-            largest_target(s, first, streams, &counts, head.b as u64, longest)
-        }
+    let sheet = sheet_read::read_ring(s, &mut counts, &mut messages)?;
+    let head = sheet.head;
+    if sheet_record::bus_of(head.kind) != 3 {
+        return Err(Refusal { no: 3, place: 0 });
     }
+    let longest = together(&messages, head.a);
+    largest_target(s, sheet.first, sheet.streams, &counts, head.b as u64, longest)
 }

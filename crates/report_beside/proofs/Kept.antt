@@ -21,8 +21,6 @@ use Rattle.pnet_urgent_rules.proofs.Cases.{urgently_declared}
 use Rattle.capture_log.specs.Log.{fresh}
 use Rattle.capture_log.specs.Records.{heard}
 use Rattle.capture_log.proofs.Refusals.{passed_exactly}
-use Rattle.capture_tally.specs.declared.Taken.{Taken}
-use Rattle.capture_tally.specs.declared.Taken.TheVariants as taken
 use Rattle.capture_tally.specs.Pieces.{most, answer_to}
 use Rattle.capture_ages.specs.declared.Watch.{Watch}
 use Rattle.capture_ages.specs.Clock.{began}
@@ -42,6 +40,10 @@ use Rattle.report_beside.specs.Steps.{last, begun_as, begun_text, heard_as, hear
 use Rattle.report_beside.specs.Kept.{Kept, Refuses, Ends, Begins, Hears, Reports, Holds, Tells}
 use Rattle.report_beside.specs.Kept.Ends.{whole, at_last}
 use Rattle.report_beside.proofs.Pieces.{seen_none, after_none, joined_passes, joined_refused, refused_behind, seen_joined, after_joined}
+use Rattle.std.specs.declared.result.Result.TheVariants.{Ok, Err}
+use Rattle.common.specs.Checks.{refusal}
+use Rattle.std.specs.declared.result.Result.{Result}
+use Rattle.common.specs.declared.Refusal.{Refusal}
 
 -- ---- The report, case by case
 
@@ -121,7 +123,7 @@ module _ {urgent : Bool} {s c masters R T J : List ℕ} {h : Hearing} {k : Tally
   abbrev n : ℕ
   n = length H.streams
 
-  abbrev answer : Taken
+  abbrev answer : Result ⊤ Refusal
   answer = answer_to p h.streams (waiting k)
 
   few : n ≤ most
@@ -152,7 +154,7 @@ module _ {urgent : Bool} {s c masters R T J : List ℕ} {h : Hearing} {k : Tally
       ∙ sym (after_joined c p n few kept.passes (figures H (limit_of urgent)) (figures H spacing_of) (figures H jitter_of))))))
 
   -- it is taken
-  pub still_kept : answer ≡ taken.All → (k' : Tally) → k' ≡ after p R T J h.watch k
+  pub still_kept : answer ≡ (Ok tt) → (k' : Tally) → k' ≡ after p R T J h.watch k
       → Kept urgent s (c ++ p) (record { urgent = h.urgent; streams = h.streams; bytes = h.bytes + length p; watch = (seen_after p T J h.watch k.asked k.lead).watch }) masters R T J k'
   unfolding watch_of tally_of
   still_kept e k' q = record {
@@ -171,7 +173,7 @@ module _ {urgent : Bool} {s c masters R T J : List ℕ} {h : Hearing} {k : Tally
   }
 
   -- it is refused, at place q
-  module _ (r q : ℕ) (e : answer ≡ taken.Refused r q) where
+  module _ (r q : ℕ) (e : answer ≡ Err (refusal r q)) where
     verdict_then : (rest : List ℕ) → Ends p rest → heard ((c ++ p) ++ rest) n fresh ≡ Refused r (length c + q)
     unfolding tally_of
     verdict_then rest (whole m long) = refused_behind c p n few kept.passes (figures H (limit_of urgent)) (figures H spacing_of) (figures H jitter_of) r q m long (sym answer_is ∙ e) rest
@@ -191,13 +193,13 @@ module _ {urgent : Bool} {s c masters R T J : List ℕ} {h : Hearing} {k : Tally
         → k' ≡ heard_tally short answer (after p R T J h.watch k) k → Hears urgent s c p x old new masters R T J k'
     hears = by (ltb h.bytes last) refl answer refl
       where
-        by : (b : Bool) → ltb h.bytes last ≡ b → (a : Taken) → answer ≡ a → x ≡ heard_as b a h (length p) (seen_after p T J h.watch k.asked k.lead).watch
+        by : (b : Bool) → ltb h.bytes last ≡ b → (a : Result ⊤ Refusal) → answer ≡ a → x ≡ heard_as b a h (length p) (seen_after p T J h.watch k.asked k.lead).watch
             → new ≡ heard_text b a h.bytes old → k' ≡ heard_tally b a (after p R T J h.watch k) k → Hears urgent s c p x old new masters R T J k'
         by false l a e y t q =
             subst (λ (z : Heard). Hears urgent s c p z old new masters R T J k') (sym y) (omega (arith, ltb-false h.bytes last l, kept.bytes_are))
-        by true l taken.All e y t q =
+        by true l (Ok tt) e y t q =
             subst (λ (z : Heard). Hears urgent s c p z old new masters R T J k') (sym y) (omega (arith, ltb-true h.bytes last l, kept.bytes_are), still_kept e k' q)
-        by true l (taken.Refused r q) e y t u =
+        by true l (Err r) e y t u =
             subst (λ (z : Heard). Hears urgent s c p z old new masters R T J k') (sym y) (λ rest ends. refuses (then_refused r q e rest ends) refl t)
 
 -- ---- Reporting

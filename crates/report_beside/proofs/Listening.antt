@@ -6,8 +6,6 @@ use mathlib.Core.Bool.{Bool, true, false}
 use borrow.Author.Tests.{lt-ltb, le-ltb}
 use lib.Dec.{ltb}
 use lib.ListN.{length}
-use Rattle.capture_tally.specs.declared.Taken.{Taken}
-use Rattle.capture_tally.specs.declared.Taken.TheVariants as taken
 use Rattle.capture_tally.specs.Pieces.{answer_to}
 use Rattle.capture_ages.specs.declared.Watch.{Watch}
 use Rattle.report_capture.specs.Shown.{capture_refusal}
@@ -19,13 +17,17 @@ use Rattle.text.specs.Text.{over}
 use Rattle.report_beside.specs.Steps.{last, heard_as, heard_text, heard_tally}
 use Rattle.report_beside.specs.Kept.{Kept, Hears}
 use Rattle.report_beside.proofs.Kept.{hears}
+use Rattle.std.specs.declared.result.Result.TheVariants.{Ok, Err}
+use Rattle.common.specs.Checks.{refusal}
+use Rattle.std.specs.declared.result.Result.{Result}
+use Rattle.common.specs.declared.Refusal.{Refusal}
 
 -- the piece p, behind what h and k keep
 module _ (p R T J old : List ℕ) (h : Hearing) (k : Tally) where
   abbrev short : Bool
   short = ltb h.bytes last
 
-  abbrev answer : Taken
+  abbrev answer : Result ⊤ Refusal
   answer = answer_to p h.streams (waiting k)
 
   abbrev new_watch : Watch
@@ -38,7 +40,7 @@ module _ (p R T J old : List ℕ) (h : Hearing) (k : Tally) where
   abbrev pub Answered : Heard → List ℕ → Tally → Type 0
   Answered x new k' = (x ≡ heard_as short answer h (length p) new_watch) × (new ≡ heard_text short answer h.bytes old) × (k' ≡ heard_tally short answer new_tally k)
 
-  by : (b : Bool) (a : Taken) → short ≡ b → answer ≡ a → (x : Heard) (new : List ℕ) (k' : Tally) → x ≡ heard_as b a h (length p) new_watch
+  by : (b : Bool) (a : Result ⊤ Refusal) → short ≡ b → answer ≡ a → (x : Heard) (new : List ℕ) (k' : Tally) → x ≡ heard_as b a h (length p) new_watch
       → new ≡ heard_text b a h.bytes old → k' ≡ heard_tally b a new_tally k → Answered x new k'
   by b a e f x new k' q r s = rw (e, f) (q, r, s)
 
@@ -46,15 +48,15 @@ module _ (p R T J old : List ℕ) (h : Hearing) (k : Tally) where
   answered_long l = by false answer (le-ltb h.bytes last l) refl told.TooLong old k refl refl refl
 
   module _ (l : h.bytes < last) where
-    pub answered_all : (w : Watch) (k' : Tally) → answer ≡ taken.All → w ≡ new_watch → k' ≡ new_tally
+    pub answered_all : (w : Watch) (k' : Tally) → answer ≡ (Ok tt) → w ≡ new_watch → k' ≡ new_tally
         → Answered (told.On (record { urgent = h.urgent; streams = h.streams; bytes = h.bytes + length p; watch = w })) old k'
     answered_all w k' e q s =
-        by true taken.All (lt-ltb h.bytes last l) e _ old k'
+        by true (Ok tt) (lt-ltb h.bytes last l) e _ old k'
         (ap (λ (x : Watch). told.On (record { urgent = h.urgent; streams = h.streams; bytes = h.bytes + length p; watch = x })) q) refl s
 
-    pub answered_refused : (r q n : ℕ) (new : List ℕ) (k' : Tally) → answer ≡ taken.Refused r q → n ≡ length (capture_refusal r (h.bytes + q))
-        → new ≡ over (capture_refusal r (h.bytes + q)) old → k' ≡ heard_tally true (taken.Refused r q) new_tally k → Answered (told.Refused n) new k'
-    answered_refused r q n new k' e a t s = by true (taken.Refused r q) (lt-ltb h.bytes last l) e _ new k' (ap told.Refused a) t s
+    pub answered_refused : (r q n : ℕ) (new : List ℕ) (k' : Tally) → answer ≡ Err (refusal r q) → n ≡ length (capture_refusal r (h.bytes + q))
+        → new ≡ over (capture_refusal r (h.bytes + q)) old → k' ≡ heard_tally true (Err (refusal r q)) new_tally k → Answered (told.Refused n) new k'
+    answered_refused r q n new k' e a t s = by true (Err (refusal r q)) (lt-ltb h.bytes last l) e _ new k' (ap told.Refused a) t s
 
   -- both clauses of the contract
   pub promised : (x : Heard) (new left since answers largest above asked lead : List ℕ) → Answered x new (tally left since answers largest above asked lead)

@@ -11,7 +11,6 @@ use Rattle.common.proofs.Runs.{tab_places, zero_at}
 use Rattle.capture_log.specs.Log as Log
 use Rattle.capture_log.specs.Log.{fresh}
 use Rattle.capture_log.specs.Records.{size, events_in, records, events, heard}
-use Rattle.capture_tally.specs.declared.Taken.TheVariants as taken
 use Rattle.capture_tally.specs.Pieces.{most, before, behind, answer_to, left_after, since_after, answers_after, largest_after, above_after}
 use Rattle.capture_tally.proofs.Split.{split_refused, split_answer, split_left, split_since, split_answers, split_largest, split_above}
 use Rattle.capture_compare.proofs.Told.{whole_refused, whole_passed, whole_taken}
@@ -21,6 +20,8 @@ use Rattle.capture_watch.specs.Follow.{Seen, seen, followed, met_in}
 use Rattle.capture_watch.proofs.Passed.{passed_whole}
 use Rattle.capture_watch.proofs.Pieces.{in_pieces}
 use Rattle.report_beside.specs.Whole.{Tally, tally, none, unheard, seen_after, waiting, after}
+use Rattle.std.specs.declared.result.Result.TheVariants.{Ok, Err}
+use Rattle.common.specs.Checks.{refusal}
 
 -- runs that are equal make up tallies that are
 pub tally_same : {l l' s s' a a' g g' b b' q q' d d' : List ℕ} → l ≡ l' → s ≡ s' → a ≡ a' → g ≡ g' → b ≡ b' → q ≡ q' → d ≡ d'
@@ -79,7 +80,7 @@ module _ (c p : List ℕ) (n : ℕ) (few : n ≤ most) (passes : heard c n fresh
   whole : length c ≡ size * (length c / size)
   whole = passed_whole c n passes
 
-  all : answer_to c n (before none none) ≡ taken.All
+  all : answer_to c n (before none none) ≡ (Ok tt)
   unfolding none
   all = whole_taken c n few passes
 
@@ -87,16 +88,16 @@ module _ (c p : List ℕ) (n : ℕ) (few : n ≤ most) (passes : heard c n fresh
   both : answer_to (c ++ p) n (before none none) ≡ behind (length c) (answer_to p n (waiting k))
   both = split_answer c p (length c / size) whole (before none none) n all
 
-  pub joined_passes : answer_to p n (waiting k) ≡ taken.All → heard (c ++ p) n fresh ≡ Passed
+  pub joined_passes : answer_to p n (waiting k) ≡ (Ok tt) → heard (c ++ p) n fresh ≡ Passed
   unfolding none
   joined_passes e = whole_passed (c ++ p) n few (both ∙ ap (behind (length c)) e)
 
-  pub joined_refused : (r q : ℕ) → answer_to p n (waiting k) ≡ taken.Refused r q → heard (c ++ p) n fresh ≡ Refused r (length c + q)
+  pub joined_refused : (r q : ℕ) → answer_to p n (waiting k) ≡ Err (refusal r q) → heard (c ++ p) n fresh ≡ Refused r (length c + q)
   unfolding none
   joined_refused r q e = whole_refused (c ++ p) n few r (length c + q) (both ∙ ap (behind (length c)) e)
 
   -- whatever comes behind a piece that ends with a record
-  pub refused_behind : (r q m : ℕ) → length p ≡ size * m → answer_to p n (waiting k) ≡ taken.Refused r q → (rest : List ℕ)
+  pub refused_behind : (r q m : ℕ) → length p ≡ size * m → answer_to p n (waiting k) ≡ Err (refusal r q) → (rest : List ℕ)
       → heard ((c ++ p) ++ rest) n fresh ≡ Refused r (length c + q)
   unfolding none
   refused_behind r q m ends e rest =

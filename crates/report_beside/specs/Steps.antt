@@ -3,8 +3,6 @@
 use Rattle.std.specs.Prelude.{ℕ, ◌+◌, ◌^◌, List, Bool, true, false, cond, length}
 use Rattle.sheet_rules.specs.Whole.{Outcome}
 use Rattle.sheet_rules.specs.Whole.Outcome.{Read, Not}
-use Rattle.capture_tally.specs.declared.Taken.{Taken}
-use Rattle.capture_tally.specs.declared.Taken.TheVariants as taken
 use Rattle.capture_ages.specs.declared.Watch.{Watch}
 use Rattle.capture_ages.specs.Clock.{began}
 use Rattle.text.specs.Text.{over}
@@ -18,6 +16,10 @@ use Rattle.report_beside.specs.declared.Heard.TheVariants as told
 use Rattle.report_beside.specs.declared.Reported.{Reported}
 use Rattle.report_beside.specs.declared.Reported.TheVariants as reported
 use Rattle.report_beside.specs.Whole.{Tally}
+use Rattle.std.specs.declared.result.Result.TheVariants.{Ok, Err}
+use Rattle.common.specs.Checks.{refusal}
+use Rattle.std.specs.declared.result.Result.{Result}
+use Rattle.common.specs.declared.Refusal.{Refusal}
 
 -- a piece that begins at this byte of a capture or behind it is not heard: its places could not be counted
 abbrev pub last : ℕ
@@ -36,21 +38,21 @@ begun_text (Not n p) old = over (refusal_text n p) old
 -- ---- Hearing a piece
 
 -- `short` says whether its place is counted, and `answer` how it was taken, with the refusal's place in the piece
-abbrev pub heard_as : Bool → Taken → Hearing → ℕ → Watch → Heard
+abbrev pub heard_as : Bool → Result ⊤ Refusal → Hearing → ℕ → Watch → Heard
 heard_as false answer h m w = told.TooLong
-heard_as true taken.All h m w = told.On (record { urgent = h.urgent; streams = h.streams; bytes = h.bytes + m; watch = w })
-heard_as true (taken.Refused n q) h m w = told.Refused (length (capture_refusal n (h.bytes + q)))
+heard_as true (Ok tt) h m w = told.On (record { urgent = h.urgent; streams = h.streams; bytes = h.bytes + m; watch = w })
+heard_as true (Err r) h m w = told.Refused (length (capture_refusal r.no (h.bytes + r.place)))
 
-abbrev pub heard_text : Bool → Taken → ℕ → List ℕ → List ℕ
+abbrev pub heard_text : Bool → Result ⊤ Refusal → ℕ → List ℕ → List ℕ
 heard_text false answer d old = old
-heard_text true taken.All d old = old
-heard_text true (taken.Refused n q) d old = over (capture_refusal n (d + q)) old
+heard_text true (Ok tt) d old = old
+heard_text true (Err r) d old = over (capture_refusal r.no (d + r.place)) old
 
 -- a refused piece changes nothing
-abbrev pub heard_tally : Bool → Taken → Tally → Tally → Tally
+abbrev pub heard_tally : Bool → Result ⊤ Refusal → Tally → Tally → Tally
 heard_tally false answer new old = old
-heard_tally true taken.All new old = new
-heard_tally true (taken.Refused n q) new old = old
+heard_tally true (Ok tt) new old = new
+heard_tally true (Err r) new old = old
 
 -- ---- Reporting
 

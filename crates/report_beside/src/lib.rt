@@ -15,7 +15,7 @@ ghost use Rattle.report_beside.specs.Steps.{last, begun_as, begun_text, heard_as
 ghost use Rattle.report_beside.specs.Kept.{Kept, Begins, Hears, Reports};
 
 use capture_ages::Watch;
-use capture_tally::Taken;
+use common::Refusal;
 use pnet_plan::Plan;
 use report_capture::MOST_TEXT;
 use sheet_read::MOST;
@@ -56,19 +56,21 @@ pub enum Reported {
 }
 
 // Of a refused sheet, its refusal is the whole report.
-fn refuse_sheet(out: &mut [u8; MOST_TEXT], no: u8, place: usize) -> usize
-    ensures { (result ≡ length (refusal_text no place)) × (out.new ≡ over (refusal_text no place) out.old) }
+fn refuse_sheet(out: &mut [u8; MOST_TEXT], refusal: Refusal) -> usize
+    ensures { let text = refusal_text refusal.no refusal.place in
+        (result ≡ length text) × (out.new ≡ over text out.old) }
 {
-    report_phrases::put_refusal(out, 0, no, place as u64)
+    report_phrases::put_refusal(out, 0, refusal.no, refusal.place as u64)
 }
 
 // Of a refused capture, its refusal is the whole report; the place is one of the piece, with so many bytes of the capture before it.
-fn refuse_capture(out: &mut [u8; MOST_TEXT], no: u8, before: usize, place: usize) -> usize
-    requires { before + place < 2 ^ 64 }
-    ensures { (result ≡ length (capture_refusal no (before + place))) × (out.new ≡ over (capture_refusal no (before + place)) out.old) }
+fn refuse_capture(out: &mut [u8; MOST_TEXT], refusal: Refusal, before: usize) -> usize
+    requires { before + refusal.place < 2 ^ 64 }
+    ensures { let text = capture_refusal refusal.no (before + refusal.place) in
+        (result ≡ length text) × (out.new ≡ over text out.old) }
 {
-    let at = before + place;
-    report_capture::put_capture_refusal(out, no, at as u64)
+    let at = before + refusal.place;
+    report_capture::put_capture_refusal(out, refusal.no, at as u64)
 }
 
 // Each stream's master, bound, spacing and jitter under the rule that the sheet is planned by.
@@ -79,7 +81,7 @@ fn lay(
     bound: &mut [u32; MOST],
     spacing: &mut [u32; MOST],
     jitter: &mut [u32; MOST],
-) -> Plan
+) -> Result<Plan, Refusal>
     ensures value { result ≡ plan_of (laid urgent s.now) }
     ensures masters_after { masters.new ≡ stream_run (laid urgent s.now) master_of masters.old }
     ensures bound_after { bound.new ≡ stream_run (laid urgent s.now) (limit_of urgent) bound.old }
@@ -138,16 +140,13 @@ pub fn begin(
     *asked = [0; MOST];
     *lead = [0; MOST];
     match lay(s, urgent, masters, bound, spacing, jitter) {
-        Plan::Accepted {
-            masters: _,
-            streams,
-        } => Begun::On(Hearing {
+        Ok(plan) => Begun::On(Hearing {
             urgent,
-            streams,
+            streams: plan.streams,
             bytes: 0,
             watch: capture_ages::start(),
         }),
-        Plan::Refused { no, place } => Begun::Refused(refuse_sheet(out, no, place)),
+        Err(refusal) => Begun::Refused(refuse_sheet(out, refusal)),
     }
 }
 
@@ -194,8 +193,8 @@ pub fn hear(
     }
     let streams = heard.streams;
     let taken = capture_tally::take(piece, streams, bound, left, since, answers, largest, above);
-    if let Taken::Refused { no, place } = taken {
-        return Heard::Refused(refuse_capture(out, no, bytes, place));
+    if let Err(refusal) = taken {
+        return Heard::Refused(refuse_capture(out, refusal, bytes));
     }
     let watch = capture_watch::follow(piece, heard.watch, spacing, jitter, asked, lead);
     let behind = bytes + piece.len();

@@ -12,10 +12,12 @@ use Rattle.units.specs.Units.{bp}
 use Rattle.pnet_bounds.specs.Bounded.{bounded, bounded_by}
 use Rattle.pnet_crossing.specs.Cost.{crossing_by}
 use Rattle.pnet_path.specs.Path.{Path, gateways, sheet_at, bound_from, bound_at, sender_at, forwarding_at, absent_from, absent_at, refused_or, crossed_from, crossed}
-use Rattle.pnet_crossing.specs.declared.Crossing.{Crossing}
-use Rattle.pnet_crossing.specs.declared.Crossing.TheVariants as crossing
 use Rattle.report_path.specs.Told.{path_text}
 use Rattle.report_path.specs.Report.{path_lines, answer_text, sheet_or, report_from, path_report, is_within, path_accepts}
+use Rattle.std.specs.declared.result.Result.TheVariants.{Ok, Err}
+use Rattle.common.specs.Checks.{refusal}
+use Rattle.std.specs.declared.result.Result.{Result}
+use Rattle.common.specs.declared.Refusal.{Refusal}
 
 -- the path with other bytes for its sheets
 abbrev pub keeping : Path → (ℕ → List ℕ) → Path
@@ -58,11 +60,11 @@ module _ (P : Path) (k : ℕ → List ℕ) (same : (i : ℕ) → reading (P.hop 
 
   -- ---- The report
 
-  text_alike : (c : Crossing) → answer_text P c ≡ answer_text Q c
+  text_alike : (c : Result BitPeriods Refusal) → answer_text P c ≡ answer_text Q c
   unfolding path_lines sender_at forwarding_at
-  text_alike (crossing.Within cost) =
+  text_alike (Ok cost) =
       ap (λ (R : ℕ → ℕ). path_text (sender_at P) (λ i. bp (R i)) (λ i. bp (forwarding_at P i)) (gateways P) cost (bp P.deadline)) bounds_alike
-  text_alike (crossing.Refused n p) = refl
+  text_alike (Err r) = refl
 
   report_from_alike : (n i : ℕ) → report_from P n i ≡ report_from Q n i
   unfolding report_from

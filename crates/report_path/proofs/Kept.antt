@@ -11,8 +11,6 @@ use Rattle.common.proofs.Outside.{inside}
 use Rattle.units.specs.declared.BitPeriods.{BitPeriods}
 use Rattle.pnet_path.specs.Ways.{answer_of}
 use Rattle.pnet_path.specs.declared.Way.{Way}
-use Rattle.pnet_crossing.specs.declared.Crossing.{Crossing}
-use Rattle.pnet_crossing.specs.declared.Crossing.TheVariants as crossing
 use Rattle.pnet_crossing.proofs.Checked.{too_many}
 use Rattle.pnet_path.proofs.Laws.{answer_of_refused, answer_of_others}
 use Rattle.text.specs.Text.{Wrote}
@@ -22,6 +20,11 @@ use Rattle.report_path.specs.declared.Reported.TheVariants as answer
 use Rattle.report_path.specs.Told.{most_path}
 use Rattle.report_path.specs.Report.{is_within}
 use Rattle.report_path.specs.Kept.{answer_text_of, report_of, accepts_of, told, told_in, run_with}
+use Rattle.std.specs.declared.result.Result.TheVariants.{Ok, Err}
+use Rattle.common.specs.Checks.{refusal}
+use Rattle.std.specs.declared.result.Result.{Result}
+use Rattle.common.specs.declared.Refusal.{Refusal}
+use Rattle.sheet_read.specs.Told.{accepted}
 
 -- ---- Whose report it is
 
@@ -32,14 +35,14 @@ module _ (w : Way) (D : BitPeriods) where
   refused_report e = (ap is_within (answer_of_refused w D.0 e), rw e)
 
   -- what the path is answered
-  pub answered_report : w.refused ≡ false → (c : Crossing) → c ≡ answer_of w D.0 → (is_within c ≡ accepts_of w D) × (answer_text_of w D c ≡ report_of w D)
+  pub answered_report : w.refused ≡ false → (c : Result BitPeriods Refusal) → c ≡ answer_of w D.0 → (is_within c ≡ accepts_of w D) × (answer_text_of w D c ≡ report_of w D)
   unfolding accepts_of report_of
   answered_report e c is =
-      let text : Bool → Crossing → List ℕ = λ b x. cond b (sheet_refusal w.segments w.no w.place) (answer_text_of w D x) in
+      let text : Bool → Result BitPeriods Refusal → List ℕ = λ b x. cond b (sheet_refusal w.segments w.no w.place) (answer_text_of w D x) in
       (ap is_within is, ap (λ (b : Bool). text b c) (sym e) ∙ ap (text w.refused) is)
 
   -- a path that is accepted has eleven segments at most
-  pub few_segments : w.refused ≡ false → (t : BitPeriods) → crossing.Within t ≡ answer_of w D.0 → (1 ≤ w.segments) × (w.segments ≤ 11)
+  pub few_segments : w.refused ≡ false → (t : BitPeriods) → Ok t ≡ answer_of w D.0 → (1 ≤ w.segments) × (w.segments ≤ 11)
   few_segments e t is = split (ltb g 1 || ltb 10 g) refl
     where
       g : ℕ
@@ -47,7 +50,7 @@ module _ (w : Way) (D : BitPeriods) where
 
       split : (b : Bool) → (ltb g 1 || ltb 10 g) ≡ b → (1 ≤ w.segments) × (w.segments ≤ 11)
       split true many =
-          let no = answer_of_others w D.0 e g refl (crossing.Refused 17 g) (too_many _ _ _ g _ many) in
+          let no = answer_of_others w D.0 e g refl (Err (refusal 17 g)) (too_many _ _ _ g _ many) in
           let never : true ≡ false = ap is_within (is ∙ sym no) in
           let z : ◌≡◌ {A = ℕ} 0 1 = cc in
           absurd (omega arith)

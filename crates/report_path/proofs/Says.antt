@@ -8,13 +8,15 @@ use native.Mathlib.Nat.{zero-add, add-zero}
 use native.Mathlib.Omega.{arith}
 use Rattle.sheet_rules.specs.Whole.{Outcome}
 use Rattle.units.specs.Units.{bp}
-use Rattle.pnet_crossing.specs.declared.Crossing.{Crossing}
-use Rattle.pnet_crossing.specs.declared.Crossing.TheVariants as crossing
 use Rattle.pnet_path.specs.Path.{Path, crossed}
 use Rattle.pnet_path.specs.Refusals.{Each, FirstBad, Taken, Untaken, Sheets, Given, Accepted}
 use Rattle.pnet_path.proofs.Refusals.{refused_exactly, accepted_exactly}
 use Rattle.report_path_lines.specs.Lines.{sheet_refusal, path_refusal}
 use Rattle.report_path.specs.Report.{path_lines, answer_text, sheet_or, report_from, path_report, is_within, path_accepts}
+use Rattle.std.specs.declared.result.Result.TheVariants.{Ok, Err}
+use Rattle.common.specs.Checks.{refusal}
+use Rattle.std.specs.declared.result.Result.{Result}
+use Rattle.common.specs.declared.Refusal.{Refusal}
 
 module _ (P : Path) where
   -- n sheets are accepted, and m are still to come
@@ -52,6 +54,6 @@ module _ (P : Path) where
   unfolding path_accepts
   accepts_exactly = (λ e. by (crossed P) refl e, λ a. ap is_within ((accepted_exactly P a.0).1 a.1))
     where
-      by : (c : Crossing) → crossed P ≡ c → is_within c ≡ true → (c : ℕ) × Accepted P c
-      by (crossing.Within cost) is e = (cost.0, (accepted_exactly P cost.0).0 is)
-      by (crossing.Refused n p) is e = let z : ◌≡◌ {A = ℕ} 0 1 = cc in absurd (omega arith)
+      by : (c : Result BitPeriods Refusal) → crossed P ≡ c → is_within c ≡ true → (c : ℕ) × Accepted P c
+      by (Ok cost) is e = (cost.0, (accepted_exactly P cost.0).0 is)
+      by (Err r) is e = let z : ◌≡◌ {A = ℕ} 0 1 = cc in absurd (omega arith)

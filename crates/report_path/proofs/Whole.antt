@@ -9,8 +9,6 @@ use lib.ListN.{length, drop}
 use Rattle.units.specs.Units.{bp}
 use Rattle.units.specs.declared.BitPeriods.{BitPeriods}
 use Rattle.pnet_path.specs.declared.Way.{Way}
-use Rattle.pnet_crossing.specs.declared.Crossing.{Crossing}
-use Rattle.pnet_crossing.specs.declared.Crossing.TheVariants as crossing
 use Rattle.pnet_path.specs.Path.{Path, gateways, bound_at, sender_at, forwarding_at, crossed}
 use Rattle.pnet_path.specs.Ways.{way_over, HandedOver}
 use Rattle.pnet_path.proofs.Refusals.{accepted_exactly, Looked, looked}
@@ -23,6 +21,10 @@ use Rattle.report_path.specs.Report.{path_lines, answer_text, path_report, is_wi
 use Rattle.report_path.specs.Kept.{count_at, lines_of, answer_text_of, report_of, accepts_of, told, told_in, run_with}
 use Rattle.report_path.proofs.Kept.{refused_report, answered_report}
 use Rattle.report_path.proofs.Says.{says_the_first_refused_sheet, says_the_answer}
+use Rattle.std.specs.declared.result.Result.TheVariants.{Ok, Err}
+use Rattle.common.specs.Checks.{refusal}
+use Rattle.std.specs.declared.result.Result.{Result}
+use Rattle.common.specs.declared.Refusal.{Refusal}
 
 module _ (P : Path) where
   abbrev D : BitPeriods
@@ -49,11 +51,11 @@ module _ (P : Path) where
         hops,
       )
 
-  answer_kept : (w : Way) → Kept P P.segments w → (c : Crossing) → crossed P ≡ c → answer_text_of w D c ≡ answer_text P c
-  answer_kept w k (crossing.Within total) e =
+  answer_kept : (w : Way) → Kept P P.segments w → (c : Result BitPeriods Refusal) → crossed P ≡ c → answer_text_of w D c ≡ answer_text P c
+  answer_kept w k (Ok total) e =
       let few = ((accepted_exactly P total.0).0 e).few in
       lines_kept w total k (few.least, few.most)
-  answer_kept w k (crossing.Refused n p) e = refl
+  answer_kept w k (Err r) e = refl
 
   module _ (few : P.segments < 2 ^ 64) where
     whole_report : report_of (way_over P P.segments) D ≡ path_report P

@@ -4,14 +4,19 @@ use Rattle.units.specs.Units.{bp}
 use Rattle.units.specs.declared.BitPeriods.{BitPeriods}
 use Rattle.pnet_path.specs.Ways.{answer_of}
 use Rattle.pnet_path.specs.declared.Way.{Way}
-use Rattle.pnet_crossing.specs.declared.Crossing.{Crossing}
-use Rattle.pnet_crossing.specs.declared.Crossing.TheVariants as crossing
 use Rattle.text.specs.Text.{item}
 use Rattle.report_path_lines.specs.Lines.{sheet_refusal, path_refusal}
 use Rattle.report_path.specs.declared.Reported.{Reported}
 use Rattle.report_path.specs.declared.Reported.TheVariants as answer
 use Rattle.report_path.specs.Told.{most_path, path_text}
 use Rattle.report_path.specs.Report.{is_within}
+use Rattle.std.specs.declared.result.Result.TheVariants.{Ok, Err}
+use Rattle.common.specs.Checks.{refusal}
+use Rattle.std.specs.declared.result.Result.{Result}
+use Rattle.common.specs.declared.Refusal.{Refusal}
+use Rattle.sheet_read.specs.Told.{accepted}
+use Rattle.std.specs.declared.option.Option.{Option}
+use Rattle.std.specs.declared.option.Option.TheVariants.{Some, None}
 
 -- ---- The report
 
@@ -23,14 +28,18 @@ count_at l i = get_or l i (bp 0)
 unfoldable pub lines_of : Way → BitPeriods → BitPeriods → List ℕ
 lines_of w total deadline = path_text (item w.masters) (count_at w.bounds) (count_at w.times) (w.segments - 1) total deadline
 
-abbrev pub answer_text_of : Way → BitPeriods → Crossing → List ℕ
-answer_text_of w deadline (crossing.Within total) = lines_of w total deadline
-answer_text_of w deadline (crossing.Refused n p) = path_refusal n p
+abbrev pub answer_text_of : Way → BitPeriods → Result BitPeriods Refusal → List ℕ
+answer_text_of w deadline (Ok total) = lines_of w total deadline
+answer_text_of w deadline (Err r) = path_refusal r.no r.place
+
+abbrev pub refused_text_or : ℕ → Option Refusal → List ℕ → List ℕ
+refused_text_or segment (Some r) text = sheet_refusal segment r.no r.place
+refused_text_or segment None text = text
 
 -- a sheet is refused, that of the last segment; or what the path is answered
 unfoldable pub report_of : Way → BitPeriods → List ℕ
 unfolding answer_of lines_of
-report_of w deadline = cond w.refused (sheet_refusal w.segments w.no w.place) (answer_text_of w deadline (answer_of w deadline.0))
+report_of w deadline = refused_text_or w.segments w.refused (answer_text_of w deadline (answer_of w deadline.0))
 
 unfoldable pub accepts_of : Way → BitPeriods → Bool
 unfolding answer_of

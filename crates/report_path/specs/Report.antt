@@ -6,10 +6,12 @@ use Rattle.sheet_rules.specs.Whole.Outcome.{Read, Not}
 use Rattle.units.specs.Units.{bp}
 use Rattle.units.specs.declared.BitPeriods.{BitPeriods}
 use Rattle.pnet_path.specs.Path.{Path, gateways, sheet_at, bound_at, sender_at, forwarding_at, crossed}
-use Rattle.pnet_crossing.specs.declared.Crossing.{Crossing}
-use Rattle.pnet_crossing.specs.declared.Crossing.TheVariants as crossing
 use Rattle.report_path_lines.specs.Lines.{sheet_refusal, path_refusal}
 use Rattle.report_path.specs.Told.{path_text}
+use Rattle.std.specs.declared.result.Result.TheVariants.{Ok, Err}
+use Rattle.common.specs.Checks.{refusal}
+use Rattle.std.specs.declared.result.Result.{Result}
+use Rattle.common.specs.declared.Refusal.{Refusal}
 
 -- ---- The text
 
@@ -18,9 +20,9 @@ unfoldable pub path_lines : Path → BitPeriods → List ℕ
 path_lines P total = path_text (sender_at P) (λ i. bp (bound_at P i)) (λ i. bp (forwarding_at P i)) (gateways P) total (bp P.deadline)
 
 -- what a path is answered whose sheets are all accepted: what it costs, which is the total, or its own refusal
-abbrev pub answer_text : Path → Crossing → List ℕ
-answer_text P (crossing.Within cost) = path_lines P cost
-answer_text P (crossing.Refused n p) = path_refusal n p
+abbrev pub answer_text : Path → Result BitPeriods Refusal → List ℕ
+answer_text P (Ok cost) = path_lines P cost
+answer_text P (Err r) = path_refusal r.no r.place
 
 -- the sheet of segment i is refused for itself, or what follows is told
 abbrev pub sheet_or : ℕ → Outcome → List ℕ → List ℕ
@@ -39,9 +41,9 @@ path_report P = report_from P P.segments 1
 
 -- ---- The verdict
 
-abbrev pub is_within : Crossing → Bool
-is_within (crossing.Within cost) = true
-is_within (crossing.Refused n p) = false
+abbrev pub is_within : Result BitPeriods Refusal → Bool
+is_within (Ok cost) = true
+is_within (Err r) = false
 
 -- no sheet is refused, nor the path for itself
 unfoldable pub path_accepts : Path → Bool

@@ -7,7 +7,7 @@ ghost use Rattle.text.specs.Text.{Zeros, Wrote, item, texts};
 ghost use Rattle.report_path.specs.Told.{most_path, hop_lines};
 ghost use Rattle.report_path.specs.Kept.{count_at, lines_of, report_of, accepts_of, told_in, run_with};
 
-use pnet_path::{Crossing, Way};
+use pnet_path::Way;
 use report_path_lines::{put_gateway, put_path_refusal, put_segment, put_sheet_refusal, put_total};
 use text::put_word;
 use units::BitPeriods;
@@ -76,15 +76,15 @@ pub fn report(out: &mut [u8], way: Way, deadline: BitPeriods) -> Reported
     if out.len() < MOST_TEXT {
         return Reported::NoRoom;
     }
-    if way.refused {
+    if let Some(refusal) = way.refused {
         let segment = way.segments as u64;
-        return Reported::Refused(put_sheet_refusal(out, segment, way.no, way.place as u64));
+        let place = refusal.place as u64;
+        return Reported::Refused(put_sheet_refusal(out, segment, refusal.no, place));
     }
-    let crossing = pnet_path::answer(way, deadline);
-    match crossing {
-        Crossing::Within(total) => Reported::Accepted(put_path(out, way, total, deadline)),
-        Crossing::Refused { no, place } => {
-            Reported::Refused(put_path_refusal(out, no, place as u64))
+    match pnet_path::answer(way, deadline) {
+        Ok(total) => Reported::Accepted(put_path(out, way, total, deadline)),
+        Err(refusal) => {
+            Reported::Refused(put_path_refusal(out, refusal.no, refusal.place as u64))
         }
     }
 }

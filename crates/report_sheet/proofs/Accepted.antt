@@ -15,7 +15,6 @@ use Rattle.sheet_rules.specs.Whole.Outcome.{Read, Not}
 use Rattle.pnet_plan.specs.Planned as pnet
 use Rattle.profibus_plan.specs.Planned as profibus
 use Rattle.profibus_plan.specs.declared.answer.Plan.{Plan}
-use Rattle.profibus_plan.specs.declared.answer.Plan.TheVariants as ring
 use Rattle.worldfip_figures.specs.Declares.{traffic_of}
 use Rattle.worldfip_plan.specs.Answer as fip
 use Rattle.text.specs.Text.{item}
@@ -23,6 +22,10 @@ use Rattle.report_phrases.specs.Phrases.{refused_text, refusal_text}
 use Rattle.report_lines.specs.Lines.{ring_text, table_head}
 use Rattle.report_sheet.specs.Whole.{segment_report, segment_accepts, ring_report, ring_accepts, table_text, table_of, table_by, table_report, table_accepts, first_bus, report_of, accepts}
 use Rattle.report_sheet.proofs.Alike.{own_bus, picks}
+use Rattle.std.specs.declared.result.Result.TheVariants.{Ok, Err}
+use Rattle.common.specs.Checks.{refusal}
+use Rattle.std.specs.declared.result.Result.{Result}
+use Rattle.common.specs.declared.Refusal.{Refusal}
 
 -- ---- Another bus's planner refuses it
 
@@ -53,11 +56,11 @@ or_none true = refl
 or_none false = refl
 
 -- the planner picked by k, which is the sheet's own bus wherever reading does not refuse
-taken_by : (k : ℕ) (o : Outcome) → ((S : Sheet) → o ≡ Read S → k ≡ bus_in S)
+unless : tt (k : ℕ) (o : Outcome) → ((S : Sheet) → o ≡ Read S → k ≡ bus_in S)
     → cond (eqb k 3) (ring_takes o) (cond (eqb k 5) (table_takes o) (segment_takes o)) ≡ (ring_takes o || (table_takes o || segment_takes o))
 unfolding ring_accepts table_accepts segment_accepts profibus.plan_of fip.plan_of
-taken_by k (Not n p) own = picks (eqb k 3) (eqb k 5) false
-taken_by k (Read S) own = split (eqb k 3) refl (eqb k 5) refl
+unless k tt (Not n p) own = picks (eqb k 3) (eqb k 5) false
+unless k tt (Read S) own = split (eqb k 3) refl (eqb k 5) refl
   where
     bus : k ≡ bus_in S
     bus = own S refl
@@ -71,7 +74,7 @@ taken_by k (Read S) own = split (eqb k 3) refl (eqb k 5) refl
 pub accepted_exactly : (s : List ℕ)
     → accepts s ≡ (ring_accepts (profibus.plan_of (reading s)) || (table_accepts (fip.plan_of (reading s) 4096) || segment_accepts (pnet.plan_of (pnet.planned s 32 32 32))))
 unfolding accepts pnet.planned
-accepted_exactly s = taken_by (first_bus s) (reading s) (own_bus s)
+accepted_exactly s = unless (first_bus s) tt (reading s) (own_bus s)
 
 -- ---- The report says the same
 
@@ -89,10 +92,10 @@ unfolding segment_accepts segment_report
 segment_agrees (Read H) = Agrees.accepted refl
 segment_agrees (Not n p) = Agrees.refused n p
 
-ring_agrees : (p : Plan) → Agrees (ring_accepts p) (ring_report p)
+ring_agrees : (p : Result Plan Refusal) → Agrees (ring_accepts p) (ring_report p)
 unfolding ring_accepts ring_report ring_text
-ring_agrees (ring.Target rotation stream) = Agrees.accepted refl
-ring_agrees (ring.Refused n p) = Agrees.refused n p
+ring_agrees (Ok x) = Agrees.accepted refl
+ring_agrees (Err r) = Agrees.refused r.no r.place
 
 table_agrees : (o : Outcome) → Agrees (table_accepts (fip.plan_of o 4096)) (table_report o)
 unfolding fip.plan_of table_accepts table_report table_of table_text table_head

@@ -31,9 +31,10 @@ use Rattle.profibus_plan.specs.Planned.{plan_of as ring_plan}
 use Rattle.worldfip_rules.specs.Traffic.{Traffic, slots, rows, miss_of, missing_of}
 use Rattle.worldfip_figures.specs.Declares.{traffic_of}
 use Rattle.worldfip_plan.specs.Answer as fip
-use Rattle.worldfip_plan.specs.declared.answer.Plan.TheVariants as answer
 use Rattle.report_phrases.specs.Phrases.{refusal_text}
 use Rattle.report_sheet.specs.Whole.{segment_report, segment_accepts, ring_report, ring_accepts, table_report, table_accepts, first_bus, report_of, accepts, answer_of}
+use Rattle.std.specs.declared.result.Result.TheVariants.{Ok, Err}
+use Rattle.common.specs.Checks.{refusal}
 
 -- the report is made from that bus and the reading
 report_by : ℕ → Outcome → List ℕ
@@ -173,7 +174,7 @@ no_13_segment s p e = by (reading s) refl e
         (refused H (verdict (plan_checks H 32 32 32)) f)
 
 -- 4,096 places hold every table
-pub no_13_table : (s : List ℕ) (p : ℕ) → fip.plan_of (reading s) 4096 ≡ answer.Refused 13 p → ⊥
+pub no_13_table : (s : List ℕ) (p : ℕ) → fip.plan_of (reading s) 4096 ≡ Err (refusal 13 p) → ⊥
 unfolding fip.plan_of fip.plan_checks verdict
 no_13_table s p e = by (reading s) refl e
   where
@@ -184,11 +185,11 @@ no_13_table s p e = by (reading s) refl e
     checks false false false true x y f = omega (arith, same_number f)
     checks false false false false x y f = passed_not f
 
-    refused : (T : Traffic) (v : Verdict) → fip.plan_by v T ≡ answer.Refused 13 p → v ≡ Refused 13 p
+    refused : (T : Traffic) (v : Verdict) → fip.plan_by v T ≡ Err (refusal 13 p) → v ≡ Refused 13 p
     refused T Passed f = let z : ◌≡◌ {A = ℕ} 0 1 = cc in absurd (omega arith)
     refused T (Refused n q) f = cc
 
-    by : (o : Outcome) → reading s ≡ o → fip.plan_of o 4096 ≡ answer.Refused 13 p → ⊥
+    by : (o : Outcome) → reading s ≡ o → fip.plan_of o 4096 ≡ Err (refusal 13 p) → ⊥
     by (Not n q) r f = let k : n ≡ 13 = cc in ⊎_elim (λ (l : n ≤ 7). omega arith) (λ (e : n ≡ 20). omega arith) (numbers_given s (given_then s n q r)).1
     by (Read S) r f =
         let T = traffic_of S in

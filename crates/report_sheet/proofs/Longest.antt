@@ -22,7 +22,6 @@ use Rattle.pnet_rules.specs.Segment.{segment_of}
 use Rattle.pnet_plan.specs.Planned.{planned}
 use Rattle.profibus_plan.specs.Planned.{plan_of}
 use Rattle.profibus_plan.specs.declared.answer.Plan.{Plan}
-use Rattle.profibus_plan.specs.declared.answer.Plan.TheVariants as ring
 use Rattle.worldfip_rules.specs.Traffic.{microcycle, slots, rows, row_of, variable_of, identifier_at}
 use Rattle.worldfip_figures.specs.Declares.{variable_at, traffic_of}
 use Rattle.worldfip_plan.specs.Answer.{plan_checks}
@@ -33,6 +32,10 @@ use Rattle.units.specs.Units.{us}
 use Rattle.report_sheet.proofs.Lengths.{Small, masters_most, ring_most, table_most, refusal_most}
 use Rattle.report_sheet.proofs.Segments.{masters_few}
 use Rattle.report_sheet.proofs.Tables.{table_passed}
+use Rattle.std.specs.declared.result.Result.TheVariants.{Ok, Err}
+use Rattle.common.specs.Checks.{refusal}
+use Rattle.std.specs.declared.result.Result.{Result}
+use Rattle.common.specs.declared.Refusal.{Refusal}
 
 -- ---- Identifiers have 16 bits
 
@@ -69,10 +72,10 @@ segment_longest s (Read H) e =
     omega (arith, masters_most (segment_of H))
 segment_longest s (Not n p) e = omega (arith, refusal_most n p)
 
-ring_longest : (p : Plan) → length (ring_report p) ≤ most_text
+ring_longest : (p : Result Plan Refusal) → length (ring_report p) ≤ most_text
 unfolding ring_report
-ring_longest (ring.Target rotation stream) = omega (arith, ring_most rotation stream)
-ring_longest (ring.Refused n p) = omega (arith, refusal_most n p)
+ring_longest (Ok x) = omega (arith, ring_most x.rotation x.stream)
+ring_longest (Err r) = omega (arith, refusal_most r.no r.place)
 
 table_longest : (s : List ℕ) (o : Outcome) → reading s ≡ o → length (table_report o) ≤ most_text
 unfolding table_report table_of

@@ -18,13 +18,14 @@ use Rattle.pnet_rules.specs.Segment.{Segment, segment_of, bound}
 use Rattle.pnet_rules.specs.Refined.{refined, rounds}
 use Rattle.pnet_rules.proofs.Holds.{silent_by_bound}
 use Rattle.pnet_plan.specs.Planned.{plan_checks, planned_by, planned, plan_of, at_place, run_of}
-use Rattle.pnet_plan.specs.declared.answer.Plan.TheVariants as answer
 use Rattle.text.proofs.Writing.{texts_same}
 use Rattle.text.specs.Text.{word, item}
 use Rattle.report_phrases.specs.Phrases.{refusal_text}
 use Rattle.report_lines.specs.Lines.{master_text}
 use Rattle.report_sheet.specs.Arrays.{master_at, segment_text}
 use Rattle.report_sheet.specs.Whole.{master_of, masters_of, segment_report}
+use Rattle.std.specs.declared.result.Result.TheVariants.{Ok, Err}
+use Rattle.common.specs.Checks.{refusal}
 
 -- ---- From the runs to the segment
 
@@ -75,18 +76,18 @@ segment_lines H R W M r w k er ew em =
     (ap (λ (l : List ℕ). item l i) em ∙ filled_at (at_place (rounds S)) N i k h)))
 
 -- the report of an accepted sheet, from the runs
-pub segment_of_runs : (s : List ℕ) (n m : ℕ) (R W M r w k : List ℕ) → answer.Accepted n m ≡ plan_of (planned s 32 32 32)
+pub segment_of_runs : (s : List ℕ) (n m : ℕ) (R W M r w k : List ℕ) → Ok (record { masters = n; streams = m }) ≡ plan_of (planned s 32 32 32)
     → R ≡ run_of (planned s 32 32 32) bound r → W ≡ run_of (planned s 32 32 32) refined w → M ≡ run_of (planned s 32 32 32) rounds k
     → (n ≤ 32) × (segment_text (item R) (item W) (item M) n ≡ segment_report (planned s 32 32 32))
 segment_of_runs s n m R W M r w k e er ew em = by (planned s 32 32 32) refl e er ew em
   where
-    by : (o : Outcome) → planned s 32 32 32 ≡ o → answer.Accepted n m ≡ plan_of o → R ≡ run_of o bound r → W ≡ run_of o refined w → M ≡ run_of o rounds k
+    by : (o : Outcome) → planned s 32 32 32 ≡ o → Ok (record { masters = n; streams = m }) ≡ plan_of o → R ≡ run_of o bound r → W ≡ run_of o refined w → M ≡ run_of o rounds k
         → (n ≤ 32) × (segment_text (item R) (item W) (item M) n ≡ segment_report o)
     by (Read H) q a rr ww mm = let same : n ≡ H.head.a = cc in (omega (arith, masters_few s H q), rw same (segment_lines H R W M r w k rr ww mm))
     by (Not x p) q a rr ww mm = let z : ◌≡◌ {A = ℕ} 0 1 = cc in absurd (omega arith)
 
 -- and of a refused one
-pub segment_refused : (o : Outcome) (n p : ℕ) → answer.Refused n p ≡ plan_of o → segment_report o ≡ refusal_text n p
+pub segment_refused : (o : Outcome) (n p : ℕ) → Err (refusal n p) ≡ plan_of o → segment_report o ≡ refusal_text n p
 unfolding segment_report
 segment_refused (Read H) n p e = let z : ◌≡◌ {A = ℕ} 0 1 = cc in absurd (omega arith)
 segment_refused (Not x y) n p e = cc

@@ -21,12 +21,13 @@ use Rattle.worldfip_rules.specs.Traffic.{microcycle, slots, rows, row_of, identi
 use Rattle.worldfip_figures.specs.Declares.{traffic_of}
 use Rattle.worldfip_figures.specs.Figures.{identifier_of}
 use Rattle.worldfip_plan.specs.Answer.{plan_checks, plan_by, plan_of, run_by, run_of}
-use Rattle.worldfip_plan.specs.declared.answer.Plan.TheVariants as answer
 use Rattle.text.specs.Text.{item}
 use Rattle.report_phrases.specs.Phrases.{refusal_text}
 use Rattle.report_lines.specs.Lines.{name_text, name_at, row_line, table_head}
 use Rattle.report_sheet.specs.Whole.{table_of, table_by, table_report, row_at, table_text}
 use Rattle.text.proofs.Writing.{texts_same}
+use Rattle.std.specs.declared.result.Result.TheVariants.{Ok, Err}
+use Rattle.common.specs.Checks.{refusal}
 
 -- identifiers that agree at the 64 ranks name a row alike
 row_same : (m row : ℕ) (f g : ℕ → ℕ) → ((r : ℕ) → r < 64 → f r ≡ g r) → row_line m row f ≡ row_line m row g
@@ -55,13 +56,13 @@ table_lines S R N old k er en =
     (λ r l. ap (λ (x : List ℕ). item x r) en ∙ (get_d_tab (identifier_of (Read S)) 64 r l ∙ simp (eq-eqb (bus_in S) 5 k)))))
 
 -- the report of an accepted sheet, from the run and the identifiers
-pub table_of_run : (o : Outcome) (c : Micros) (s n : ℕ) (R N old : List ℕ) → length old ≡ 4096 → answer.Accepted c s n ≡ plan_of o 4096 → R ≡ run_of o old
+pub table_of_run : (o : Outcome) (c : Micros) (s n : ℕ) (R N old : List ℕ) → length old ≡ 4096 → Ok (record { microcycle = c; slots = s; rows = n }) ≡ plan_of o 4096 → R ≡ run_of o old
     → N ≡ tab (identifier_of o) 64 → (n ≤ 4096) × (table_text c s n (item R) (item N) ≡ table_report o)
 unfolding plan_of run_of table_report
 table_of_run (Not x p) c s n R N old l a er en = let z : ◌≡◌ {A = ℕ} 0 1 = cc in absurd (omega arith)
 table_of_run (Read S) c s n R N old l a er en = by (verdict (plan_checks S 4096)) refl a (rw l at er)
   where
-    by : (v : Verdict) → verdict (plan_checks S 4096) ≡ v → answer.Accepted c s n ≡ plan_by v (traffic_of S) → R ≡ run_by v (traffic_of S) old
+    by : (v : Verdict) → verdict (plan_checks S 4096) ≡ v → Ok (record { microcycle = c; slots = s; rows = n }) ≡ plan_by v (traffic_of S) → R ≡ run_by v (traffic_of S) old
         → (n ≤ 4096) × (table_text c s n (item R) (item N) ≡ table_by v (traffic_of S))
     by Passed q b r =
         let ec : c ≡ us (microcycle (traffic_of S)) = cc in
@@ -72,11 +73,11 @@ table_of_run (Read S) c s n R N old l a er en = by (verdict (plan_checks S 4096)
     by (Refused x p) q b r = let z : ◌≡◌ {A = ℕ} 0 1 = cc in absurd (omega arith)
 
 -- and of a refused one
-pub table_refused : (o : Outcome) (n p : ℕ) → answer.Refused n p ≡ plan_of o 4096 → table_report o ≡ refusal_text n p
+pub table_refused : (o : Outcome) (n p : ℕ) → Err (refusal n p) ≡ plan_of o 4096 → table_report o ≡ refusal_text n p
 unfolding plan_of table_report
 table_refused (Not x y) n p e = cc
 table_refused (Read S) n p e = by (verdict (plan_checks S 4096)) e
   where
-    by : (v : Verdict) → answer.Refused n p ≡ plan_by v (traffic_of S) → table_by v (traffic_of S) ≡ refusal_text n p
+    by : (v : Verdict) → Err (refusal n p) ≡ plan_by v (traffic_of S) → table_by v (traffic_of S) ≡ refusal_text n p
     by Passed b = let z : ◌≡◌ {A = ℕ} 0 1 = cc in absurd (omega arith)
     by (Refused x y) b = cc

@@ -6,28 +6,30 @@ use Rattle.units.specs.Units.{bp, us}
 use Rattle.units.specs.declared.Micros.{Micros}
 use Rattle.sheet_record.specs.Kinds.{profibus, worldfip, bus_of}
 use Rattle.sheet_reader.specs.Walk.{found_of}
-use Rattle.sheet_reader.specs.declared.Found.{Found}
-use Rattle.sheet_reader.specs.declared.Found.TheVariants as found
 use Rattle.sheet_rules.specs.Whole.{Outcome, reading}
 use Rattle.sheet_rules.specs.Whole.Outcome.{Read, Not}
 use Rattle.pnet_rules.specs.Segment.{Segment, segment_of, count, bound}
 use Rattle.pnet_rules.specs.Refined.{refined, rounds}
 use Rattle.pnet_plan.specs.Planned.{planned, plan_of as segment_plan}
 use Rattle.pnet_plan.specs.declared.answer.Plan.{Plan as SegmentPlan}
-use Rattle.pnet_plan.specs.declared.answer.Plan.TheVariants as segment
 use Rattle.profibus_plan.specs.Planned.{plan_of as ring_plan}
 use Rattle.profibus_plan.specs.declared.answer.Plan.{Plan as RingPlan}
-use Rattle.profibus_plan.specs.declared.answer.Plan.TheVariants as ring
 use Rattle.worldfip_rules.specs.Traffic.{Traffic, microcycle, slots, rows, row_of, identifier_at}
 use Rattle.worldfip_figures.specs.Declares.{traffic_of}
 use Rattle.worldfip_plan.specs.Answer.{plan_checks, plan_of as table_plan}
 use Rattle.worldfip_plan.specs.declared.answer.Plan.{Plan as TablePlan}
-use Rattle.worldfip_plan.specs.declared.answer.Plan.TheVariants as table
 use Rattle.report_sheet.specs.declared.Reported.{Reported}
 use Rattle.report_sheet.specs.declared.Reported.TheVariants as answer
 use Rattle.text.specs.Text.{word, ◌·◌, texts}
 use Rattle.report_phrases.specs.Phrases.{refusal_text}
 use Rattle.report_lines.specs.Lines.{master_line, ring_text, row_line, table_head}
+use Rattle.std.specs.declared.result.Result.TheVariants.{Ok, Err}
+use Rattle.common.specs.Checks.{refusal}
+use Rattle.std.specs.declared.result.Result.{Result}
+use Rattle.common.specs.declared.Refusal.{Refusal}
+use Rattle.std.specs.declared.option.Option.{Option}
+use Rattle.std.specs.declared.option.Option.TheVariants.{Some, None}
+use Rattle.sheet_record.specs.declared.Met.{Met}
 
 -- no report is longer
 abbrev pub most_text : ℕ
@@ -48,19 +50,19 @@ unfoldable pub segment_report : Outcome → List ℕ
 segment_report (Read H) = word "P-NET segment\n" · masters_of (segment_of H)
 segment_report (Not n p) = refusal_text n p
 
-unfoldable pub segment_accepts : SegmentPlan → Bool
-segment_accepts (segment.Accepted masters streams) = true
-segment_accepts (segment.Refused n p) = false
+unfoldable pub segment_accepts : Result SegmentPlan Refusal → Bool
+segment_accepts (Ok x) = true
+segment_accepts (Err r) = false
 
 -- ---- PROFIBUS
 
-unfoldable pub ring_report : RingPlan → List ℕ
-ring_report (ring.Target rotation stream) = ring_text rotation stream
-ring_report (ring.Refused n p) = refusal_text n p
+unfoldable pub ring_report : Result RingPlan Refusal → List ℕ
+ring_report (Ok x) = ring_text x.rotation x.stream
+ring_report (Err r) = refusal_text r.no r.place
 
-unfoldable pub ring_accepts : RingPlan → Bool
-ring_accepts (ring.Target rotation stream) = true
-ring_accepts (ring.Refused n p) = false
+unfoldable pub ring_accepts : Result RingPlan Refusal → Bool
+ring_accepts (Ok x) = true
+ring_accepts (Err r) = false
 
 -- ---- WorldFIP
 
@@ -84,17 +86,17 @@ unfoldable pub table_report : Outcome → List ℕ
 table_report (Read S) = table_by (verdict (plan_checks S 4096)) (traffic_of S)
 table_report (Not n p) = refusal_text n p
 
-unfoldable pub table_accepts : TablePlan → Bool
-table_accepts (table.Accepted microcycle slots rows) = true
-table_accepts (table.Refused n p) = false
+unfoldable pub table_accepts : Result TablePlan Refusal → Bool
+table_accepts (Ok x) = true
+table_accepts (Err r) = false
 
 -- ---- Any sheet
 
 -- the kind of the record that stands at the first byte; 0 where none does
-abbrev pub kind_of : Found → ℕ
-kind_of (found.One r next) = r.kind
-kind_of (found.Refused n p) = 0
-kind_of found.End = 0
+abbrev pub kind_of : Option (Result Met Refusal) → ℕ
+kind_of (Some (Ok m)) = m.found.kind
+kind_of (Some (Err r)) = 0
+kind_of None = 0
 
 -- its bus
 unfoldable pub first_bus : List ℕ → ℕ

@@ -12,6 +12,7 @@ ghost use Rattle.report_sheet.specs.Arrays.{master_at, segment_text};
 ghost use Rattle.report_sheet.specs.Stored.{Reports};
 ghost use Rattle.report_sheet.specs.Whole.{most_text, segment_report, segment_accepts, ring_report, ring_accepts, row_at, table_text, table_report, table_accepts, first_bus, report_of, accepts, answer_of, run_of};
 
+use common::Refusal;
 use report_lines::{put_head, put_master, put_ring, put_row};
 use report_phrases::put_refusal;
 use text::put_word;
@@ -73,10 +74,10 @@ fn put_segment(out: &mut [u8], bound: &[u32], refined: &[u32], rounds: &[u32], n
 }
 
 // Of a refused sheet, its refusal is the whole report.
-fn refuse(out: &mut [u8], no: u8, place: usize) -> Reported
-    ensures { Reports out.old (refusal_text no place) false out.new result }
+fn refuse(out: &mut [u8], refusal: Refusal) -> Reported
+    ensures { Reports out.old (refusal_text refusal.no refusal.place) false out.new result }
 {
-    Reported::Refused(put_refusal(out, 0, no, place as u64))
+    Reported::Refused(put_refusal(out, 0, refusal.no, refusal.place as u64))
 }
 
 // 32 places hold every segment, so 13 never shows.
@@ -87,11 +88,8 @@ fn segment_report(s: &[u8], out: &mut [u8]) -> Reported
     let mut refined = [0u32; 32];
     let mut rounds = [0u32; 32];
     match pnet_plan::plan(s, &mut bound, &mut refined, &mut rounds) {
-        pnet_plan::Plan::Accepted {
-            masters,
-            streams: _,
-        } => Reported::Accepted(put_segment(out, &bound, &refined, &rounds, masters)),
-        pnet_plan::Plan::Refused { no, place } => refuse(out, no, place),
+        Ok(plan) => Reported::Accepted(put_segment(out, &bound, &refined, &rounds, plan.masters)),
+        Err(refusal) => refuse(out, refusal),
     }
 }
 
@@ -99,13 +97,8 @@ fn ring_report(s: &[u8], out: &mut [u8]) -> Reported
     ensures { Reports out.old (ring_report (ring_plan (reading s.now))) (ring_accepts (ring_plan (reading s.now))) out.new result }
 {
     match profibus_plan::plan(s) {
-        profibus_plan::Plan::Target { rotation, stream } => Reported::Accepted(put_ring(
-            out,
-            0,
-            rotation,
-            stream as u64,
-        )),
-        profibus_plan::Plan::Refused { no, place } => refuse(out, no, place),
+        Ok(plan) => Reported::Accepted(put_ring(out, 0, plan.rotation, plan.stream as u64)),
+        Err(refusal) => refuse(out, refusal),
     }
 }
 
@@ -144,15 +137,18 @@ fn table_report(s: &[u8], out: &mut [u8]) -> Reported
 {
     let mut table = [0u64; 4096];
     match worldfip_plan::plan(s, &mut table) {
-        worldfip_plan::Plan::Accepted {
-            microcycle,
-            slots,
-            rows,
-        } => {
+        Ok(plan) => {
             let names = worldfip_figures::identifiers(s);
-            Reported::Accepted(put_table(out, microcycle, slots, rows, &table, &names))
+            Reported::Accepted(put_table(
+                out,
+                plan.microcycle,
+                plan.slots,
+                plan.rows,
+                &table,
+                &names,
+            ))
         }
-        worldfip_plan::Plan::Refused { no, place } => refuse(out, no, place),
+        Err(refusal) => refuse(out, refusal),
     }
 }
 
@@ -174,9 +170,8 @@ fn first_bus(s: &[u8]) -> u8
     ensures { result ≡ first_bus s.now }
 {
     match sheet_reader::first(s) {
-        sheet_reader::Found::One { record, next: _ } => sheet_record::bus_of(record.kind),
-        sheet_reader::Found::Refused { no: _, place: _ } => 0,
-        sheet_reader::Found::End => 0,
+        Some(Ok(met)) => sheet_record::bus_of(met.found.kind),
+        Some(Err(_)) | None => 0,
     }
 }
 

@@ -21,13 +21,14 @@ use Rattle.pnet_bounds.specs.Bounded.{bound_of, master_of, stream_run}
 use Rattle.pnet_urgent_rules.specs.Urgent.{place, figure, rounds}
 use Rattle.pnet_urgent_rules.specs.Planned.{urgently}
 use Rattle.pnet_urgent_rules.proofs.Cases.{urgently_declared}
-use Rattle.pnet_urgent_streams.specs.declared.answer.Listed.TheVariants as listed
 use Rattle.pnet_urgent_streams.specs.Listed.{deadline_of, late_bound, listed_of}
 use Rattle.report_phrases.specs.Phrases.{refusal_text}
 use Rattle.report_faults.proofs.Same.{Agree}
 use Rattle.report_urgent_lines.specs.Lines.{late_line, late_text, stream_at, urgent_text}
 use Rattle.report_urgent_lines.proofs.Same.{urgent_same}
 use Rattle.report_urgent.specs.Whole.{streams_text, urgent_report, urgent_accepts, answer_text, is_read}
+use Rattle.std.specs.declared.result.Result.TheVariants.{Ok, Err}
+use Rattle.common.specs.Checks.{refusal}
 
 -- numbers of streams begin with 1
 late_from : (S : Segment) → 1 ≤ first_late S
@@ -81,7 +82,7 @@ module _ (s : List ℕ) (H : Sheet) (e : urgently s 800 ≡ Read H) where
 module _ (s masters places figures rounds' deadlines old : List ℕ) where
   -- the text that is made of it, and the verdict
   abbrev Said : Outcome → Type 0
-  Said o = (number late' : ℕ) (bound : BitPeriods) → listed_of o ≡ listed.Accepted number late' bound → masters ≡ stream_run o master_of old
+  Said o = (number late' : ℕ) (bound : BitPeriods) → listed_of o ≡ Ok (record { streams = number; late = late'; bound = bound }) → masters ≡ stream_run o master_of old
       → places ≡ stream_run o place old → figures ≡ stream_run o figure old → rounds' ≡ stream_run o rounds old → deadlines ≡ stream_run o deadline_of old
       → (urgent_text (item masters) (item places) (item figures) (item rounds') (item deadlines) late' bound (min number 800) ≡ urgent_report s) × (urgent_accepts s ≡ true)
 
@@ -97,12 +98,12 @@ module _ (s masters places figures rounds' deadlines old : List ℕ) where
           let there : bound ≡ bp (late_bound (segment_of H)) = cc in
           (rw (count, first, there) (accepted_text s H e masters places figures rounds' deadlines old m p x r d), ap is_read e)
 
-pub refused_told : (s : List ℕ) (k q : ℕ) → listed_of (urgently s 800) ≡ listed.Refused k q → (urgent_report s ≡ refusal_text k q) × (urgent_accepts s ≡ false)
+pub refused_told : (s : List ℕ) (k q : ℕ) → listed_of (urgently s 800) ≡ Err (refusal k q) → (urgent_report s ≡ refusal_text k q) × (urgent_accepts s ≡ false)
 unfolding urgent_report urgent_accepts
 refused_told s k q l =
     let e = by (urgently s 800) l in
     (ap answer_text e, ap is_read e)
   where
-    by : (o : Outcome) → listed_of o ≡ listed.Refused k q → o ≡ Not k q
+    by : (o : Outcome) → listed_of o ≡ Err (refusal k q) → o ≡ Not k q
     by (Read H) f = let z : ◌≡◌ {A = ℕ} 0 1 = cc in absurd (omega arith)
     by (Not a b) f = cc

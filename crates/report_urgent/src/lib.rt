@@ -7,7 +7,7 @@ ghost use Rattle.text.specs.Text.{over};
 ghost use Rattle.report_urgent.specs.Stored.{told};
 ghost use Rattle.report_urgent.specs.Whole.{urgent_report, urgent_accepts};
 
-use pnet_urgent_streams::Listed;
+use common::Refusal;
 use report_urgent_lines::MOST_TEXT;
 use sheet_read::MOST;
 
@@ -19,10 +19,11 @@ pub enum Reported {
 }
 
 // Of a refused sheet, its refusal is the whole report.
-fn refuse(out: &mut [u8; MOST_TEXT], no: u8, place: usize) -> usize
-    ensures { (result ≡ length (refusal_text no place)) × (out.new ≡ over (refusal_text no place) out.old) }
+fn refuse(out: &mut [u8; MOST_TEXT], refusal: Refusal) -> usize
+    ensures { let text = refusal_text refusal.no refusal.place in
+        (result ≡ length text) × (out.new ≡ over text out.old) }
 {
-    report_phrases::put_refusal(out, 0, no, place as u64)
+    report_phrases::put_refusal(out, 0, refusal.no, refusal.place as u64)
 }
 
 // Writes the report at the start of the lent run.
@@ -43,13 +44,17 @@ pub fn report(s: &[u8], out: &mut [u8; MOST_TEXT]) -> Reported
         &mut rounds,
         &mut deadlines,
     ) {
-        Listed::Accepted {
-            streams,
-            late,
-            bound,
-        } => Reported::Accepted(report_urgent_lines::put_urgent(
-            out, streams, &masters, &places, &figures, &rounds, &deadlines, late, bound,
+        Ok(listed) => Reported::Accepted(report_urgent_lines::put_urgent(
+            out,
+            listed.streams,
+            &masters,
+            &places,
+            &figures,
+            &rounds,
+            &deadlines,
+            listed.late,
+            listed.bound,
         )),
-        Listed::Refused { no, place } => Reported::Refused(refuse(out, no, place)),
+        Err(refusal) => Reported::Refused(refuse(out, refusal)),
     }
 }

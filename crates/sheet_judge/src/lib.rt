@@ -3,27 +3,35 @@
 
 ghost use Rattle.std.specs.Prelude.{◌≡◌, ◌&&◌, eqb, get_or};
 ghost use Rattle.sheet_record.specs.Kinds.{pnet, known, is_stream_of, in_range, stream_met};
+ghost use Rattle.common.specs.Checks.{unless_no};
 ghost use Rattle.sheet_judge.specs.Own.{own_no, as_bus};
 
+use common::Refusal;
 use sheet_record::{Given, Met, Record};
 
-// The refusal of a record by itself, in the order 2, 3, 1, 4; 0 if there is none.
-pub fn own_no(kind: u8, right: bool, whole: bool, ranged: bool) -> u8
-    ensures { result ≡ own_no (known kind) right whole ranged }
+// Judges a record at a place by itself: refused with 2, 3, 1 or 4, in this order.
+pub fn judge(
+    kind: u8,
+    right: bool,
+    whole: bool,
+    ranged: bool,
+    place: usize,
+) -> Result<(), Refusal>
+    ensures { result ≡ unless_no (own_no (known kind) right whole ranged) place }
 {
     if !sheet_record::known(kind) {
-        return 2;
+        return Err(Refusal { no: 2, place });
     }
     if !right {
-        return 3;
+        return Err(Refusal { no: 3, place });
     }
     if !whole {
-        return 1;
+        return Err(Refusal { no: 1, place });
     }
     if !ranged {
-        return 4;
+        return Err(Refusal { no: 4, place });
     }
-    0
+    Ok(())
 }
 
 // A stream of a bus is of this kind. A number that is no bus counts for WorldFIP here and below: with an arm for it, the planners were slower.

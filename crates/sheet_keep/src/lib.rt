@@ -2,9 +2,11 @@
 #![tactic(auto)]
 
 ghost use Rattle.std.specs.Prelude.{◌≡◌, ◌≤◌, max};
+ghost use Rattle.common.specs.Checks.{unless_no};
 ghost use Rattle.sheet_keep.specs.Steps;
 ghost use Rattle.sheet_keep.specs.Steps.{late_no, counts_with, longests_with, ids_with};
 
+use common::Refusal;
 use sheet_record::Record;
 
 // No sheet of P-NET or PROFIBUS has more streams.
@@ -25,28 +27,34 @@ fn among(x: u32, n: usize, ids: &[u32; 64]) -> bool
     false
 }
 
-// The refusal of a stream by the n before it: one too many, or an identifier met before; 0 if there is none.
-pub fn late_no(counts: &[u8; 33], ids: &[u32; 64], n: usize, r: Record) -> u8
+// Judges a stream at a place by the n before it: refused with 5 where it is one too many, with 7 where its identifier was met before.
+pub fn judge(
+    counts: &[u8; 33],
+    ids: &[u32; 64],
+    n: usize,
+    r: Record,
+    place: usize,
+) -> Result<(), Refusal>
     requires { (r.kind ≡ 6 → ⊥) → r.a ≤ 32 }
-    ensures { result ≡ late_no counts.now ids.now n r }
+    ensures { result ≡ unless_no (late_no counts.now ids.now n r) place }
 {
     if r.kind == 6 {
         if 64 <= n {
-            return 5;
+            return Err(Refusal { no: 5, place });
         }
         if among(r.a, n, ids) {
-            return 7;
+            return Err(Refusal { no: 7, place });
         }
-        return 0;
+        return Ok(());
     }
     if MOST <= n {
-        return 5;
+        return Err(Refusal { no: 5, place });
     }
     let master = r.a as usize;
     if 80 <= counts[master] {
-        return 5;
+        return Err(Refusal { no: 5, place });
     }
-    0
+    Ok(())
 }
 
 fn larger(a: u32, b: u32) -> u32

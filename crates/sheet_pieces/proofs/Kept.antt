@@ -14,7 +14,6 @@ use Rattle.sheet_record.specs.Kinds.{known, written, size_of, encode}
 use Rattle.sheet_record.proofs.Numbers.{length_pasted, pasted_front}
 use Rattle.sheet_record.proofs.Tables.{both_true, size_at_most}
 use Rattle.sheet_record.proofs.Parts.{written_is}
-use Rattle.sheet_write.specs.declared.Put.{Put}
 use Rattle.sheet_write.specs.Writing.{free_answer, free_bytes}
 use Rattle.sheet_write.proofs.Trips.{length_encode}
 use Rattle.sheet_write.proofs.Writing.{room_free}
@@ -26,6 +25,8 @@ use Rattle.sheet_rules.proofs.Lengths.{enough_is, longest_sheet_is, length_at_mo
 use Rattle.sheet_line.specs.Lines.{has_word}
 use Rattle.sheet_line.proofs.Lines.{known_but_3}
 use Rattle.sheet_pieces.specs.Steps.{room, place_after, kept_more, sheet_more}
+use Rattle.std.specs.declared.result.Result.{Result}
+use Rattle.common.specs.declared.Refusal.{Refusal}
 
 pub room_is : room ≡ 12836
 unfolding room
@@ -43,7 +44,7 @@ module _ (sheet : List ℕ) (at : ℕ) (r : Record) where
   keeps_none l = let e = le-ltb at enough l in (rw e, rw e)
 
   -- by what writing it answered
-  pub keeps_by : {p : Put} {sheet' : List ℕ} → at < enough → p ≡ free_answer (length sheet) at r → sheet' ≡ free_bytes sheet at r → KeptOne sheet at r (place_after p at) sheet'
+  pub keeps_by : {p : Result ℕ Refusal} {sheet' : List ℕ} → at < enough → p ≡ free_answer (length sheet) at r → sheet' ≡ free_bytes sheet at r → KeptOne sheet at r (place_after p at) sheet'
   unfolding kept_more sheet_more
   keeps_by l e q = let t = lt-ltb at enough l in (rw (t, e), rw (t, q))
 

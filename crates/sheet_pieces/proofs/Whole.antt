@@ -19,10 +19,12 @@ use Rattle.sheet_pieces.specs.Texts.Meaning.{Stands, Bad}
 use Rattle.sheet_pieces.specs.Steps.{State, started, room, next_line, line_ends, held_with, ended_with, stepped, steps, ended_as}
 use Rattle.sheet_pieces.specs.Comes.{Comes}
 use Rattle.sheet_pieces.specs.Comes.Comes.{stands, bad}
-use Rattle.sheet_pieces.specs.declared.Ended.{Ended}
-use Rattle.sheet_pieces.specs.declared.Ended.TheVariants as ending
 use Rattle.sheet_pieces.proofs.Held.{HeldOf, held_none, held_next, held_says}
 use Rattle.sheet_pieces.proofs.Kept.{KeptOf, kept_none, word_written, kept_next, kept_alike, kept_whole}
+use Rattle.std.specs.declared.result.Result.TheVariants.{Ok, Err}
+use Rattle.common.specs.Checks.{refusal}
+use Rattle.std.specs.declared.result.Result.{Result}
+use Rattle.common.specs.declared.Refusal.{Refusal}
 
 -- ---- Pieces
 
@@ -49,7 +51,7 @@ record BadAt (n : ℕ) (st : State) : Type 0 where
 
 bad_comes : {n : ℕ} {st : State} (t : List ℕ) → BadAt n st → Comes (steps st t) (Bad n)
 unfolding ended_as
-bad_comes {n} {st} t w = rw (bad_stays t st w.bad) (bad {n = n} (rw w.bad (ap ending.Bad w.line)))
+bad_comes {n} {st} t w = rw (bad_stays t st w.bad) (bad {n = n} (rw w.bad (ap Err (refusal 23 w.line))))
 
 -- ---- A line under way
 
@@ -65,10 +67,10 @@ under_start : (front sheet : List ℕ) → 96 ≤ length front → room ≤ leng
 under_start front sheet w m = record { going = refl; line = refl; clean = none; held = held_none front w; kept = kept_none sheet m }
 
 -- which of two ends a test picks
-when_true : {t : Bool} {x : Ended} (y : Ended) → t ≡ true → cond t x y ≡ x
+when_true : {t : Bool} {x : Result ℕ Refusal} (y : Result ℕ Refusal) → t ≡ true → cond t x y ≡ x
 when_true y e = rw e
 
-when_false : {t : Bool} (x : Ended) {y : Ended} → t ≡ false → cond t x y ≡ y
+when_false : {t : Bool} (x : Result ℕ Refusal) {y : Result ℕ Refusal} → t ≡ false → cond t x y ≡ y
 when_false x e = rw e
 
 module _ {n : ℕ} {o s : List ℕ} {st : State} (u : Under n o s st) where
@@ -81,14 +83,14 @@ module _ {n : ℕ} {o s : List ℕ} {st : State} (u : Under n o s st) where
       by true e =
           stands {k = st.taken.kept}
           (record {
-            ended = rw u.going (when_false (ending.Bad st.taken.line) (le-ltb _ st.taken.held (omega (arith, u.held.count, eqb-true (length o) 0 e))));
+            ended = rw u.going (when_false (Err (refusal 23 st.taken.line)) (le-ltb _ st.taken.held (omega (arith, u.held.count, eqb-true (length o) 0 e))));
             inside = u.kept.inside;
             alike = kept_alike u.kept;
             whole = kept_whole u.kept;
           })
       by false e =
           let some = eqb-false (length o) 0 e in
-          bad {n = n} (rw u.going (when_true (ending.Sheet st.taken.kept) (lt-ltb _ st.taken.held (omega (arith, u.held.count, u.held.wide, some))) ∙ ap ending.Bad u.line))
+          bad {n = n} (rw u.going (when_true (Ok st.taken.kept) (lt-ltb _ st.taken.held (omega (arith, u.held.count, u.held.wide, some))) ∙ ap Err (refusal 23 u.line)))
 
   module _ (b : ℕ) where
     -- a byte more of the line

@@ -2,14 +2,14 @@
 -- under way and the front of the sheet, each in a lent run. Words of the contracts of the steps; what they come to is in proofs/Whole. Assumes nothing.
 use Rattle.std.specs.Prelude.{ℕ, suc, ◌+◌, min, List, [], ◌∷◌, true, false, cond, ◌||◌, length, take, set, ltb, eqb}
 use Rattle.sheet_record.specs.declared.Record.{Record}
-use Rattle.sheet_write.specs.declared.Put.{Put}
-use Rattle.sheet_write.specs.declared.Put.TheVariants as put
 use Rattle.sheet_write.specs.Writing.{free_answer, free_bytes}
 use Rattle.sheet_rules.specs.Lengths.{longest_record, enough}
 use Rattle.sheet_said.specs.Said.{record_in}
 use Rattle.sheet_pieces.specs.declared.Taken.{Taken}
-use Rattle.sheet_pieces.specs.declared.Ended.{Ended}
-use Rattle.sheet_pieces.specs.declared.Ended.TheVariants as ending
+use Rattle.std.specs.declared.result.Result.TheVariants.{Ok, Err}
+use Rattle.std.specs.declared.result.Result.{Result}
+use Rattle.common.specs.declared.Refusal.{Refusal}
+use Rattle.common.specs.Checks.{refusal}
 
 -- a record more than what decides a sheet's reading
 unfoldable pub room : ℕ
@@ -40,9 +40,9 @@ front_with front h b = set front (holds front h) b
 
 -- ---- The front of the sheet
 
-abbrev pub place_after : Put → ℕ → ℕ
-place_after (put.Next n) at = n
-place_after (put.Refused m p) at = at
+abbrev pub place_after : Result ℕ Refusal → ℕ → ℕ
+place_after (Ok n) at = n
+place_after (Err r) at = at
 
 -- behind the bytes that decide its reading, no more is kept
 unfoldable pub kept_more : List ℕ → ℕ → Record → ℕ
@@ -97,5 +97,5 @@ steps st (b ∷ p) = steps (stepped st b) p
 -- ---- The end
 
 -- an unended last line is not of the form
-unfoldable pub ended_as : Taken → Ended
-ended_as t = cond (t.bad || ltb 0 t.held) (ending.Bad t.line) (ending.Sheet t.kept)
+unfoldable pub ended_as : Taken → Result ℕ Refusal
+ended_as t = cond (t.bad || ltb 0 t.held) (Err (refusal 23 t.line)) (Ok t.kept)

@@ -9,8 +9,8 @@ ghost use Rattle.sheet_pieces.specs.Steps.{started, room, held_more, front_with,
 
 use sheet_line::LINE;
 use sheet_record::Record;
+use common::Refusal;
 use sheet_said::record_in;
-use sheet_write::Put;
 
 // So many bytes decide how a sheet is read.
 const ENOUGH: usize = 12_820;
@@ -26,13 +26,6 @@ pub struct Taken {
     pub held: usize,
     pub kept: usize,
     pub bad: bool,
-}
-
-// What a text comes to: a sheet, of which so many bytes are kept; or the number of the first line that is not of the form.
-#[derive(Clone, Copy)]
-pub enum Ended {
-    Sheet(usize),
-    Bad(usize),
 }
 
 // Room for a line.
@@ -81,10 +74,7 @@ fn keep(sheet: &mut [u8], at: usize, r: Record) -> usize
     if ENOUGH <= at {
         return at;
     }
-    match sheet_write::put_free(sheet, at, r) {
-        Put::Next(next) => next,
-        Put::Refused { no: _, place: _ } => at,
-    }
+    sheet_write::put_free(sheet, at, r).unwrap_or(at)
 }
 
 fn next_line(n: usize) -> usize
@@ -157,12 +147,16 @@ pub fn take(piece: &[u8], t: Taken, front: &mut [u8], sheet: &mut [u8]) -> Taken
     taken
 }
 
-// What the text comes to whose last piece was taken.
-pub fn end(t: Taken) -> Ended
+// What the text comes to whose last piece was taken: a sheet, of which so many bytes are kept. Refused with 23 and the number of the first line that is not of the
+// form.
+pub fn end(t: Taken) -> Result<usize, Refusal>
     ensures { result ≡ ended_as t }
 {
     if t.bad | (0 < t.held) {
-        return Ended::Bad(t.line);
+        return Err(Refusal {
+            no: 23,
+            place: t.line,
+        });
     }
-    Ended::Sheet(t.kept)
+    Ok(t.kept)
 }

@@ -25,7 +25,6 @@ use Rattle.sheet_rules.specs.Sheets.{Sheet, sheet_of, head_of, given, message_of
 use Rattle.sheet_rules.specs.Whole.{place_of, records_of, before, judge, reading}
 use Rattle.sheet_read.specs.Told.{told}
 use Rattle.sheet_read.specs.Steps.{Begun, Opened, Settles}
-use Rattle.sheet_read.specs.declared.Reading.TheVariants as answer
 use Rattle.sheet_read.specs.declared.Settings.{Settings}
 use Rattle.sheet_rules.proofs.Walk.{head_at, place_next}
 use Rattle.sheet_rules.proofs.Cases.{PassesAt, Upto, passes_then, passes_if, upto_none, upto_more, stops_once, ended_empty}
@@ -34,6 +33,8 @@ use Rattle.sheet_read.proofs.Judged.{numbered, late_checks, own_at, wrong_at, ju
 use Rattle.sheet_rules.proofs.Order.{no_limits, given_none, nth, fits_first, edition_fits, message_fits, setting_only, empty_list, how_many, behind_first, adds_setting}
 use Rattle.sheet_rules.proofs.Openings.{counted, edition_first}
 use Rattle.sheet_read.proofs.Gathered.{of_every, same_for_all, same_past, lacks_nothing, Gives, gives_none, place_again, place_new, gives_more, lacks_told, counts_each, counts_past}
+use Rattle.std.specs.declared.result.Result.TheVariants.{Ok, Err}
+use Rattle.common.specs.Checks.{refusal}
 
 -- ---- A record by itself
 
@@ -51,7 +52,7 @@ unfolding numbered
 numbered_not zero p v h = absurd (h refl)
 numbered_not (suc n) p v h = refl
 
-pub told_refused : (s : List ℕ) (i x p : ℕ) → Upto s i → place_of s i < length s → judge s i ≡ Refused x p → answer.Refused x p ≡ told s (reading s)
+pub told_refused : (s : List ℕ) (i x p : ℕ) → Upto s i → place_of s i < length s → judge s i ≡ Refused x p → Err (refusal x p) ≡ told s (reading s)
 told_refused s i x p u l e = ap (told s) (sym (stops_once s (by_record i x p u l e refl)))
 
 -- behind no stream, no limit is met
@@ -88,7 +89,7 @@ module _ (s : List ℕ) (i own : ℕ) (is : own ≡ own_at s i) where
 
 -- ---- The first record
 
-pub told_empty : (s : List ℕ) → length s ≡ 0 → answer.Refused 1 0 ≡ told s (reading s)
+pub told_empty : (s : List ℕ) → length s ≡ 0 → Err (refusal 1 0) ≡ told s (reading s)
 unfolding place_of
 told_empty s e = ap (told s) (sym (stops_once s (at_end 0 (upto_none s) (sym e) refl) ∙ ended_empty s))
 
@@ -110,7 +111,7 @@ module _ {s : List ℕ} {met : Met} {ranged right : Bool} {own : ℕ} (m : Meets
   unfolding own_at place_of before records_of
   first_is = rw (m.is_own, m.is_ranged, m.is_met, m.is_right, own_met s 0, ← fits_first (get_or s 0 0), given_none (decode s 0).a) refl
 
-  pub refused_first : (own ≡ 0 → ⊥) → answer.Refused own 0 ≡ told s (reading s)
+  pub refused_first : (own ≡ 0 → ⊥) → Err (refusal own 0) ≡ told s (reading s)
   unfolding place_of
   refused_first h = told_refused s 0 own 0 (upto_none s) m.some (judged_own s 0 own first_is h)
 
@@ -175,7 +176,7 @@ module _ {s : List ℕ} {i at kind : ℕ} {g : Given} {met : Met} {ranged : Bool
       own_by ∙ (rw (m.is_at, m.is_given (nth s i) its_kind) (ap (λ (b : Bool).
       own_no (known (get_or s (place_of s i) 0)) b (leb (place_of s i + size_of (get_or s (place_of s i) 0)) (length s)) (in_range (given (before s i) (nth s i).a) (nth s i))) right_here))
 
-  pub refused_setting : (own ≡ 0 → ⊥) → answer.Refused own at ≡ told s (reading s)
+  pub refused_setting : (own ≡ 0 → ⊥) → Err (refusal own at) ≡ told s (reading s)
   refused_setting h = rw m.is_at (told_refused s i own (place_of s i) m.upto here (judged_own s i own own_is h))
 
   -- 20 is said of it where its master has one before
@@ -211,7 +212,7 @@ module _ {s : List ℕ} {i at kind : ℕ} {g : Given} {met : Met} {ranged : Bool
     pub setting_kind : met.found.kind ≡ kind
     setting_kind = ap (λ (r : Record). r.kind) setting_is ∙ its_kind
 
-    pub repeated_setting : repeated (before s i) met.found ≡ true → answer.Refused 20 at ≡ told s (reading s)
+    pub repeated_setting : repeated (before s i) met.found ≡ true → Err (refusal 20 at) ≡ told s (reading s)
     repeated_setting w =
         rw m.is_at
         (told_refused s i 20 (place_of s i) m.upto here (judged_wrong s i own own_is z (its_wrong ∙ (sym (ap (repeated (before s i)) setting_is) ∙ w))))
@@ -265,7 +266,7 @@ module _ {s : List ℕ} {head : Record} {first : ℕ} (b : Begun s head first) (
       }
 
 -- the answer of a function that passes settings
-pub settles_refused : {s : List ℕ} {head : Record} {messages : List ℕ} (r : Settings) → (r.no ≡ 0 → ⊥) → answer.Refused r.no r.at ≡ told s (reading s) → Settles s head messages r
+pub settles_refused : {s : List ℕ} {head : Record} {messages : List ℕ} (r : Settings) → (r.no ≡ 0 → ⊥) → Err (refusal r.no r.at) ≡ told s (reading s) → Settles s head messages r
 settles_refused r h e = record { refused = λ n. e; opened = λ z. absurd (h z) }
 
 pub settles_opened : {s : List ℕ} {head : Record} {messages : List ℕ} (r : Settings) → r.no ≡ 0 → Opened s head r.at messages r.lacks → Settles s head messages r
@@ -416,7 +417,7 @@ module _ {s : List ℕ} {head : Record} {first : ℕ} {g : Given} {messages : Li
         (w.master.least, omega (arith, w.master.most, v.is_given, ring_masters), w.message.least)
 
     -- of one that has one
-    pub refused_again : (get_or messages met.found.a 0 ≡ 0 → ⊥) → answer.Refused 20 at ≡ told s (reading s)
+    pub refused_again : (get_or messages met.found.a 0 ≡ 0 → ⊥) → Err (refusal 20 at) ≡ told s (reading s)
     refused_again h = repeated_setting m z (place_again v.gives (before s (suc i)) met.found refl (setting_kind m z) of_master.1 h)
 
     pub gives_next : get_or messages met.found.a 0 ≡ 0 → Giving s head first g (set messages met.found.a met.found.b) (suc i) met.next

@@ -27,10 +27,9 @@ use Rattle.sheet_keep.proofs.Late.{not_late_variable}
 use Rattle.sheet_messages.specs.Messages.{message_at}
 use Rattle.sheet_rules.specs.Sheets.{Sheet, bus_in, given, message_of, fits, lacking, repeated, over_limit, met_before}
 use Rattle.sheet_rules.specs.Whole.{place_of, records_of, before, first_stream, judge, ended, reading, Outcome}
-use Rattle.sheet_read.specs.Told.{told, streams_of_master, longest_of_master, by_master, counts_told, longests_told, messages_told}
+use Rattle.sheet_read.specs.Told.{told, streams_of_master, longest_of_master, by_master, counts_told, longests_told, messages_told, accepted}
 use Rattle.sheet_rules.specs.Whole.Outcome.{Read, Not}
 use Rattle.sheet_read.specs.Steps.{Opened, given_to}
-use Rattle.sheet_read.specs.declared.Reading.TheVariants as answer
 use Rattle.sheet_rules.proofs.Walk.{head_at, place_next, place_from}
 use Rattle.sheet_rules.proofs.Cases.{Upto, passes_then, upto_more, upto_place, stops_once, ended_no_message, ended_no_stream, ended_sheet}
 use Rattle.sheet_rules.proofs.Cases.Stops.{at_end}
@@ -38,6 +37,8 @@ use Rattle.sheet_read.proofs.Judged.{numbered, late_checks, own_at, wrong_at}
 use Rattle.sheet_read.proofs.Kept.{Figures, Keeps, keeps_none, keeps_more, late_variable, late_stream, variable}
 use Rattle.sheet_rules.proofs.Order.{no_limits, given_none, given_same, nth, stream_of, fits_behind, setting_late, first_passes, head_some, empty_list, how_many, adds_stream}
 use Rattle.sheet_read.proofs.Begins.{own_passed, numbered_not, told_refused, judged_own, judged_wrong, judged_late}
+use Rattle.std.specs.declared.result.Result.TheVariants.{Ok, Err}
+use Rattle.common.specs.Checks.{refusal}
 
 -- ---- Masters
 
@@ -104,12 +105,12 @@ lacking_same S S' h e = rw (h, e)
 -- ---- What is handed over
 
 -- on a refusal the lent memory keeps what it had
-pub refused_keeps : (s : List ℕ) (no' place : ℕ) (o : Outcome) (counts longests messages : List ℕ) → answer.Refused no' place ≡ told s o
+pub refused_keeps : (s : List ℕ) (no' place : ℕ) (o : Outcome) (counts longests messages : List ℕ) → Err (refusal no' place) ≡ told s o
     → (counts ≡ counts_told o counts) × ((longests ≡ longests_told o longests) × (messages ≡ messages_told o messages))
 unfolding counts_told longests_told messages_told
 refused_keeps s no' place o counts longests messages e = (kept streams_of_master o counts e, (kept longest_of_master o longests e, kept message_of o messages e))
   where
-    kept : (figure : Sheet → ℕ → ℕ) (o' : Outcome) (old : List ℕ) → answer.Refused no' place ≡ told s o' → old ≡ by_master figure o' old
+    kept : (figure : Sheet → ℕ → ℕ) (o' : Outcome) (old : List ℕ) → Err (refusal no' place) ≡ told s o' → old ≡ by_master figure o' old
     kept figure (Read S) old q = let z : ◌≡◌ {A = ℕ} 0 1 = cc in absurd (omega arith)
     kept figure (Not n p) old q = refl
 
@@ -199,7 +200,7 @@ module _ {s : List ℕ} {head : Record} {first : ℕ} {messages : List ℕ} {lac
   unfolding own_at
   own_is = own_by ∙ (rw (m.reads.behind.is_at, right_is) refl)
 
-  pub refused_own : (own ≡ 0 → ⊥) → answer.Refused own at ≡ told s (reading s)
+  pub refused_own : (own ≡ 0 → ⊥) → Err (refusal own at) ≡ told s (reading s)
   refused_own h =
       rw m.reads.behind.is_at (told_refused s (suc i) own (place_of s (suc i)) m.reads.behind.upto here (judged_own s (suc i) own own_is h))
 
@@ -247,7 +248,7 @@ module _ {s : List ℕ} {head : Record} {first : ℕ} {messages : List ℕ} {lac
         let e : is_stream (nth s (suc i)).kind ≡ true = ap (λ (r : Record). is_stream r.kind) (sym stream_is) ∙ (stream_of (bus_of head.kind) met.found.kind its).0 in
         rw (ne_eqb (nth s (suc i)).kind 10 (no_message (nth s (suc i)).kind e), e, m.reads.behind.is_lacking) refl
 
-    pub refused_lacking : lacks ≡ true → answer.Refused 20 at ≡ told s (reading s)
+    pub refused_lacking : lacks ≡ true → Err (refusal 20 at) ≡ told s (reading s)
     refused_lacking w =
         rw m.reads.behind.is_at
         (told_refused s (suc i) 20 (place_of s (suc i)) m.reads.behind.upto here (judged_wrong s (suc i) own own_is z (its_wrong ∙ w)))
@@ -271,7 +272,7 @@ module _ {s : List ℕ} {head : Record} {first : ℕ} {messages : List ℕ} {lac
       judged_kept = judged_late s (suc i) own own_is z (its_wrong ∙ given-all) ∙ late_is
 
       module _ (late : ℕ) (is-late : late ≡ late_no counts ids n met.found) where
-        pub refused_late : (late ≡ 0 → ⊥) → answer.Refused late at ≡ told s (reading s)
+        pub refused_late : (late ≡ 0 → ⊥) → Err (refusal late at) ≡ told s (reading s)
         refused_late h =
             let g : judge s (suc i) ≡ Refused late (place_of s (suc i)) = judged_kept ∙ (rw (← is-late) (numbered_not late (place_of s (suc i)) Passed h)) in
             rw m.reads.behind.is_at (told_refused s (suc i) late (place_of s (suc i)) m.reads.behind.upto here g)
@@ -329,17 +330,17 @@ module _ {s : List ℕ} {head : Record} {first : ℕ} {messages : List ℕ} {lac
   reading_ends : reading s ≡ ended s (suc i)
   reading_ends = stops_once s (at_end (suc i) b.upto (omega (arith, upto_place s (suc i) b.upto, b.is_at)) refl)
 
-  pub ends_lacking : lacks ≡ true → answer.Refused 20 (length s) ≡ told s (reading s)
+  pub ends_lacking : lacks ≡ true → Err (refusal 20 (length s)) ≡ told s (reading s)
   ends_lacking e = ap (told s) (sym (reading_ends ∙ ended_no_message s (suc i) (head_some s i b.upto) (sym b.is_lacking ∙ e)))
 
-  pub ends_empty : lacks ≡ false → n ≡ 0 → answer.Refused 6 (length s) ≡ told s (reading s)
+  pub ends_empty : lacks ≡ false → n ≡ 0 → Err (refusal 6 (length s)) ≡ told s (reading s)
   ends_empty all e = ap (told s) (sym (reading_ends ∙ ended_no_stream s (suc i) (head_some s i b.upto) (sym b.is_lacking ∙ all) (b.number ∙ e)))
 
   module _ (all : lacks ≡ false) (some : n ≡ 0 → ⊥) where
     reads : reading s ≡ Read (before s (suc i))
     reads = reading_ends ∙ ended_sheet s (suc i) (head_some s i b.upto) (sym b.is_lacking ∙ all) (λ e. some (sym b.number ∙ e))
 
-    pub ends_accepted : answer.Accepted head n first ≡ told s (reading s)
+    pub ends_accepted : Ok (accepted head n first) ≡ told s (reading s)
     ends_accepted = rw (b.is_head, b.begins, ← head_at s i, ← b.number) (sym (ap (told s) reads))
 
     -- and the figures are those of its masters

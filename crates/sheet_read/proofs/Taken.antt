@@ -13,13 +13,14 @@ use Rattle.sheet_record.specs.Kinds.{pnet, bus_of, is_stream_of, nothing, met_at
 use Rattle.sheet_record.proofs.Records.{stream_same}
 use Rattle.sheet_rules.specs.Sheets.{edition_of}
 use Rattle.sheet_rules.specs.Whole.{Outcome, place_of, first_stream, reading}
-use Rattle.sheet_read.specs.Told.{told}
+use Rattle.sheet_read.specs.Told.{told, accepted}
 use Rattle.sheet_rules.specs.Ready.{sheet_in, stream_place, edition_at, Ready}
 use Rattle.sheet_rules.specs.Whole.Outcome.{Read, Not}
-use Rattle.sheet_read.specs.declared.Reading.TheVariants as answer
 use Rattle.sheet_rules.specs.Lengths.{enough}
 use Rattle.sheet_rules.proofs.Lengths.{accepted_prefix, reading_prefix}
 use Rattle.sheet_rules.proofs.Known.{Known, reading_read}
+use Rattle.std.specs.declared.result.Result.TheVariants.{Ok, Err}
+use Rattle.common.specs.Checks.{refusal}
 
 -- the answer `Accepted head n first`: what was read has this first record and n streams, the first of them at this place
 pub record Taken (s : List ℕ) (head : Record) (n first : ℕ) : Type 0 where
@@ -28,11 +29,11 @@ pub record Taken (s : List ℕ) (head : Record) (n first : ℕ) : Type 0 where
   pub number : length (sheet_in s).streams ≡ n
   pub starts : first ≡ stream_place s 0
 
-pub taken : (s : List ℕ) (h : Record) (n f : ℕ) → told s (reading s) ≡ answer.Accepted h n f → Taken s h n f
+pub taken : (s : List ℕ) (h : Record) (n f : ℕ) → told s (reading s) ≡ Ok (accepted h n f) → Taken s h n f
 unfolding sheet_in stream_place
 taken s h n f e = split (reading s) refl e
   where
-    split : (o : Outcome) → reading s ≡ o → told s o ≡ answer.Accepted h n f → Taken s h n f
+    split : (o : Outcome) → reading s ≡ o → told s o ≡ Ok (accepted h n f) → Taken s h n f
     split (Read S) q a =
         let eh : h ≡ S.head = cc in
         let en : length S.streams ≡ n = cc in
@@ -45,10 +46,10 @@ taken s h n f e = split (reading s) refl e
         }
     split (Not no' p) q a = let z : ◌≡◌ {A = ℕ} 0 1 = cc in absurd (omega arith)
 
-pub not_taken : (s : List ℕ) (x p : ℕ) → told s (reading s) ≡ answer.Refused x p → reading s ≡ Not x p
+pub not_taken : (s : List ℕ) (x p : ℕ) → told s (reading s) ≡ Err (refusal x p) → reading s ≡ Not x p
 not_taken s x p e = split (reading s) refl e
   where
-    split : (o : Outcome) → reading s ≡ o → told s o ≡ answer.Refused x p → reading s ≡ Not x p
+    split : (o : Outcome) → reading s ≡ o → told s o ≡ Err (refusal x p) → reading s ≡ Not x p
     split (Read S) q a = let z : ◌≡◌ {A = ℕ} 0 1 = cc in absurd (omega arith)
     split (Not y r) q a = let ex : y ≡ x = cc in let ep : r ≡ p = cc in cc
 

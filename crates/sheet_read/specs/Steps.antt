@@ -10,8 +10,10 @@ use Rattle.sheet_messages.specs.Messages.{message_at}
 use Rattle.sheet_rules.specs.Sheets.{message_of, lacking, fits}
 use Rattle.sheet_rules.specs.Whole.{place_of, before, judge, reading}
 use Rattle.sheet_read.specs.Told.{told}
-use Rattle.sheet_read.specs.declared.Reading.TheVariants as answer
+use Rattle.std.specs.declared.result.Result.{Result}
+use Rattle.common.specs.declared.Refusal.{Refusal}
 use Rattle.sheet_read.specs.declared.Settings.{Settings}
+use Rattle.std.specs.declared.result.Result.TheVariants.{Ok, Err}
 
 -- the first record of the sheet passed: it is `head`, and the place behind it is `first`
 pub record Begun (s : List ℕ) (head : Record) (first : ℕ) : Type 0 where
@@ -39,6 +41,6 @@ abbrev pub given_to : ℕ → List ℕ → ℕ → Given
 given_to masters messages y = record { masters = masters; message = message_at messages y }
 
 -- what the settings come to: one of them is refused, as reading refuses the sheet, or all passed
-pub record Settles (s : List ℕ) (head : Record) (messages : List ℕ) (r : Settings) : Type 0 where
-  pub refused : (r.no ≡ 0 → ⊥) → answer.Refused r.no r.at ≡ told s (reading s)
-  pub opened : r.no ≡ 0 → Opened s head r.at messages r.lacks
+abbrev pub Settles : List ℕ → Record → List ℕ → Result Settings Refusal → Type 0
+Settles s head messages (Ok g) = Opened s head g.at messages g.lacks
+Settles s head messages (Err r) = Err r ≡ told s (reading s)

@@ -5,13 +5,21 @@ use Rattle.sheet_record.specs.Kinds.{worldfip}
 use Rattle.sheet_rules.specs.Sheets.{Sheet, bus_in, message_of, count_of, longest_of}
 use Rattle.sheet_rules.specs.Whole.{Outcome, place_of, first_stream}
 use Rattle.sheet_rules.specs.Whole.Outcome.{Read, Not}
-use Rattle.sheet_read.specs.declared.Reading.{Reading}
-use Rattle.sheet_read.specs.declared.Reading.TheVariants as answer
+use Rattle.std.specs.declared.result.Result.TheVariants.{Ok, Err}
+use Rattle.common.specs.Checks.{refusal}
+use Rattle.std.specs.declared.result.Result.{Result}
+use Rattle.common.specs.declared.Refusal.{Refusal}
+use Rattle.sheet_record.specs.declared.Record.{Record}
+use Rattle.sheet_read.specs.declared.Accepted.{Accepted}
 
--- a sheet: its first record, how many streams it has, and where the first of them stands; a refusal: its number and place
-abbrev pub told : List ℕ → Outcome → Reading
-told s (Read S) = answer.Accepted S.head (length S.streams) (place_of s (first_stream S))
-told s (Not n p) = answer.Refused n p
+-- a sheet by its first record, how many streams it has, and the place of the first of them
+abbrev pub accepted : Record → ℕ → ℕ → Accepted
+accepted head n first = record { head = head; streams = n; first = first }
+
+-- what reading answers: the sheet, or the refusal's number and place
+abbrev pub told : List ℕ → Outcome → Result Accepted Refusal
+told s (Read S) = Ok (accepted S.head (length S.streams) (place_of s (first_stream S)))
+told s (Not n p) = Err (refusal n p)
 
 -- how many streams master k has, and the longest C of them
 unfoldable pub streams_of_master : Sheet → ℕ → ℕ

@@ -10,29 +10,21 @@ ghost use Rattle.sheet_rules.specs.Whole.{reading};
 ghost use Rattle.sheet_read.specs.Told.{told, counts_told, longests_told, messages_told};
 
 pub use sheet_keep::MOST;
+use common::Refusal;
 use sheet_record::{Given, Record};
 
-// What reading a sheet answers.
+// What reading answers of a sheet that it accepts: the first record, the number of streams, and the place of the first of them.
 #[derive(Clone, Copy)]
-pub enum Reading {
-    // The first record, the number of streams, and the place of the first of them.
-    Accepted {
-        head: Record,
-        streams: usize,
-        first: usize,
-    },
-    // The refusal's number, and its place.
-    Refused {
-        no: u8,
-        place: usize,
-    },
+pub struct Accepted {
+    pub head: Record,
+    pub streams: usize,
+    pub first: usize,
 }
 
-// What the settings of a sheet come to, which stand between its first record and its streams: the number of a refusal and its place; or 0, the place
-// just after them, and whether a master's longest message is missing.
+// What the settings of a sheet come to, which stand between its first record and its streams: the place just after them, and whether a master's longest
+// message is missing.
 #[derive(Clone, Copy)]
 struct Settings {
-    no: u8,
     at: usize,
     lacks: bool,
 }
@@ -60,7 +52,7 @@ fn read_streams(
     counted: &mut [u8; 33],
     longest: &mut [u32; 33],
     handed: &mut [u32; 33],
-) -> Reading
+) -> Result<Accepted, Refusal>
     requires { Opened s.now head first messages.now lacks }
     ensures value { result ≡ told s.now (reading s.now) }
     ensures counted_after { counted.new ≡ counts_told (reading s.now) counted.old }
@@ -79,47 +71,38 @@ fn read_streams(
         let met = sheet_judge::stream_at(s, at, bus);
         let stream = met.found;
         let ranged = stream_ranged(bus, head.a, messages, stream);
-        let own = sheet_judge::own_no(kind, right, met.next != at, ranged);
-        if own != 0 {
-            return Reading::Refused { no: own, place: at };
-        }
+        sheet_judge::judge(kind, right, met.next != at, ranged, at)?;
         if lacks {
-            return Reading::Refused { no: 20, place: at };
+            return Err(Refusal { no: 20, place: at });
         }
-        let late = sheet_keep::late_no(&counts, &ids, n, stream);
-        if late != 0 {
-            return Reading::Refused {
-                no: late,
-                place: at,
-            };
-        }
+        sheet_keep::judge(&counts, &ids, n, stream, at)?;
         sheet_keep::keep(&mut counts, &mut longests, &mut ids, n, stream);
         n += 1;
         at = met.next;
     }
     let end = s.len();
     if lacks {
-        return Reading::Refused { no: 20, place: end };
+        return Err(Refusal { no: 20, place: end });
     }
     if n == 0 {
-        return Reading::Refused { no: 6, place: end };
+        return Err(Refusal { no: 6, place: end });
     }
-    let accepted = Reading::Accepted {
+    let accepted = Accepted {
         head,
         streams: n,
         first,
     };
     if bus == 5 {
-        return accepted;
+        return Ok(accepted);
     }
     *counted = counts;
     *longest = longests;
     *handed = *messages;
-    accepted
+    Ok(accepted)
 }
 
 // Passes the edition, which stands behind a P-NET segment.
-fn pass_edition(s: &[u8], head: Record, first: usize) -> Settings
+fn pass_edition(s: &[u8], head: Record, first: usize) -> Result<Settings, Refusal>
     requires begun { Begun s.now head first }
     requires kind_value { (head.kind ≡ 1) × (get_or s.now first 0 ≡ 8) }
     ensures { Settles s.now head (replicate 33 head.c) result }
@@ -130,24 +113,21 @@ fn pass_edition(s: &[u8], head: Record, first: usize) -> Settings
         message: head.c,
     };
     let ranged = sheet_ranges::in_range_of(8, given, met.found);
-    let own = sheet_judge::own_no(8, true, met.next != first, ranged);
-    if own != 0 {
-        return Settings {
-            no: own,
-            at: first,
-            lacks: false,
-        };
-    }
-    Settings {
-        no: 0,
+    sheet_judge::judge(8, true, met.next != first, ranged, first)?;
+    Ok(Settings {
         at: met.next,
         lacks: false,
-    }
+    })
 }
 
 // Passes the longest messages, which stand behind a ring that has none itself: each master's once. Those that are given are kept, at place y that of
 // master y.
-fn pass_messages(s: &[u8], head: Record, first: usize, messages: &mut [u32; 33]) -> Settings
+fn pass_messages(
+    s: &[u8],
+    head: Record,
+    first: usize,
+    messages: &mut [u32; 33],
+) -> Result<Settings, Refusal>
     requires begun { Begun s.now head first }
     requires kind_value { head.kind ≡ 9 }
     requires messages_value { messages.old ≡ replicate 33 0 }
@@ -162,32 +142,26 @@ fn pass_messages(s: &[u8], head: Record, first: usize, messages: &mut [u32; 33])
         let met = sheet_record::record_of(s, at, 10);
         let message = met.found;
         let ranged = sheet_ranges::in_range_of(10, given, message);
-        let no = sheet_judge::own_no(10, true, met.next != at, ranged);
-        if no != 0 {
-            return Settings {
-                no,
-                at,
-                lacks: false,
-            };
-        }
+        sheet_judge::judge(10, true, met.next != at, ranged, at)?;
         let master = message.a as usize;
         if messages[master] != 0 {
-            return Settings {
-                no: 20,
-                at,
-                lacks: false,
-            };
+            return Err(Refusal { no: 20, place: at });
         }
         messages[master] = message.b;
         at = met.next;
     }
     let lacks = sheet_messages::lacks(messages, head.a);
     sheet_messages::count_missing(messages);
-    Settings { no: 0, at, lacks }
+    Ok(Settings { at, lacks })
 }
 
 // Passes the settings of a sheet, and tells the longest message that counts for each master.
-fn pass_settings(s: &[u8], head: Record, first: usize, messages: &mut [u32; 33]) -> Settings
+fn pass_settings(
+    s: &[u8],
+    head: Record,
+    first: usize,
+    messages: &mut [u32; 33],
+) -> Result<Settings, Refusal>
     requires { Begun s.now head first }
     ensures { Settles s.now head messages.new result }
 {
@@ -202,11 +176,10 @@ fn pass_settings(s: &[u8], head: Record, first: usize, messages: &mut [u32; 33])
             return pass_edition(s, head, first);
         }
     }
-    Settings {
-        no: 0,
+    Ok(Settings {
         at: first,
         lacks: false,
-    }
+    })
 }
 
 // Reads what stands behind a first record that passed: the settings, where there are some, and the streams.
@@ -217,7 +190,7 @@ fn read_behind(
     counts: &mut [u8; 33],
     longests: &mut [u32; 33],
     handed: &mut [u32; 33],
-) -> Reading
+) -> Result<Accepted, Refusal>
     requires { Begun s.now head first }
     ensures value { result ≡ told s.now (reading s.now) }
     ensures counts_after { counts.new ≡ counts_told (reading s.now) counts.old }
@@ -225,13 +198,7 @@ fn read_behind(
     ensures handed_after { handed.new ≡ messages_told (reading s.now) handed.old }
 {
     let mut messages: [u32; 33] = [0; 33];
-    let settings = pass_settings(s, head, first, &mut messages);
-    if settings.no != 0 {
-        return Reading::Refused {
-            no: settings.no,
-            place: settings.at,
-        };
-    }
+    let settings = pass_settings(s, head, first, &mut messages)?;
     // One call, so that it is taken in here, where the first record's kind is known: each bus has its own loop then.
     read_streams(
         s,
@@ -252,14 +219,14 @@ pub fn read_whole(
     counts: &mut [u8; 33],
     longests: &mut [u32; 33],
     messages: &mut [u32; 33],
-) -> Reading
+) -> Result<Accepted, Refusal>
     ensures value { result ≡ told s.now (reading s.now) }
     ensures counts_after { counts.new ≡ counts_told (reading s.now) counts.old }
     ensures longests_after { longests.new ≡ longests_told (reading s.now) longests.old }
     ensures messages_after { messages.new ≡ messages_told (reading s.now) messages.old }
 {
     if s.len() == 0 {
-        return Reading::Refused { no: 1, place: 0 };
+        return Err(Refusal { no: 1, place: 0 });
     }
     let kind = s[0];
     let met = sheet_record::record_at(s, 0);
@@ -270,15 +237,12 @@ pub fn read_whole(
         message: 0,
     };
     let ranged = sheet_ranges::in_range(none, head);
-    let own = sheet_judge::own_no(kind, right, met.next != 0, ranged);
-    if own != 0 {
-        return Reading::Refused { no: own, place: 0 };
-    }
+    sheet_judge::judge(kind, right, met.next != 0, ranged, 0)?;
     read_behind(s, head, met.next, counts, longests, messages)
 }
 
 // The same for callers that need no longest messages, as those of P-NET.
-pub fn read_gathering(s: &[u8], counts: &mut [u8; 33], longests: &mut [u32; 33]) -> Reading
+pub fn read_gathering(s: &[u8], counts: &mut [u8; 33], longests: &mut [u32; 33]) -> Result<Accepted, Refusal>
     ensures value { result ≡ told s.now (reading s.now) }
     ensures counts_after { counts.new ≡ counts_told (reading s.now) counts.old }
     ensures longests_after { longests.new ≡ longests_told (reading s.now) longests.old }
@@ -288,7 +252,7 @@ pub fn read_gathering(s: &[u8], counts: &mut [u8; 33], longests: &mut [u32; 33])
 }
 
 // The same for callers that need no longest C, as those of PROFIBUS.
-pub fn read_ring(s: &[u8], counts: &mut [u8; 33], messages: &mut [u32; 33]) -> Reading
+pub fn read_ring(s: &[u8], counts: &mut [u8; 33], messages: &mut [u32; 33]) -> Result<Accepted, Refusal>
     ensures value { result ≡ told s.now (reading s.now) }
     ensures counts_after { counts.new ≡ counts_told (reading s.now) counts.old }
     ensures messages_after { messages.new ≡ messages_told (reading s.now) messages.old }
@@ -298,7 +262,7 @@ pub fn read_ring(s: &[u8], counts: &mut [u8; 33], messages: &mut [u32; 33]) -> R
 }
 
 // The same for callers that need nothing of its masters.
-pub fn read(s: &[u8]) -> Reading
+pub fn read(s: &[u8]) -> Result<Accepted, Refusal>
     ensures { result ≡ told s.now (reading s.now) }
 {
     let mut counts: [u8; 33] = [0; 33];

@@ -1,12 +1,15 @@
 -- Page 01, 'Sheet records': what a reader finds at a place of the sheet s, and where its steps lead. Of the refusals it gives those two
 -- that the bytes show by themselves, 2 and 1 in this order; the others need the records before. Assumes nothing.
 use Rattle.std.specs.Prelude.{ℕ, zero, suc, ◌+◌, List, [], ◌∷◌, Bool, cond, not, length, get_or, ltb, eqb}
-use Rattle.common.specs.Checks.{Check, check, Verdict, verdict}
-use Rattle.common.specs.Checks.Verdict.{Passed, Refused}
+use Rattle.common.specs.Checks.{Check, check, verdict, unless}
 use Rattle.common.specs.Sums.{first_of}
 use Rattle.sheet_record.specs.Kinds.{known, size_of, decode}
-use Rattle.sheet_reader.specs.declared.Found.{Found}
-use Rattle.sheet_reader.specs.declared.Found.TheVariants as found
+use Rattle.std.specs.declared.result.Result.TheVariants.{Ok, Err}
+use Rattle.std.specs.declared.result.Result.{Result}
+use Rattle.common.specs.declared.Refusal.{Refusal}
+use Rattle.std.specs.declared.option.Option.{Option}
+use Rattle.std.specs.declared.option.Option.TheVariants.{Some, None}
+use Rattle.sheet_record.specs.declared.Met.{Met}
 
 unfoldable pub byte_checks : List ℕ → ℕ → List Check
 unfolding known size_of
@@ -15,25 +18,21 @@ byte_checks s at =
     ∷ check 1 (ltb (length s) (at + size_of (get_or s at 0))) at
     ∷ []
 
-abbrev pub found_by : Verdict → Found → Found
-found_by Passed f = f
-found_by (Refused n p) f = found.Refused n p
-
 -- past the last byte the end; else the first refusal that applies, or the record and the place just after it
-unfoldable pub found_of : List ℕ → ℕ → Found
+unfoldable pub found_of : List ℕ → ℕ → Option (Result Met Refusal)
 unfolding verdict byte_checks decode size_of
 found_of s at =
     cond (ltb at (length s))
-    (found_by (verdict (byte_checks s at)) (found.One (decode s at) (at + size_of (get_or s at 0))))
-    found.End
+    (Some (unless (verdict (byte_checks s at)) (record { found = decode s at; next = at + size_of (get_or s at 0) })))
+    None
 
 -- ---- The walk
 
 -- the place just after the record that was found at a place; where none was, that place
-abbrev pub behind_of : Found → ℕ → ℕ
-behind_of (found.One r next) at = next
-behind_of (found.Refused n p) at = at
-behind_of found.End at = at
+abbrev pub behind_of : Option (Result Met Refusal) → ℕ → ℕ
+behind_of (Some (Ok m)) at = m.next
+behind_of (Some (Err r)) at = at
+behind_of None at = at
 
 -- where a step from a place leads
 unfoldable pub step_from : List ℕ → ℕ → ℕ

@@ -7,7 +7,8 @@
 ghost use Rattle.std.specs.Prelude.{◌≡◌};
 ghost use Rattle.sheet_reader.specs.Walk.{found_of, step_from, count as count_of};
 
-use sheet_record::{Record, record_at};
+use common::Refusal;
+use sheet_record::{Met, record_at};
 
 #[derive(Clone, Copy)]
 pub struct Reader<'a> {
@@ -15,33 +16,21 @@ pub struct Reader<'a> {
     pub at: usize,
 }
 
-// What stands at a place: a record with the place just after it, the refusal that the bytes there show by themselves, or the end.
-#[derive(Clone, Copy)]
-pub enum Found {
-    One { record: Record, next: usize },
-    Refused { no: u8, place: usize },
-    End,
-}
-
-// What stands at a place of a sheet.
-pub fn found_at(s: &[u8], at: usize) -> Found
+// What stands at a place of a sheet: a record with the place just after it, or the refusal that the bytes there show by themselves; nothing at the end.
+pub fn found_at(s: &[u8], at: usize) -> Option<Result<Met, Refusal>>
     ensures { result ≡ found_of s.now at }
 {
     if s.len() <= at {
-        return Found::End;
+        return None;
     }
     if !sheet_record::known(s[at]) {
-        return Found::Refused { no: 2, place: at };
+        return Some(Err(Refusal { no: 2, place: at }));
     }
     let met = record_at(s, at);
     if met.next == at {
-        return Found::Refused { no: 1, place: at };
+        return Some(Err(Refusal { no: 1, place: at }));
     }
-    let record = met.found;
-    Found::One {
-        record,
-        next: met.next,
-    }
+    Some(Ok(met))
 }
 
 // The place just after the record that stands at a place of a sheet; where none stands, that place.
@@ -49,9 +38,8 @@ pub fn behind(s: &[u8], at: usize) -> usize
     ensures { result ≡ step_from s.now at }
 {
     match found_at(s, at) {
-        Found::One { record: _, next } => next,
-        Found::Refused { no: _, place: _ } => at,
-        Found::End => at,
+        Some(Ok(met)) => met.next,
+        Some(Err(_)) | None => at,
     }
 }
 
@@ -63,7 +51,7 @@ pub fn new<'a>(src: &'a [u8]) -> Reader<'a>
 }
 
 // What stands at the reader's place.
-pub fn next<'a>(r: Reader<'a>) -> Found
+pub fn next<'a>(r: Reader<'a>) -> Option<Result<Met, Refusal>>
     ensures { result ≡ found_of r.entry.src.now r.entry.at }
 {
     found_at(r.src, r.at)
@@ -92,7 +80,7 @@ pub fn step<'a>(r: Reader<'a>) -> Reader<'a>
 }
 
 // What stands at the first byte of a sheet, for callers with plain parameters.
-pub fn first(s: &[u8]) -> Found
+pub fn first(s: &[u8]) -> Option<Result<Met, Refusal>>
     ensures { result ≡ found_of s.now 0 }
 {
     next(new(s))

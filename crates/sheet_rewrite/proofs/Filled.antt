@@ -13,8 +13,6 @@ use Rattle.text.specs.Text.{Wrote, behind}
 use Rattle.text.proofs.Writing.{wrote_none, wrote_then, wrote_front, length_wrote}
 use Rattle.sheet_record.specs.declared.Record.{Record}
 use Rattle.sheet_record.specs.Kinds.{kinds, line_of, fields_of, widths, written, size_of, encode}
-use Rattle.sheet_write.specs.declared.Put.{Put}
-use Rattle.sheet_write.specs.declared.Put.TheVariants as put
 use Rattle.sheet_write.specs.Writing.{free_answer, free_bytes}
 use Rattle.sheet_write.proofs.Trips.{length_encode}
 use Rattle.sheet_write.proofs.Writing.{room_free}
@@ -22,15 +20,19 @@ use Rattle.sheet_rules.specs.Records.{bytes_of}
 use Rattle.sheet_rules.proofs.Order.{message_of_ring}
 use Rattle.sheet_rules.proofs.Trips.{bytes_more}
 use Rattle.sheet_rewrite.specs.Rewriting.{open_ring, message_records, alone, front_bytes, fill_answer, fill_bytes}
+use Rattle.std.specs.declared.result.Result.TheVariants.{Ok, Err}
+use Rattle.common.specs.Checks.{refusal}
+use Rattle.std.specs.declared.result.Result.{Result}
+use Rattle.common.specs.declared.Refusal.{Refusal}
 
 -- ---- One record
 
 module _ (b : List ℕ) (at : ℕ) (r : Record) (k : written r.kind ≡ true) (room : at + size_of r.kind ≤ length b) where
-  pub one_wrote : {b' : List ℕ} {e : ℕ} → put.Next e ≡ free_answer (length b) at r → b' ≡ free_bytes b at r → Wrote b at (encode r) b' e
+  pub one_wrote : {b' : List ℕ} {e : ℕ} → Ok e ≡ free_answer (length b) at r → b' ≡ free_bytes b at r → Wrote b at (encode r) b' e
   unfolding behind
   one_wrote {b'} {e} p q =
       let f = room_free b at r k room in
-      let n : put.Next e ≡ put.Next (at + size_of r.kind) = p ∙ sym f.0 in
+      let n : Ok e ≡ Ok (at + size_of r.kind) = p ∙ sym f.0 in
       let n' : e ≡ at + size_of r.kind = cc in
       record {
         stored = q ∙ (sym f.1 ∙ sym (sets-eq (encode r) b at (omega (arith, length_encode r)) ∙ append_assoc (take at b) (encode r) (drop (at + length (encode r)) b)));
@@ -38,10 +40,10 @@ module _ (b : List ℕ) (at : ℕ) (r : Record) (k : written r.kind ≡ true) (r
       }
 
   -- there is room
-  pub one_not_refused : {n p : ℕ} → put.Refused n p ≡ free_answer (length b) at r → ⊥
+  pub one_not_refused : {n p : ℕ} → Err (refusal n p) ≡ free_answer (length b) at r → ⊥
   one_not_refused {n} {p} q =
       let f = room_free b at r k room in
-      let e : put.Refused n p ≡ put.Next (at + size_of r.kind) = q ∙ sym f.0 in
+      let e : Err (refusal n p) ≡ Ok (at + size_of r.kind) = q ∙ sym f.0 in
       let z : ◌≡◌ {A = ℕ} 0 1 = cc in
       omega arith
 
@@ -123,17 +125,17 @@ module _ (h : Record) where
 -- ---- The whole, where it fits
 
 -- what filling a run answers and leaves in it
-abbrev pub FilledAs : List ℕ → List ℕ → Put → List ℕ → Type 0
+abbrev pub FilledAs : List ℕ → List ℕ → Result ℕ Refusal → List ℕ → Type 0
 FilledAs old t p now = (p ≡ fill_answer (length old) t) × (now ≡ fill_bytes old t)
 
 module _ (old t : List ℕ) where
-  pub filled_short : {n : ℕ} → n ≡ length t → length old < n → FilledAs old t (put.Refused 13 n) old
+  pub filled_short : {n : ℕ} → n ≡ length t → length old < n → FilledAs old t (Err (refusal 13 n)) old
   unfolding verdict
   filled_short e l = let q = lt-ltb (length old) (length t) (omega arith) in (rw (e, q) refl, rw q refl)
 
-  pub filled_whole : {new : List ℕ} {n : ℕ} → length t ≤ length old → Wrote old 0 t new n → FilledAs old t (put.Next n) new
+  pub filled_whole : {new : List ℕ} {n : ℕ} → length t ≤ length old → Wrote old 0 t new n → FilledAs old t (Ok n) new
   unfolding verdict
   filled_whole l w =
       let q = le-ltb (length old) (length t) l in
       let f = wrote_front w l in
-      (rw q (ap put.Next f.0), rw q f.1)
+      (rw q (ap Ok f.0), rw q f.1)

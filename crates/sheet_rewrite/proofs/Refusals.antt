@@ -13,7 +13,6 @@ use Rattle.common.specs.Checks.Verdict.{Refused}
 use Rattle.common.proofs.Checks.{Applies, refused_if, refused_then}
 use Rattle.common.proofs.Checks.Applies.{here, later}
 use Rattle.text.specs.Text.{over}
-use Rattle.sheet_write.specs.declared.Put.TheVariants as put
 use Rattle.sheet_write.proofs.Writing.{refused_by, refused_kept, next_passed}
 use Rattle.sheet_rules.specs.Sheets.{Sheet}
 use Rattle.sheet_rules.specs.Whole.{Outcome, reading}
@@ -23,6 +22,8 @@ use Rattle.sheet_rewrite.specs.Rewriting.{rewritten, rewritten_by, rewrite_verdi
 use Rattle.sheet_rewrite.specs.Refusals.{new_length, RewriteRefused}
 use Rattle.sheet_rewrite.specs.Refusals.RewriteRefused.{unread, no_room, no_room_alike}
 use Rattle.sheet_rewrite.proofs.Rewritten.{rewritten_alike, renewed_length, rewritten_at_most}
+use Rattle.std.specs.declared.result.Result.TheVariants.{Ok, Err}
+use Rattle.common.specs.Checks.{refusal}
 
 -- the new length, in the page's words
 new_length_law : (s : List ℕ) (S : Sheet) → reading s ≡ Read S → S.head.kind ≡ 3 → length (rewritten s S) ≡ new_length S
@@ -30,7 +31,7 @@ unfolding new_length
 new_length_law s S r three = renewed_length s S r three
 
 module _ (room : ℕ) (s : List ℕ) where
-  rewrite_then : (n p : ℕ) → rewrite_answer room s ≡ put.Refused n p → RewriteRefused s room n p
+  rewrite_then : (n p : ℕ) → rewrite_answer room s ≡ Err (refusal n p) → RewriteRefused s room n p
   unfolding rewrite_answer
   rewrite_then n p e = by (reading s) refl (refused_by (rewrite_verdict room s (reading s)) (length (rewritten_by s (reading s))) n p e)
     where
@@ -57,25 +58,25 @@ module _ (room : ℕ) (s : List ℕ) where
           unread (given_then s n p (rw (a, b) at r))
 
   -- 13, where the new sheet does not fit
-  short_if : (S : Sheet) → reading s ≡ Read S → room < length (rewritten s S) → rewrite_answer room s ≡ put.Refused 13 (length (rewritten s S))
+  short_if : (S : Sheet) → reading s ≡ Read S → room < length (rewritten s S) → rewrite_answer room s ≡ Err (refusal 13 (length (rewritten s S)))
   unfolding rewrite_answer
   short_if S r l = rw (r, refused_if {cs = check 13 (ltb room (length (rewritten s S))) (length (rewritten s S)) ∷ []} (here (lt-ltb _ _ l))) refl
 
-  rewrite_if : {n p : ℕ} → RewriteRefused s room n p → rewrite_answer room s ≡ put.Refused n p
+  rewrite_if : {n p : ℕ} → RewriteRefused s room n p → rewrite_answer room s ≡ Err (refusal n p)
   unfolding rewrite_answer
   rewrite_if (unread g) = rw (given_if s g)
   rewrite_if (no_room {S} r three l) =
       let q = new_length_law s S r three in
-      short_if S r (omega arith) ∙ ap (put.Refused 13) q
+      short_if S r (omega arith) ∙ ap (λ k. Err (refusal 13 k)) q
   rewrite_if (no_room_alike {S} r other l) =
       let q = ap length (rewritten_alike s S other) in
-      short_if S r (omega arith) ∙ ap (put.Refused 13) q
+      short_if S r (omega arith) ∙ ap (λ k. Err (refusal 13 k)) q
 
-  pub rewrite_refused : (n p : ℕ) → (rewrite_answer room s ≡ put.Refused n p) ↔ RewriteRefused s room n p
+  pub rewrite_refused : (n p : ℕ) → (rewrite_answer room s ≡ Err (refusal n p)) ↔ RewriteRefused s room n p
   rewrite_refused n p = (rewrite_then n p, rewrite_if)
 
   -- the lengths that are answered: no one takes them for a refusal behind 2^32 (planner_exports)
-  pub rewrite_at_most : (n : ℕ) → rewrite_answer room s ≡ put.Next n → n ≤ 12804
+  pub rewrite_at_most : (n : ℕ) → rewrite_answer room s ≡ Ok n → n ≤ 12804
   unfolding rewrite_answer
   rewrite_at_most n e = by (reading s) refl (next_passed (rewrite_verdict room s (reading s)) (length (rewritten_by s (reading s))) n e).1
     where
@@ -84,7 +85,7 @@ module _ (room : ℕ) (s : List ℕ) where
       by (Not k o) r q = omega arith
 
 -- a refusal changes no byte
-pub rewrite_keeps : (old s : List ℕ) (n p : ℕ) → rewrite_answer (length old) s ≡ put.Refused n p → rewrite_bytes old s ≡ old
+pub rewrite_keeps : (old s : List ℕ) (n p : ℕ) → rewrite_answer (length old) s ≡ Err (refusal n p) → rewrite_bytes old s ≡ old
 unfolding rewrite_answer rewrite_bytes
 rewrite_keeps old s n p e =
     refused_kept (rewrite_verdict (length old) s (reading s)) (length (rewritten_by s (reading s))) n p (over (rewritten_by s (reading s)) old) old e

@@ -2,11 +2,13 @@
 -- sheet is, and what it is that rewriting keeps it. Assumes nothing.
 use Rattle.std.specs.Prelude.{ℕ, ◌≤◌, ◌≡◌, List, take}
 use Rattle.sheet_record.specs.Kinds.{profibus}
-use Rattle.sheet_write.specs.declared.Put.{Put}
-use Rattle.sheet_write.specs.declared.Put.TheVariants as put
 use Rattle.sheet_rules.specs.Sheets.{Sheet, bus_in, masters_of, message_of}
 use Rattle.sheet_rules.specs.Whole.{reading}
 use Rattle.sheet_rules.specs.Whole.Outcome.{Read}
+use Rattle.std.specs.declared.result.Result.TheVariants.{Ok, Err}
+use Rattle.common.specs.Checks.{refusal}
+use Rattle.std.specs.declared.result.Result.{Result}
+use Rattle.common.specs.declared.Refusal.{Refusal}
 
 -- two sheets say the same ring, the one by kind 3 and the other by kinds 9 and 10: n, L, the longest message of each master, and the streams
 pub record SameRing (S S' : Sheet) : Type 0 where
@@ -24,7 +26,7 @@ pub data SameMeaning (S : Sheet) : Sheet → Type 0 where
 
 -- what rewriting the bytes s answers, and the run that it leaves: refused; or so many bytes stand at the front of the run, which are a sheet that the writer
 -- puts, its first record not being of kind 3, and mean what s means
-pub data Rewrites (s : List ℕ) : Put → List ℕ → Type 0 where
-  refused : {n p : ℕ} {out : List ℕ} → Rewrites s (put.Refused n p) out
+pub data Rewrites (s : List ℕ) : Result ℕ Refusal → List ℕ → Type 0 where
+  refused : {n p : ℕ} {out : List ℕ} → Rewrites s (Err (refusal n p)) out
   kept : {n : ℕ} {out : List ℕ} {S S' : Sheet} → reading s ≡ Read S → reading (take n out) ≡ Read S' → SameMeaning S S' → (S'.head.kind ≡ 3 → ⊥)
-      → Rewrites s (put.Next n) out
+      → Rewrites s (Ok n) out

@@ -1,16 +1,17 @@
 -- Page 02, Ask 8: a sheet of kind 3 as one of kinds 9 and 10, masters ascending, then the streams; any other byte for byte. What rewriting answers, and what the
 -- lent run then holds: refused as reading refuses, then with 13 and the new sheet's length. Assumes nothing.
 use Rattle.std.specs.Prelude.{ℕ, zero, suc, List, [], ◌∷◌, ◌++◌, cond, length, ltb, eqb}
-use Rattle.common.specs.Checks.{check, Verdict, verdict}
+use Rattle.common.specs.Checks.{check, Verdict, verdict, unless}
 use Rattle.common.specs.Checks.Verdict.{Refused}
 use Rattle.text.specs.Text.{over}
 use Rattle.sheet_record.specs.declared.Record.{Record}
-use Rattle.sheet_write.specs.declared.Put.{Put}
-use Rattle.sheet_write.specs.Writing.{put_by, pasted_by}
+use Rattle.sheet_write.specs.Writing.{pasted_by}
 use Rattle.sheet_rules.specs.Sheets.{Sheet, masters_of, message_of}
 use Rattle.sheet_rules.specs.Records.{bytes_of}
 use Rattle.sheet_rules.specs.Whole.{Outcome, reading}
 use Rattle.sheet_rules.specs.Whole.Outcome.{Read, Not}
+use Rattle.std.specs.declared.result.Result.{Result}
+use Rattle.common.specs.declared.Refusal.{Refusal}
 
 -- ---- The new sheet
 
@@ -52,9 +53,9 @@ abbrev pub rewrite_verdict : ℕ → List ℕ → Outcome → Verdict
 rewrite_verdict room s (Read S) = room_verdict room (rewritten s S)
 rewrite_verdict room s (Not n p) = Refused n p
 
-unfoldable pub rewrite_answer : ℕ → List ℕ → Put
+unfoldable pub rewrite_answer : ℕ → List ℕ → Result ℕ Refusal
 unfolding verdict reading rewritten
-rewrite_answer room s = put_by (rewrite_verdict room s (reading s)) (length (rewritten_by s (reading s)))
+rewrite_answer room s = unless (rewrite_verdict room s (reading s)) (length (rewritten_by s (reading s)))
 
 unfoldable pub rewrite_bytes : List ℕ → List ℕ → List ℕ
 unfolding verdict reading rewritten
@@ -72,8 +73,8 @@ unfolding bytes_of message_records
 front_bytes h n = bytes_of (open_ring h ∷ message_records (alone h) n)
 
 -- the bytes t at the front of a run, where they fit
-abbrev pub fill_answer : ℕ → List ℕ → Put
-fill_answer room t = put_by (room_verdict room t) (length t)
+abbrev pub fill_answer : ℕ → List ℕ → Result ℕ Refusal
+fill_answer room t = unless (room_verdict room t) (length t)
 
 abbrev pub fill_bytes : List ℕ → List ℕ → List ℕ
 fill_bytes old t = pasted_by (room_verdict (length old) t) (over t old) old

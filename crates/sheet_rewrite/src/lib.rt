@@ -7,9 +7,9 @@ ghost use Rattle.text.specs.Text.{Wrote};
 ghost use Rattle.sheet_rewrite.specs.Meaning.{Rewrites};
 ghost use Rattle.sheet_rewrite.specs.Rewriting.{front_bytes, fill_answer, fill_bytes, rewrite_answer, rewrite_bytes};
 
-use sheet_read::Reading;
+use common::Refusal;
 use sheet_record::Record;
-use sheet_write::{Put, put_free};
+use sheet_write::put_free;
 use text::put_word;
 
 // Writes a record that the writer puts, where there is room, and answers the place just after it.
@@ -18,11 +18,8 @@ fn put_one(out: &mut [u8], at: usize, r: Record) -> usize
     requires kind_in_bounds { at + size_of r.kind ≤ length out.old }
     ensures { Wrote out.old at (encode r) out.new result }
 {
-    match put_free(out, at, r) {
-        Put::Next(next) => next,
-        // there is room
-        Put::Refused { no: _, place: _ } => at,
-    }
+    // There is room.
+    put_free(out, at, r).unwrap_or(at)
 }
 
 // Writes a ring of kind 3 at the front of a run, without its M, and then M for each master, ascending.
@@ -57,7 +54,7 @@ fn put_ring(out: &mut [u8], ring: Record) -> usize
 }
 
 // Writes a ring of kind 3 as one of kinds 9 and 10, with its streams behind it. Refused with 13, and then no byte changes.
-fn renew(ring: Record, streams: &[u8], out: &mut [u8]) -> Put
+fn renew(ring: Record, streams: &[u8], out: &mut [u8]) -> Result<usize, Refusal>
     requires kind_value { ring.kind ≡ 3 }
     requires a_bound { ring.a ≤ 32 }
     requires streams_len_bound { length streams.now ≤ 12804 }
@@ -66,42 +63,34 @@ fn renew(ring: Record, streams: &[u8], out: &mut [u8]) -> Put
 {
     let n = 6 + 6 * (ring.a as usize) + streams.len();
     if out.len() < n {
-        return Put::Refused { no: 13, place: n };
+        return Err(Refusal { no: 13, place: n });
     }
     let at = put_ring(out, ring);
-    Put::Next(put_word(out, at, streams))
+    Ok(put_word(out, at, streams))
 }
 
 // Writes bytes as they are at the front of a run. Refused with 13, and then no byte changes.
-fn copy(s: &[u8], out: &mut [u8]) -> Put
+fn copy(s: &[u8], out: &mut [u8]) -> Result<usize, Refusal>
     ensures value { result ≡ fill_answer (length out.old) s.now }
     ensures out_after { out.new ≡ fill_bytes out.old s.now }
 {
     let n = s.len();
     if out.len() < n {
-        return Put::Refused { no: 13, place: n };
+        return Err(Refusal { no: 13, place: n });
     }
-    Put::Next(put_word(out, 0, s))
+    Ok(put_word(out, 0, s))
 }
 
 // Writes an accepted sheet at the front of a run: one of kind 3 as kinds 9 and 10, with the same meaning, any other as it is. Refused as reading refuses, or with 13
 // and the new sheet's length, and then no byte changes.
-pub fn rewrite(s: &[u8], out: &mut [u8]) -> Put
+pub fn rewrite(s: &[u8], out: &mut [u8]) -> Result<usize, Refusal>
     ensures value { result ≡ rewrite_answer (length out.old) s.now }
     ensures out_after { out.new ≡ rewrite_bytes out.old s.now }
     ensures rewrites { Rewrites s.now result out.new }
 {
-    match sheet_read::read(s) {
-        Reading::Refused { no, place } => Put::Refused { no, place },
-        Reading::Accepted {
-            head,
-            streams: _,
-            first,
-        } => {
-            if head.kind != 3 {
-                return copy(s, out);
-            }
-            renew(head, &s[first..], out)
-        }
+    let sheet = sheet_read::read(s)?;
+    if sheet.head.kind != 3 {
+        return copy(s, out);
     }
+    renew(sheet.head, &s[sheet.first..], out)
 }

@@ -8,13 +8,12 @@ use native.Mathlib.Nat.{add-zero, zero-add}
 use native.Mathlib.Omega.{arith}
 use lib.ListN.{length, get_or, take, drop, length-append, take-append-drop, drop_of_length-le}
 use lib.Seq.{length-take-le, take_at, drop_at, slice}
-use Rattle.common.specs.Checks.{Verdict, verdict}
+use Rattle.common.specs.Checks.{Verdict, verdict, unless}
 use Rattle.common.specs.Checks.Verdict.{Passed, Refused}
 use Rattle.sheet_record.specs.declared.Record.{Record}
-use Rattle.sheet_write.specs.declared.Put.TheVariants as put
 use Rattle.sheet_record.specs.Numbers.{pasted}
 use Rattle.sheet_record.specs.Kinds.{kinds, line_of, written, size_of, encode, in_range, nothing}
-use Rattle.sheet_write.specs.Writing.{greatest, write_checks, put_by, pasted_by, put_answer, put_bytes}
+use Rattle.sheet_write.specs.Writing.{greatest, write_checks, pasted_by, put_answer, put_bytes}
 use Rattle.sheet_record.proofs.Numbers.{paste_next}
 use Rattle.sheet_write.proofs.Trips.{length_encode}
 use Rattle.sheet_write.proofs.Writing.{written_stands, room_written}
@@ -24,15 +23,17 @@ use Rattle.sheet_rules.specs.Whole.Outcome.{Read}
 use Rattle.sheet_rules.specs.Records.{records_in, bytes_of, Right, Writes}
 use Rattle.sheet_rules.specs.Records.Writes.{none, next}
 use Rattle.sheet_rules.proofs.Trips.{right_some, writable, written_reads, read_written, read_right}
+use Rattle.std.specs.declared.result.Result.TheVariants.{Ok, Err}
+use Rattle.common.specs.Checks.{refusal}
 
 -- ---- What writing leaves
 
 -- a place that is answered: the record's bytes were put
-answered_bytes : (v : Verdict) (end e : ℕ) (new old : List ℕ) → put_by v end ≡ put.Next e → pasted_by v new old ≡ new
+answered_bytes : (v : Verdict) (end e : ℕ) (new old : List ℕ) → unless v end ≡ Ok e → pasted_by v new old ≡ new
 answered_bytes Passed end e new old q = refl
 answered_bytes (Refused n p) end e new old q = cc
 
-put_answered : (b : List ℕ) (at : ℕ) (r : Record) (e : ℕ) → put_answer (length b) at r ≡ put.Next e → put_bytes b at r ≡ pasted b at (encode r)
+put_answered : (b : List ℕ) (at : ℕ) (r : Record) (e : ℕ) → put_answer (length b) at r ≡ Ok e → put_bytes b at r ≡ pasted b at (encode r)
 unfolding put_answer put_bytes
 put_answered b at r e q = answered_bytes (verdict (write_checks (length b) at r)) (at + size_of r.kind) e (pasted b at (encode r)) b q
 
@@ -76,13 +77,13 @@ pub right_writes : (rs : List Record) → Right rs → ((get_or rs 0 nothing).ki
 right_writes rs right n b at room = write_all rs (writable rs right n) b at (omega arith)
 
 -- a sheet that does is not: the ring is refused with 2, at whatever place
-pub old_ring_refused : (n at : ℕ) (r : Record) → r.kind ≡ 3 → put_answer n at r ≡ put.Refused 2 at
+pub old_ring_refused : (n at : ℕ) (r : Record) → r.kind ≡ 3 → put_answer n at r ≡ Err (refusal 2 at)
 unfolding put_answer write_checks verdict written line_of kinds
 old_ring_refused n at r e = rw e
 
 pub old_ring_unwritten : {b b' : List ℕ} {at end : ℕ} {r : Record} {rs : List Record} → r.kind ≡ 3 → Writes b at (r ∷ rs) b' end → ⊥
 old_ring_unwritten {b} {at = at} {r = r} k (next {e = e} q w) =
-    let f : put.Refused 2 at ≡ put.Next e = sym (old_ring_refused (length b) at r k) ∙ q in
+    let f : Err (refusal 2 at) ≡ Ok e = sym (old_ring_refused (length b) at r k) ∙ q in
     let z : ◌≡◌ {A = ℕ} 0 1 = cc in
     omega arith
 

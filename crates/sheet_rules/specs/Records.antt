@@ -2,10 +2,10 @@
 -- Assumes nothing.
 use Rattle.std.specs.Prelude.{ℕ, ◌<◌, ◌≤◌, ◌≡◌, true, false, List, [], ◌∷◌, ◌++◌, length, get_or, take}
 use Rattle.sheet_record.specs.declared.Record.{Record}
-use Rattle.sheet_write.specs.declared.Put.TheVariants as put
 use Rattle.sheet_record.specs.Kinds.{known, is_stream, encode, in_range, nothing}
 use Rattle.sheet_write.specs.Writing.{put_answer, put_bytes}
 use Rattle.sheet_rules.specs.Sheets.{Sheet, sheet_of, given, fits, lacking, repeated, over_limit, met_before}
+use Rattle.std.specs.declared.result.Result.TheVariants.{Ok, Err}
 
 -- the records of a sheet: the first one, its settings, its streams
 unfoldable pub records_in : Sheet → List Record
@@ -41,4 +41,4 @@ pub record Right (rs : List Record) : Type 0 where
 pub data Writes : List ℕ → ℕ → List Record → List ℕ → ℕ → Type 0 where
   none : {b : List ℕ} {at : ℕ} → Writes b at [] b at
   next : {b b' : List ℕ} {at e end : ℕ} {r : Record} {rs : List Record}
-      → put_answer (length b) at r ≡ put.Next e → Writes (put_bytes b at r) e rs b' end → Writes b at (r ∷ rs) b' end
+      → put_answer (length b) at r ≡ Ok e → Writes (put_bytes b at r) e rs b' end → Writes b at (r ∷ rs) b' end

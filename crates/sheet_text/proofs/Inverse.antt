@@ -10,7 +10,7 @@ use borrow.Author.Tests.{eqb-true, ltb-true, ltb-false, le-ltb, not-false}
 use lib.Dec.{ltb, eqb}
 use lib.ListN.{length, get_or, take, drop, length-append, get_or-append}
 use lib.Seq.{take_at, drop_at, get_or-append-add}
-use Rattle.common.specs.Checks.{check, verdict}
+use Rattle.common.specs.Checks.{check, verdict, unless}
 use Rattle.common.specs.Checks.Verdict.{Passed}
 use Rattle.common.proofs.Checks.{Clear, passed_if, passed_then}
 use Rattle.common.proofs.Checks.Clear.{none as no-check, and}
@@ -22,8 +22,7 @@ use Rattle.sheet_record.proofs.Tables.{both_true, at_every_line, fields_at_most,
 use Rattle.sheet_record.proofs.Parts.{first_kinds}
 use Rattle.sheet_ranges.proofs.Fits.{Fit, in_range_fits}
 use Rattle.sheet_ranges.proofs.Fits.Fit.{none as no_field, over as no_number, more as a-field}
-use Rattle.sheet_write.specs.declared.Put.TheVariants as put
-use Rattle.sheet_write.specs.Writing.{greatest, put_by}
+use Rattle.sheet_write.specs.Writing.{greatest}
 use Rattle.sheet_write.proofs.Trips.{decode_fit}
 use Rattle.sheet_write.proofs.Writing.{next_passed}
 use Rattle.sheet_rules.specs.Sheets.{Sheet, bus_in}
@@ -43,6 +42,8 @@ use Rattle.sheet_text.specs.Answers.{sheet_text, text_by, sheet_by, export_check
 use Rattle.sheet_text.specs.Refusals.{AllSayable, StandsFor}
 use Rattle.sheet_text.specs.Refusals.AllSayable.{none, more}
 use Rattle.sheet_text.proofs.Meaning.{means_then, means_if}
+use Rattle.std.specs.declared.result.Result.TheVariants.{Ok, Err}
+use Rattle.common.specs.Checks.{refusal}
 
 -- ---- The records of an accepted sheet
 
@@ -216,21 +217,21 @@ pub record Exportable (s : List ℕ) (room n : ℕ) : Type 0 where
   pub fits : n ≤ room
 
 module _ (room : ℕ) (s : List ℕ) (n : ℕ) where
-  export_if : Exportable s room n → export_answer room s ≡ put.Next n
+  export_if : Exportable s room n → export_answer room s ≡ Ok n
   unfolding export_answer export_checks
   export_if x =
       let fits : length (sheet_text x.sheet) ≤ room = rw x.is_length at x.fits in
       let v : verdict (export_checks room x.sheet) ≡ Passed = passed_if (and (ap not x.worded) (and (le-ltb _ _ fits) no-check)) in
-      rw (x.reads, v) (ap put.Next (sym x.is_length))
+      rw (x.reads, v) (ap Ok (sym x.is_length))
 
-  pub export_then : export_answer room s ≡ put.Next n → Exportable s room n
+  pub export_then : export_answer room s ≡ Ok n → Exportable s room n
   unfolding export_answer export_checks
   export_then e = by (reading s) refl e
     where
       clear : (S : Sheet) → Clear (export_checks room S) → (has_word S.head.kind ≡ true) × (length (sheet_text S) ≤ room)
       clear S (and e₂ (and e₁₃ no-check)) = (not-false _ e₂, ltb-false _ _ e₁₃)
 
-      by : (o : Outcome) → reading s ≡ o → put_by (export_verdict room o) (length (text_by o)) ≡ put.Next n → Exportable s room n
+      by : (o : Outcome) → reading s ≡ o → unless (export_verdict room o) (length (text_by o)) ≡ Ok n → Exportable s room n
       by (Not m p) q a = absurd (let z : ◌≡◌ {A = ℕ} 0 1 = cc in omega arith)
       by (Read S) q a =
           let v = next_passed (verdict (export_checks room S)) (length (sheet_text S)) n a in
@@ -255,29 +256,29 @@ pub record Importable (t : List ℕ) (room n : ℕ) : Type 0 where
   pub fits : n ≤ room
 
 module _ (room : ℕ) (t : List ℕ) (n : ℕ) where
-  import_if : Importable t room n → import_answer room t ≡ put.Next n
+  import_if : Importable t room n → import_answer room t ≡ Ok n
   unfolding import_answer
   import_if x =
       let m = length x.bytes in
       let fits : m ≤ room = rw x.is_length at x.fits in
       let v : verdict (check 13 (ltb room m) m ∷ []) ≡ Passed = passed_if (and (le-ltb _ _ fits) no-check) in
-      rw (means_if x.stands, x.reads, v) (ap put.Next (sym x.is_length))
+      rw (means_if x.stands, x.reads, v) (ap Ok (sym x.is_length))
 
-  pub import_then : import_answer room t ≡ put.Next n → Importable t room n
+  pub import_then : import_answer room t ≡ Ok n → Importable t room n
   unfolding import_answer
   import_then e = by (meaning t) refl e
     where
       clear : (m : ℕ) → Clear (check 13 (ltb room m) m ∷ []) → m ≤ room
       clear m (and q no-check) = ltb-false _ _ q
 
-      read : (s : List ℕ) → meaning t ≡ Stands s → (o : Outcome) → reading s ≡ o → put_by (copy_verdict room (length s) o) (length s) ≡ put.Next n → Importable t room n
+      read : (s : List ℕ) → meaning t ≡ Stands s → (o : Outcome) → reading s ≡ o → unless (copy_verdict room (length s) o) (length s) ≡ Ok n → Importable t room n
       read s m (Not k p) q a = absurd (let z : ◌≡◌ {A = ℕ} 0 1 = cc in omega arith)
       read s m (Read S) q a =
           let cs = check 13 (ltb room (length s)) (length s) ∷ [] in
           let v = next_passed (verdict cs) (length s) n a in
           record { bytes = s; sheet = S; stands = means_then t s m; reads = q; is_length = v.1; fits = omega (arith, v.1, clear (length s) (passed_then cs v.0)) }
 
-      by : (m : Meaning) → meaning t ≡ m → put_by (import_verdict room m) (length (sheet_by m)) ≡ put.Next n → Importable t room n
+      by : (m : Meaning) → meaning t ≡ m → unless (import_verdict room m) (length (sheet_by m)) ≡ Ok n → Importable t room n
       by (Bad k) m a = absurd (let z : ◌≡◌ {A = ℕ} 0 1 = cc in omega arith)
       by (Stands s) m a = read s m (reading s) refl a
 
@@ -315,7 +316,7 @@ exported old s S e other fits =
     record { answer = export_if (length old) s n x; text = export_front old s n x }
 
 -- export, then import: what export wrote of a sheet, import turns into that sheet, byte by byte, in any run that holds it
-pub export_import : (old new s : List ℕ) (n : ℕ) → ((i : ℕ) → get_or s i 0 < 256) → export_answer (length old) s ≡ put.Next n → length s ≤ length new
+pub export_import : (old new s : List ℕ) (n : ℕ) → ((i : ℕ) → get_or s i 0 < 256) → export_answer (length old) s ≡ Ok n → length s ≤ length new
     → Imports new (take n (export_bytes old s)) s
 export_import old new s n bytes e fits =
     let x = export_then (length old) s n e in
@@ -325,7 +326,7 @@ export_import old new s n bytes e fits =
     record { answer = import_if (length new) (take n (export_bytes old s)) (length s) y; sheet = import_front new (take n (export_bytes old s)) (length s) y }
 
 -- import, then export: what import wrote of a text, export turns into that text, byte by byte, in any run that holds it
-pub import_export : (old new t : List ℕ) (n : ℕ) → import_answer (length old) t ≡ put.Next n → length t ≤ length new → Exports new (take n (import_bytes old t)) t
+pub import_export : (old new t : List ℕ) (n : ℕ) → import_answer (length old) t ≡ Ok n → length t ≤ length new → Exports new (take n (import_bytes old t)) t
 import_export old new t n e fits =
     let x = import_then (length old) t n e in
     let is : sheet_text x.sheet ≡ t = stands_text t x.bytes x.sheet x.stands x.reads in

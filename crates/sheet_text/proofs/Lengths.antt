@@ -13,7 +13,6 @@ use Rattle.sheet_record.specs.Widths.{width_at}
 use Rattle.sheet_record.proofs.Tables.{width_at_most}
 use Rattle.sheet_ranges.proofs.Fits.{Fit, in_range_fits}
 use Rattle.sheet_ranges.proofs.Fits.Fit.{none, over, more}
-use Rattle.sheet_write.specs.declared.Put.TheVariants as put
 use Rattle.sheet_write.specs.Writing.{greatest}
 use Rattle.sheet_rules.specs.Sheets.{Sheet, most_in_all}
 use Rattle.sheet_rules.specs.Records.{records_in}
@@ -26,6 +25,8 @@ use Rattle.sheet_line.proofs.Lines.{Small, line_most}
 use Rattle.sheet_pieces.specs.Texts.{text_of}
 use Rattle.sheet_text.specs.Answers.{sheet_text, most_text, export_answer, import_answer}
 use Rattle.sheet_text.proofs.Inverse.{how_many_records, ranged_at, export_then, import_then}
+use Rattle.std.specs.declared.result.Result.TheVariants.{Ok, Err}
+use Rattle.common.specs.Checks.{refusal}
 
 pub most_text_is : most_text ≡ 79968
 unfolding most_text most_in_all
@@ -68,12 +69,12 @@ text_at_most s S e =
     )
 
 -- the lengths that are answered: no one takes them for a refusal behind 2^32 (planner_exports)
-pub written_at_most : (room : ℕ) (s : List ℕ) (n : ℕ) → export_answer room s ≡ put.Next n → n ≤ 79968
+pub written_at_most : (room : ℕ) (s : List ℕ) (n : ℕ) → export_answer room s ≡ Ok n → n ≤ 79968
 written_at_most room s n e =
     let x = export_then room s n e in
     omega (arith, x.is_length, text_at_most s x.sheet x.reads, most_text_is)
 
-pub read_at_most : (room : ℕ) (t : List ℕ) (n : ℕ) → import_answer room t ≡ put.Next n → n ≤ 12804
+pub read_at_most : (room : ℕ) (t : List ℕ) (n : ℕ) → import_answer room t ≡ Ok n → n ≤ 12804
 read_at_most room t n e =
     let x = import_then room t n e in
     omega (arith, x.is_length, length_at_most x.bytes x.sheet x.reads, longest_sheet_is)

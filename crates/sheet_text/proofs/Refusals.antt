@@ -17,7 +17,6 @@ use Rattle.common.proofs.Checks.Applies.{here, later}
 use Rattle.sheet_record.specs.declared.Record.{Record}
 use Rattle.sheet_record.specs.Kinds.{decode}
 use Rattle.sheet_record.proofs.Tables.{known_within}
-use Rattle.sheet_write.specs.declared.Put.TheVariants as put
 use Rattle.sheet_write.proofs.Writing.{refused_by, refused_kept}
 use Rattle.sheet_rules.specs.Sheets.{Sheet}
 use Rattle.sheet_rules.specs.Records.{bytes_of}
@@ -39,11 +38,13 @@ use Rattle.sheet_text.specs.Refusals.ImportRefused.{bad_line, unread as unread-t
 use Rattle.sheet_text.specs.Refusals.ExportRefused.{unread, no_word, no_room}
 use Rattle.sheet_text.proofs.Meaning.{means_then, means_if, bad_then, bad_if}
 use Rattle.sheet_text.proofs.Inverse.{head_word, no_head_word}
+use Rattle.std.specs.declared.result.Result.TheVariants.{Ok, Err}
+use Rattle.common.specs.Checks.{refusal}
 
 -- ---- Import
 
 module _ (room : ℕ) (t : List ℕ) where
-  import_then : (n p : ℕ) → import_answer room t ≡ put.Refused n p → ImportRefused t room n p
+  import_then : (n p : ℕ) → import_answer room t ≡ Err (refusal n p) → ImportRefused t room n p
   unfolding import_answer
   import_then n p e = by (meaning t) refl (refused_by (import_verdict room (meaning t)) (length (sheet_by (meaning t))) n p e)
     where
@@ -65,24 +66,24 @@ module _ (room : ℕ) (t : List ℕ) where
           let b : k ≡ p = cc in
           rw (← a) (bad_line (bad_then t p (rw b at m)))
 
-  import_if : {n p : ℕ} → ImportRefused t room n p → import_answer room t ≡ put.Refused n p
+  import_if : {n p : ℕ} → ImportRefused t room n p → import_answer room t ≡ Err (refusal n p)
   unfolding import_answer
   import_if (bad_line b) = rw (bad_if b)
   import_if (unread-text {s} f g) = rw (means_if f, given_if s g)
   import_if (no-room-text {s} {S} f r l) = rw (means_if f, r, refused_if {cs = check 13 (ltb room (length s)) (length s) ∷ []} (here (lt-ltb _ _ l)))
 
-  pub import_refused : (n p : ℕ) → (import_answer room t ≡ put.Refused n p) ↔ ImportRefused t room n p
+  pub import_refused : (n p : ℕ) → (import_answer room t ≡ Err (refusal n p)) ↔ ImportRefused t room n p
   import_refused n p = (import_then n p, import_if)
 
 -- a refusal changes no byte
-pub import_keeps : (old t : List ℕ) (n p : ℕ) → import_answer (length old) t ≡ put.Refused n p → import_bytes old t ≡ old
+pub import_keeps : (old t : List ℕ) (n p : ℕ) → import_answer (length old) t ≡ Err (refusal n p) → import_bytes old t ≡ old
 unfolding import_answer import_bytes
 import_keeps old t n p e = refused_kept (import_verdict (length old) (meaning t)) (length (sheet_by (meaning t))) n p (over (sheet_by (meaning t)) old) old e
 
 -- ---- Export
 
 module _ (room : ℕ) (s : List ℕ) where
-  export_then : (n p : ℕ) → export_answer room s ≡ put.Refused n p → ExportRefused s room n p
+  export_then : (n p : ℕ) → export_answer room s ≡ Err (refusal n p) → ExportRefused s room n p
   unfolding export_answer export_checks
   export_then n p e = by (reading s) refl (refused_by (export_verdict room (reading s)) (length (text_by (reading s))) n p e)
     where
@@ -105,7 +106,7 @@ module _ (room : ℕ) (s : List ℕ) where
           let b : o ≡ p = cc in
           unread (given_then s n p (rw (a, b) at r))
 
-  export_if : {n p : ℕ} → ExportRefused s room n p → export_answer room s ≡ put.Refused n p
+  export_if : {n p : ℕ} → ExportRefused s room n p → export_answer room s ≡ Err (refusal n p)
   unfolding export_answer export_checks has_word
   export_if (unread g) = rw (given_if s g)
   export_if (no_word {S} r e) = rw (r, refused_if {cs = export_checks room S} (here (ap (λ (k : ℕ). not (has_word k)) e)))
@@ -113,10 +114,10 @@ module _ (room : ℕ) (s : List ℕ) where
       let w = head_word S.head.kind (reading_read s S r).head_first d in
       rw (r, refused_if {cs = export_checks room S} (later (ap not w) (here (lt-ltb _ _ l))))
 
-  pub export_refused : (n p : ℕ) → (export_answer room s ≡ put.Refused n p) ↔ ExportRefused s room n p
+  pub export_refused : (n p : ℕ) → (export_answer room s ≡ Err (refusal n p)) ↔ ExportRefused s room n p
   export_refused n p = (export_then n p, export_if)
 
-pub export_keeps : (old s : List ℕ) (n p : ℕ) → export_answer (length old) s ≡ put.Refused n p → export_bytes old s ≡ old
+pub export_keeps : (old s : List ℕ) (n p : ℕ) → export_answer (length old) s ≡ Err (refusal n p) → export_bytes old s ≡ old
 unfolding export_answer export_bytes
 export_keeps old s n p e = refused_kept (export_verdict (length old) (reading s)) (length (text_by (reading s))) n p (over (text_by (reading s)) old) old e
 

@@ -2,12 +2,10 @@
 -- for a sheet whose first record has no word, which is one of kind 3, and 13 with the text's length; import's are 23, those of reading, and 13
 -- with the sheet's length. Assumes nothing.
 use Rattle.std.specs.Prelude.{ℕ, suc, ◌+◌, ◌*◌, List, [], ◌∷◌, ◌≡◌, not, length, take, ltb}
-use Rattle.common.specs.Checks.{Check, check, Verdict, verdict}
+use Rattle.common.specs.Checks.{Check, check, Verdict, verdict, unless}
 use Rattle.common.specs.Checks.Verdict.{Refused}
 use Rattle.text.specs.Text.{over}
-use Rattle.sheet_write.specs.declared.Put.{Put}
-use Rattle.sheet_write.specs.declared.Put.TheVariants as put
-use Rattle.sheet_write.specs.Writing.{put_by, pasted_by}
+use Rattle.sheet_write.specs.Writing.{pasted_by}
 use Rattle.sheet_record.specs.Kinds.{pnet}
 use Rattle.sheet_rules.specs.Sheets.{Sheet, most_in_all}
 use Rattle.sheet_rules.specs.Records.{records_in}
@@ -16,6 +14,9 @@ use Rattle.sheet_rules.specs.Whole.Outcome.{Read, Not}
 use Rattle.sheet_line.specs.Lines.{has_word}
 use Rattle.sheet_pieces.specs.Texts.{Meaning, text_of, meaning}
 use Rattle.sheet_pieces.specs.Texts.Meaning.{Stands, Bad}
+use Rattle.std.specs.declared.result.Result.TheVariants.{Ok, Err}
+use Rattle.std.specs.declared.result.Result.{Result}
+use Rattle.common.specs.declared.Refusal.{Refusal}
 
 -- ---- Export, of the bytes s into a run of so many bytes
 
@@ -44,9 +45,9 @@ abbrev pub text_by : Outcome → List ℕ
 text_by (Read S) = sheet_text S
 text_by (Not n p) = []
 
-unfoldable pub export_answer : ℕ → List ℕ → Put
+unfoldable pub export_answer : ℕ → List ℕ → Result ℕ Refusal
 unfolding verdict export_checks reading
-export_answer room s = put_by (export_verdict room (reading s)) (length (text_by (reading s)))
+export_answer room s = unless (export_verdict room (reading s)) (length (text_by (reading s)))
 
 unfoldable pub export_bytes : List ℕ → List ℕ → List ℕ
 unfolding verdict export_checks reading
@@ -67,9 +68,9 @@ abbrev pub sheet_by : Meaning → List ℕ
 sheet_by (Stands s) = s
 sheet_by (Bad n) = []
 
-unfoldable pub import_answer : ℕ → List ℕ → Put
+unfoldable pub import_answer : ℕ → List ℕ → Result ℕ Refusal
 unfolding verdict reading meaning
-import_answer room t = put_by (import_verdict room (meaning t)) (length (sheet_by (meaning t)))
+import_answer room t = unless (import_verdict room (meaning t)) (length (sheet_by (meaning t)))
 
 unfoldable pub import_bytes : List ℕ → List ℕ → List ℕ
 unfolding verdict reading meaning
@@ -77,9 +78,9 @@ import_bytes old t = pasted_by (import_verdict (length old) (meaning t)) (over (
 
 -- ---- A sheet as it is, of the bytes s
 
-unfoldable pub copy_answer : ℕ → List ℕ → Put
+unfoldable pub copy_answer : ℕ → List ℕ → Result ℕ Refusal
 unfolding verdict reading
-copy_answer room s = put_by (copy_verdict room (length s) (reading s)) (length s)
+copy_answer room s = unless (copy_verdict room (length s) (reading s)) (length s)
 
 unfoldable pub copy_bytes : List ℕ → List ℕ → List ℕ
 unfolding verdict reading
@@ -89,10 +90,10 @@ copy_bytes old s = pasted_by (copy_verdict (length old) (length s) (reading s)) 
 
 -- export of the sheet s into the run `old` answers how long its text t is, and t then stands at the front of the run
 pub record Exports (old s t : List ℕ) : Type 0 where
-  pub answer : export_answer (length old) s ≡ put.Next (length t)
+  pub answer : export_answer (length old) s ≡ Ok (length t)
   pub text : take (length t) (export_bytes old s) ≡ t
 
 -- import of the text t into the run `old` answers how long the sheet s is, and s then stands at the front of the run
 pub record Imports (old t s : List ℕ) : Type 0 where
-  pub answer : import_answer (length old) t ≡ put.Next (length s)
+  pub answer : import_answer (length old) t ≡ Ok (length s)
   pub sheet : take (length s) (import_bytes old t) ≡ s

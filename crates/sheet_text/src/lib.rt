@@ -9,9 +9,7 @@ ghost use Rattle.sheet_rules.specs.Whole.Outcome.{Read};
 ghost use Rattle.sheet_text.specs.Answers.{sheet_text, most_text, export_answer, export_bytes, import_answer, import_bytes, copy_answer, copy_bytes};
 
 use sheet_line::{LINE, put_line};
-use sheet_pieces::Ended;
-use sheet_read::Reading;
-use sheet_write::Put;
+use common::Refusal;
 
 // No text of an accepted sheet is longer.
 pub const MOST_TEXT: usize = 79_968;
@@ -57,65 +55,44 @@ fn put_text(s: &[u8], out: &mut [u8]) -> usize
 }
 
 // Writes a sheet as text at the front of a run. Refused as reading refuses, with 2 for a sheet of kind 3, or with 13, and then no byte changes.
-pub fn export(s: &[u8], out: &mut [u8]) -> Put
+pub fn export(s: &[u8], out: &mut [u8]) -> Result<usize, Refusal>
     ensures value { result ≡ export_answer (length out.old) s.now }
     ensures out_after { out.new ≡ export_bytes out.old s.now }
 {
-    match sheet_read::read(s) {
-        Reading::Refused { no, place } => Put::Refused { no, place },
-        Reading::Accepted {
-            head,
-            streams: _,
-            first: _,
-        } => {
-            if !sheet_line::has_word(head.kind) {
-                return Put::Refused { no: 2, place: 0 };
-            }
-            let n = text_length(s);
-            if out.len() < n {
-                return Put::Refused { no: 13, place: n };
-            }
-            Put::Next(put_text(s, out))
-        }
+    let sheet = sheet_read::read(s)?;
+    if !sheet_line::has_word(sheet.head.kind) {
+        return Err(Refusal { no: 2, place: 0 });
     }
+    let n = text_length(s);
+    if out.len() < n {
+        return Err(Refusal { no: 13, place: n });
+    }
+    Ok(put_text(s, out))
 }
 
 // ---- Import
 
 // Writes a sheet as it is at the front of a run. Refused as reading refuses, or with 13, and then no byte changes.
-fn copy(s: &[u8], out: &mut [u8]) -> Put
+fn copy(s: &[u8], out: &mut [u8]) -> Result<usize, Refusal>
     ensures value { result ≡ copy_answer (length out.old) s.now }
     ensures out_after { out.new ≡ copy_bytes out.old s.now }
 {
-    match sheet_read::read(s) {
-        Reading::Refused { no, place } => Put::Refused { no, place },
-        Reading::Accepted {
-            head: _,
-            streams: _,
-            first: _,
-        } => {
-            let n = s.len();
-            if out.len() < n {
-                return Put::Refused { no: 13, place: n };
-            }
-            Put::Next(text::put_word(out, 0, s))
-        }
+    sheet_read::read(s)?;
+    let n = s.len();
+    if out.len() < n {
+        return Err(Refusal { no: 13, place: n });
     }
+    Ok(text::put_word(out, 0, s))
 }
 
 // Writes the sheet that a text stands for at the front of a run. Refused with 23 and a line's number, as reading refuses, or with 13, and then no byte changes.
-pub fn import(text: &[u8], out: &mut [u8]) -> Put
+pub fn import(text: &[u8], out: &mut [u8]) -> Result<usize, Refusal>
     ensures value { result ≡ import_answer (length out.old) text.now }
     ensures out_after { out.new ≡ import_bytes out.old text.now }
 {
     let mut front = sheet_pieces::line_buffer();
     let mut sheet = sheet_pieces::sheet_buffer();
     let taken = sheet_pieces::take(text, sheet_pieces::start(), &mut front, &mut sheet);
-    match sheet_pieces::end(taken) {
-        Ended::Bad(line) => Put::Refused {
-            no: 23,
-            place: line,
-        },
-        Ended::Sheet(n) => copy(&sheet[..n], out),
-    }
+    let n = sheet_pieces::end(taken)?;
+    copy(&sheet[..n], out)
 }

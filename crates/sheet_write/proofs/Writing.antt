@@ -8,58 +8,62 @@ use borrow.Author.Tests.{lt-ltb, le-ltb, ltb-false, not-false}
 use native.Mathlib.Omega.{arith}
 use lib.ListN.{length, take, drop, length-append}
 use lib.Seq.{length-take-le, take_at, drop_at}
-use Rattle.common.specs.Checks.{Check, check, Verdict, verdict}
+use Rattle.common.proofs.Answered.{unless_passed}
+use Rattle.common.specs.Checks.{Check, check, Verdict, verdict, unless}
 use Rattle.common.specs.Checks.Verdict.{Passed, Refused}
 use Rattle.common.proofs.Checks.{Applies, Clear, refused_if, passed_if, passed_then}
 use Rattle.common.proofs.Checks.Applies.{here, later}
 use Rattle.common.proofs.Checks.Clear.{none, and}
 use Rattle.sheet_record.specs.declared.Record.{Record}
-use Rattle.sheet_write.specs.declared.Put.{Put}
-use Rattle.sheet_write.specs.declared.Put.TheVariants as put
 use Rattle.sheet_record.specs.Numbers.{pasted}
 use Rattle.sheet_record.specs.Kinds.{Kind, kinds, line_of, fields_of, some, known, written, size_of, encode, decode, whole, in_range}
-use Rattle.sheet_write.specs.Writing.{greatest, needed, room_check, write_checks, free_checks, put_by, pasted_by, put_answer, put_bytes, free_answer, free_bytes}
+use Rattle.sheet_write.specs.Writing.{greatest, needed, room_check, write_checks, free_checks, pasted_by, put_answer, put_bytes, free_answer, free_bytes}
 use Rattle.sheet_record.proofs.Numbers.{length_pasted, pasted_front}
 use Rattle.sheet_record.proofs.Tables.{at_every_line, both_true}
 use Rattle.sheet_record.proofs.Parts.{by_kind}
 use Rattle.sheet_write.proofs.Trips.{length_encode, decode_encode, whole_encode}
+use Rattle.std.specs.declared.result.Result.TheVariants.{Ok, Err}
+use Rattle.common.proofs.Answered.{unless_passed}
+use Rattle.common.specs.Checks.{refusal}
+use Rattle.std.specs.declared.result.Result.{Result}
+use Rattle.common.specs.declared.Refusal.{Refusal}
 
 -- what a call answers and leaves in the buffer
-abbrev pub Written : List ℕ → ℕ → Record → Put → List ℕ → Type 0
+abbrev pub Written : List ℕ → ℕ → Record → Result ℕ Refusal → List ℕ → Type 0
 Written b at r p b' = (p ≡ put_answer (length b) at r) × (b' ≡ put_bytes b at r)
 
 -- and one that does not look at ranges
-abbrev pub Freely : List ℕ → ℕ → Record → Put → List ℕ → Type 0
+abbrev pub Freely : List ℕ → ℕ → Record → Result ℕ Refusal → List ℕ → Type 0
 Freely b at r p b' = (p ≡ free_answer (length b) at r) × (b' ≡ free_bytes b at r)
 
 module _ (b : List ℕ) (at : ℕ) (r : Record) where
-  refused_free : {n p : ℕ} → Applies (free_checks (length b) at r) n p → Freely b at r (put.Refused n p) b
+  refused_free : {n p : ℕ} → Applies (free_checks (length b) at r) n p → Freely b at r (Err (refusal n p)) b
   unfolding free_answer free_bytes
   refused_free a = let e = refused_if a in (rw e, rw e)
 
-  passed_free : Clear (free_checks (length b) at r) → Freely b at r (put.Next (at + size_of r.kind)) (pasted b at (encode r))
+  passed_free : Clear (free_checks (length b) at r) → Freely b at r (Ok (at + size_of r.kind)) (pasted b at (encode r))
   unfolding free_answer free_bytes
   passed_free c = let e = passed_if c in (rw e, rw e)
 
-  pub unknown_free : written r.kind ≡ false → Freely b at r (put.Refused 2 at) b
+  pub unknown_free : written r.kind ≡ false → Freely b at r (Err (refusal 2 at)) b
   unfolding free_checks
   unknown_free k = refused_free (here (ap not k))
 
   module _ (k : written r.kind ≡ true) where
     -- no room: 13, with the length that the whole buffer needs
-    pub short_free : length b < at + size_of r.kind → (p : ℕ) → needed (at + size_of r.kind) ≡ p → Freely b at r (put.Refused 13 p) b
+    pub short_free : length b < at + size_of r.kind → (p : ℕ) → needed (at + size_of r.kind) ≡ p → Freely b at r (Err (refusal 13 p)) b
     unfolding free_checks
     short_free h p e =
         let t = lt-ltb (length b) (at + size_of r.kind) h in
         rw (← e) (refused_free (later (ap not k) (here t)))
 
-    pub room_free : at + size_of r.kind ≤ length b → Freely b at r (put.Next (at + size_of r.kind)) (pasted b at (encode r))
+    pub room_free : at + size_of r.kind ≤ length b → Freely b at r (Ok (at + size_of r.kind)) (pasted b at (encode r))
     unfolding free_checks
     room_free h =
         let t = le-ltb (length b) (at + size_of r.kind) h in
         passed_free (and (ap not k) (and t none))
 
-  pub range_written : (written r.kind && not (in_range greatest r)) ≡ true → Written b at r (put.Refused 4 at) b
+  pub range_written : (written r.kind && not (in_range greatest r)) ≡ true → Written b at r (Err (refusal 4 at)) b
   unfolding write_checks put_answer put_bytes
   range_written t =
       let h = both_true (written r.kind) (not (in_range greatest r)) t in
@@ -77,11 +81,11 @@ module _ (b : List ℕ) (at : ℕ) (r : Record) where
       split true true h = refl
       split true false h = let z : ◌≡◌ {A = ℕ} 0 1 = cc in absurd (omega arith)
 
-  pub free_written : {p : Put} {b' : List ℕ} → (written r.kind && not (in_range greatest r)) ≡ false → Freely b at r p b' → Written b at r p b'
+  pub free_written : {p : Result ℕ Refusal} {b' : List ℕ} → (written r.kind && not (in_range greatest r)) ≡ false → Freely b at r p b' → Written b at r p b'
   unfolding free_answer free_bytes put_answer put_bytes
   free_written e f = let q = same_verdict (length b) e in (f.0 ∙ rw q, f.1 ∙ rw q)
 
-  pub room_written : written r.kind ≡ true → in_range greatest r ≡ true → at + size_of r.kind ≤ length b → Written b at r (put.Next (at + size_of r.kind)) (pasted b at (encode r))
+  pub room_written : written r.kind ≡ true → in_range greatest r ≡ true → at + size_of r.kind ≤ length b → Written b at r (Ok (at + size_of r.kind)) (pasted b at (encode r))
   room_written k ok h = free_written (rw (k, ok)) (room_free k h)
 
 -- what the whole buffer needs is counted in 64 bits, or 0
@@ -144,15 +148,6 @@ pub record Stands (b now : List ℕ) (at : ℕ) (r : Record) (e : ℕ) : Type 0 
   pub same_before : take at now ≡ take at b
   pub same_after : drop e now ≡ drop e b
 
--- what an answer tells of the verdict that it was made of
-pub next_passed : (v : Verdict) (end e : ℕ) → put_by v end ≡ put.Next e → (v ≡ Passed) × (e ≡ end)
-next_passed Passed end e q = (refl, cc)
-next_passed (Refused n p) end e q = (cc, cc)
-
-pub refused_by : (v : Verdict) (end n p : ℕ) → put_by v end ≡ put.Refused n p → v ≡ Refused n p
-refused_by Passed end n p q = cc
-refused_by (Refused m o) end n p q = let a : m ≡ n = cc in let b : o ≡ p = cc in cc
-
 pasted_stands : (b : List ℕ) (at : ℕ) (r : Record) → known r.kind ≡ true → in_range greatest r ≡ true → at + size_of r.kind ≤ length b
     → Stands b (pasted b at (encode r)) at r (at + size_of r.kind)
 pasted_stands b at r k ok fits =
@@ -176,23 +171,23 @@ clear_rest : {c : Check} {cs : List Check} → Clear (c ∷ cs) → (c.given ≡
 clear_rest (and e t) = (e, t)
 
 -- a record whose writing answers a place stands there
-pub written_stands : (b : List ℕ) (at : ℕ) (r : Record) (e : ℕ) → put_answer (length b) at r ≡ put.Next e → Stands b (put_bytes b at r) at r e
+pub written_stands : (b : List ℕ) (at : ℕ) (r : Record) (e : ℕ) → put_answer (length b) at r ≡ Ok e → Stands b (put_bytes b at r) at r e
 unfolding put_answer put_bytes write_checks
 written_stands b at r e q =
     let z = at + size_of r.kind in
-    let v = next_passed (verdict (write_checks (length b) at r)) z e q in
+    let v = unless_passed (verdict (write_checks (length b) at r)) z q in
     let c₁ = clear_rest (passed_then (write_checks (length b) at r) v.0) in
     let c₂ = clear_rest c₁.1 in
     let c₃ = clear_rest c₂.1 in
     let fits = ltb-false (length b) z c₃.0 in
     let same : put_bytes b at r ≡ pasted b at (encode r) = simp v.0 in
-    rw (v.1, same) (pasted_stands b at r (written_known r.kind (not-false (written r.kind) c₁.0)) (not-false (in_range greatest r) c₂.0) fits)
+    rw (← v.1, same) (pasted_stands b at r (written_known r.kind (not-false (written r.kind) c₁.0)) (not-false (in_range greatest r) c₂.0) fits)
 
-pub refused_kept : (v : Verdict) (end n p : ℕ) (new b : List ℕ) → put_by v end ≡ put.Refused n p → pasted_by v new b ≡ b
+pub refused_kept : (v : Verdict) (end n p : ℕ) (new b : List ℕ) → unless v end ≡ Err (refusal n p) → pasted_by v new b ≡ b
 refused_kept Passed end n p new b q = cc
 refused_kept (Refused m o) end n p new b q = refl
 
 -- and a refusal changes no byte
-pub refused_keeps : (b : List ℕ) (at : ℕ) (r : Record) (n p : ℕ) → put_answer (length b) at r ≡ put.Refused n p → put_bytes b at r ≡ b
+pub refused_keeps : (b : List ℕ) (at : ℕ) (r : Record) (n p : ℕ) → put_answer (length b) at r ≡ Err (refusal n p) → put_bytes b at r ≡ b
 unfolding put_answer put_bytes
 refused_keeps b at r n p q = refused_kept (verdict (write_checks (length b) at r)) (at + size_of r.kind) n p (pasted b at (encode r)) b q

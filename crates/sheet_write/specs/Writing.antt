@@ -1,13 +1,13 @@
 -- Page 01, 'Sheet records', the writer: what writing one record answers, and what the buffer then holds. Assumes nothing.
 use Rattle.std.specs.Prelude.{ℕ, ◌+◌, ◌^◌, List, [], ◌∷◌, cond, not, length, ltb}
-use Rattle.common.specs.Checks.{Check, check, Verdict, verdict}
+use Rattle.common.specs.Checks.{Check, check, Verdict, verdict, unless}
 use Rattle.common.specs.Checks.Verdict.{Passed, Refused}
 use Rattle.sheet_record.specs.Numbers.{pasted}
 use Rattle.sheet_record.specs.Kinds.{written, size_of, encode, in_range}
 use Rattle.sheet_record.specs.declared.Given.{Given}
 use Rattle.sheet_record.specs.declared.Record.{Record}
-use Rattle.sheet_write.specs.declared.Put.{Put}
-use Rattle.sheet_write.specs.declared.Put.TheVariants as put
+use Rattle.std.specs.declared.result.Result.{Result}
+use Rattle.common.specs.declared.Refusal.{Refusal}
 
 -- limits that need another record are taken at their greatest: 32 masters, a longest message of 100,000
 abbrev pub greatest : Given
@@ -34,27 +34,23 @@ unfoldable pub free_checks : ℕ → ℕ → Record → List Check
 unfolding written needed size_of
 free_checks n at r = kind_check at r ∷ room_check n at r ∷ []
 
-abbrev pub put_by : Verdict → ℕ → Put
-put_by Passed end = put.Next end
-put_by (Refused n p) end = put.Refused n p
-
 abbrev pub pasted_by : Verdict → List ℕ → List ℕ → List ℕ
 pasted_by Passed new b = new
 pasted_by (Refused n p) new b = b
 
 -- the answer: the place just after the record, or the refusal
-unfoldable pub put_answer : ℕ → ℕ → Record → Put
+unfoldable pub put_answer : ℕ → ℕ → Record → Result ℕ Refusal
 unfolding verdict write_checks size_of
-put_answer n at r = put_by (verdict (write_checks n at r)) (at + size_of r.kind)
+put_answer n at r = unless (verdict (write_checks n at r)) (at + size_of r.kind)
 
 -- the buffer: only the record's own bytes change, and none on a refusal
 unfoldable pub put_bytes : List ℕ → ℕ → Record → List ℕ
 unfolding verdict write_checks encode
 put_bytes b at r = pasted_by (verdict (write_checks (length b) at r)) (pasted b at (encode r)) b
 
-unfoldable pub free_answer : ℕ → ℕ → Record → Put
+unfoldable pub free_answer : ℕ → ℕ → Record → Result ℕ Refusal
 unfolding verdict free_checks size_of
-free_answer n at r = put_by (verdict (free_checks n at r)) (at + size_of r.kind)
+free_answer n at r = unless (verdict (free_checks n at r)) (at + size_of r.kind)
 
 unfoldable pub free_bytes : List ℕ → ℕ → Record → List ℕ
 unfolding verdict free_checks encode

@@ -8,15 +8,9 @@ ghost use Rattle.sheet_record.specs.Kinds.{encode};
 ghost use Rattle.sheet_record.specs.Widths.{Wide};
 ghost use Rattle.sheet_write.specs.Writing.{put_answer, put_bytes, free_answer, free_bytes};
 
+use common::Refusal;
 use sheet_ranges::in_range;
 use sheet_record::{Given, Record, known};
-
-// What writing a record answers: the place just after it, or the refusal's number and place.
-#[derive(Clone, Copy)]
-pub enum Put {
-    Next(usize),
-    Refused { no: u8, place: usize },
-}
 
 // Puts the w digits of v from a place on, the highest first.
 fn put_number(buf: &mut [u8], at: usize, w: usize, v: u32)
@@ -75,7 +69,7 @@ fn put_whole(
     wc: usize,
     wd: usize,
     we: usize,
-) -> Put
+) -> Result<usize, Refusal>
     requires kind_value { Kinds.written r.kind ≡ true }
     requires wide { Wide r.kind wa wb wc wd we }
     ensures value { result ≡ free_answer (length buf.old) at r }
@@ -83,14 +77,14 @@ fn put_whole(
 {
     let size = 1 + wa + wb + wc + wd + we;
     if LAST - size < at {
-        return Put::Refused { no: 13, place: 0 };
+        return Err(Refusal { no: 13, place: 0 });
     }
     let end = at + size;
     if buf.len() < end {
-        return Put::Refused { no: 13, place: end };
+        return Err(Refusal { no: 13, place: end });
     }
     store(buf, at, r, wa, wb, wc, wd, we);
-    Put::Next(end)
+    Ok(end)
 }
 
 // The writer puts this kind: all that are known but 3, in whose place stand 9 and 10.
@@ -100,14 +94,15 @@ fn written(kind: u8) -> bool
     known(kind) & (kind != 3)
 }
 
-// Writes one record at a place, whatever its numbers are: of each the bytes of its field. Refused with 2 or 13, and then no byte changes.
-pub fn put_free(buf: &mut [u8], at: usize, r: Record) -> Put
+// Writes one record at a place, whatever its numbers are: of each the bytes of its field. Answers the place just after it. Refused with 2 or 13, and then no
+// byte changes.
+pub fn put_free(buf: &mut [u8], at: usize, r: Record) -> Result<usize, Refusal>
     ensures value { result ≡ free_answer (length buf.old) at r }
     ensures buf_after { buf.new ≡ free_bytes buf.old at r }
 {
     let kind = r.kind;
     if !written(kind) {
-        return Put::Refused { no: 2, place: at };
+        return Err(Refusal { no: 2, place: at });
     }
     match kind {
         1 => put_whole(buf, at, r, 1, 0, 0, 0, 0),
@@ -122,8 +117,8 @@ pub fn put_free(buf: &mut [u8], at: usize, r: Record) -> Put
     }
 }
 
-// Writes one record at a place. Refused with 2, 4 or 13, in this order, and then no byte changes.
-pub fn put_record(buf: &mut [u8], at: usize, r: Record) -> Put
+// Writes one record at a place, and answers the place just after it. Refused with 2, 4 or 13, in this order, and then no byte changes.
+pub fn put_record(buf: &mut [u8], at: usize, r: Record) -> Result<usize, Refusal>
     ensures value { result ≡ put_answer (length buf.old) at r }
     ensures buf_after { buf.new ≡ put_bytes buf.old at r }
 {
@@ -133,7 +128,7 @@ pub fn put_record(buf: &mut [u8], at: usize, r: Record) -> Put
         message: 100000,
     };
     if written(r.kind) & !in_range(given, r) {
-        return Put::Refused { no: 4, place: at };
+        return Err(Refusal { no: 4, place: at });
     }
     put_free(buf, at, r)
 }

@@ -11,9 +11,11 @@ use lib.ListN.{length, get_or, drop}
 use lib.Seq.{drop-cons, drop-length}
 use Rattle.common.proofs.Outside.{outside_is}
 use Rattle.text.specs.Text.{read_behind}
-use Rattle.text_entry.specs.declared.Entered.{Entered}
-use Rattle.text_entry.specs.declared.Entered.TheVariants as answer
 use Rattle.text_entry.specs.Entered.{is_digit, all_digits, entered_of}
+use Rattle.std.specs.declared.result.Result.TheVariants.{Ok, Err}
+use Rattle.std.specs.declared.result.Result.{Result}
+use Rattle.std.specs.declared.option.Option.{Option}
+use Rattle.std.specs.declared.option.Option.TheVariants.{Some, None}
 
 -- ---- One digit
 
@@ -34,27 +36,27 @@ alike m n [] e = e
 alike m n (b ∷ t) e = alike (m * 10 + (b - 48)) (n * 10 + (b - 48)) t (omega arith)
 
 -- the answer, with n for the digits so far and t for what is left
-unfoldable pub entered_behind : ℕ → List ℕ → Entered
-entered_behind n t = cond (all_digits t) (answer.Number (min (read_behind n t) 4294967295)) answer.Nothing
+unfoldable pub entered_behind : ℕ → List ℕ → Option ℕ
+entered_behind n t = cond (all_digits t) (Some (min (read_behind n t) 4294967295)) None
 
 module _ (n d : ℕ) (t : List ℕ) where
   pub behind_digit : 48 ≤ d → d ≤ 57 → entered_behind n (d ∷ t) ≡ entered_behind (min (n * 10 + (d - 48)) 4294967295) t
   unfolding entered_behind all_digits read_behind
   behind_digit lo hi =
       rw (is_digit_law d lo hi)
-      (ap (λ (v : ℕ). cond (all_digits t) (answer.Number v) answer.Nothing) (alike (n * 10 + (d - 48)) (min (n * 10 + (d - 48)) 4294967295) t (omega arith)))
+      (ap (λ (v : ℕ). cond (all_digits t) (Some v) None) (alike (n * 10 + (d - 48)) (min (n * 10 + (d - 48)) 4294967295) t (omega arith)))
 
-  pub behind_other : (ltb d 48 || ltb 57 d) ≡ true → entered_behind n (d ∷ t) ≡ answer.Nothing
+  pub behind_other : (ltb d 48 || ltb 57 d) ≡ true → entered_behind n (d ∷ t) ≡ None
   unfolding entered_behind all_digits
   behind_other h = rw (is_none d h) refl
 
-pub behind_none : (n : ℕ) → n ≤ 4294967295 → entered_behind n [] ≡ answer.Number n
+pub behind_none : (n : ℕ) → n ≤ 4294967295 → entered_behind n [] ≡ Some n
 unfolding entered_behind all_digits read_behind
-behind_none n s = ap answer.Number (omega arith)
+behind_none n s = ap Some (omega arith)
 
 -- ---- The walk
 
-pub entered_empty : (t : List ℕ) → length t ≡ 0 → entered_of t ≡ answer.Nothing
+pub entered_empty : (t : List ℕ) → length t ≡ 0 → entered_of t ≡ None
 unfolding entered_of
 entered_empty [] e = refl
 entered_empty (b ∷ t) e = absurd (omega arith)

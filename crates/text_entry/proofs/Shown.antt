@@ -8,9 +8,10 @@ use lib.ListN.{length}
 use Rattle.common.proofs.Firsts.{first_is}
 use Rattle.text.specs.Text.{digit, places, holds, width_of, decimal, read_behind}
 use Rattle.text.proofs.Numbers.{length_places, decimal_reads_back}
-use Rattle.text_entry.specs.declared.Entered.TheVariants as answer
 use Rattle.text_entry.specs.Entered.{is_digit, all_digits, entered_of}
 use Rattle.text_entry.proofs.Laws.{is_digit_law, entered_behind, entered_some}
+use Rattle.std.specs.declared.result.Result.TheVariants.{Ok, Err}
+use Rattle.std.specs.declared.option.Option.TheVariants.{Some}
 
 -- a digit in front, and what is known of the rest
 in_front : (a x y : Bool) → (a && x) ≡ true → (x ≡ true → y ≡ true) → (a && y) ≡ true
@@ -32,7 +33,7 @@ pub decimal_digits : (n : ℕ) → all_digits (decimal n) ≡ true
 unfolding decimal
 decimal_digits n = digits_of (width_of n) n
 
-pub shown_is_entered : (n : ℕ) → n < 2 ^ 32 → entered_of (decimal n) ≡ answer.Number n
+pub shown_is_entered : (n : ℕ) → n < 2 ^ 32 → entered_of (decimal n) ≡ Some n
 unfolding decimal width_of entered_behind
 shown_is_entered n small =
     let some : length (decimal n) ≡ 0 → ⊥ = λ e. omega (arith, e, length_places (width_of n) n, (first_is (holds n) 20 1).from) in

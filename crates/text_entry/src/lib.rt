@@ -4,13 +4,6 @@
 ghost use Rattle.std.specs.Prelude.{◌≡◌, ◌+◌, ◌-◌, ◌*◌, ◌≤◌, min};
 ghost use Rattle.text_entry.specs.Entered.{entered_of, with_byte};
 
-// A number, or a word that is none.
-#[derive(Clone, Copy)]
-pub enum Entered {
-    Number(u32),
-    Nothing,
-}
-
 // One digit more, as far as 32 bits go.
 fn with_digit(n: u32, digit: u8) -> u32
     requires { (48 ≤ digit) × (digit ≤ 57) }
@@ -33,22 +26,22 @@ pub fn with_byte(n: u32, byte: u8) -> u32
     with_digit(n, byte)
 }
 
-// The number that a word of decimal digits says; one that 32 bits do not hold is the greatest that they hold.
-pub fn number(word: &[u8]) -> Entered
+// The number that a word of decimal digits says, if it is one; one that 32 bits do not hold is the greatest that they hold.
+pub fn number(word: &[u8]) -> Option<u32>
     ensures { result ≡ entered_of word.now }
 {
     if word.len() == 0 {
-        return Entered::Nothing;
+        return None;
     }
     let mut n: u32 = 0;
     let mut i: usize = 0;
     while i < word.len() {
         let digit = word[i];
         if (digit < 48) | (digit > 57) {
-            return Entered::Nothing;
+            return None;
         }
         n = with_digit(n, digit);
         i += 1;
     }
-    Entered::Number(n)
+    Some(n)
 }

@@ -1,8 +1,7 @@
 -- Page 01, 'Numbered refusals' and 'WorldFIP table': what the table of a sheet goes by, before any row is built. Reading's refusals come first, then 3 for another
 -- bus's sheet, then 10 and 11. Assumes nothing.
-use Rattle.std.specs.Prelude.{ℕ, ◌-◌, List, [], ◌∷◌, not, eqb, ltb, replicate}
-use Rattle.common.specs.Checks.{Check, check, Verdict, verdict}
-use Rattle.common.specs.Checks.Verdict.{Passed, Refused}
+use Rattle.std.specs.Prelude.{ℕ, ◌-◌, List, [], ◌∷◌, not, eqb, ltb}
+use Rattle.common.specs.Checks.{Check, check, verdict, refusal, unless}
 use Rattle.common.specs.Runs.{tab}
 use Rattle.common.specs.Sums.{when}
 use Rattle.sheet_record.specs.Kinds.{worldfip}
@@ -12,8 +11,10 @@ use Rattle.sheet_rules.specs.Whole.Outcome.{Read, Not}
 use Rattle.units.specs.Units.{us}
 use Rattle.worldfip_rules.specs.Traffic.{Traffic, variable_of, identifier_at, microcycle, slots, rows, period_at}
 use Rattle.worldfip_figures.specs.declared.Figures.{Figures}
-use Rattle.worldfip_figures.specs.declared.Told.TheVariants as told
 use Rattle.worldfip_figures.specs.Declares.{traffic_of}
+use Rattle.std.specs.declared.result.Result.{Result}
+use Rattle.std.specs.declared.result.Result.TheVariants.{Err}
+use Rattle.common.specs.declared.Refusal.{Refusal}
 
 -- ---- The refusals, in the page's order
 
@@ -35,18 +36,21 @@ unfoldable pub place_at : Traffic → ℕ → ℕ
 unfolding variable_of
 place_at T r = when (ltb r T.number) (variable_of T r - 1)
 
-abbrev pub stopped : ℕ → ℕ → Figures
-stopped n p = record { told = told.Refused n p; places = replicate 64 0; periods = replicate 65 0 }
+abbrev pub figures_by : Traffic → Figures
+figures_by T =
+    record {
+      variables = T.number;
+      microcycle = us (microcycle T);
+      slots = slots T;
+      rows = rows T;
+      places = tab (place_at T) 64;
+      periods = tab (period_at T) 65;
+    }
 
-abbrev pub figures_by : Verdict → Traffic → Figures
-figures_by Passed T =
-    record { told = told.Table T.number (us (microcycle T)) (slots T) (rows T); places = tab (place_at T) 64; periods = tab (period_at T) 65 }
-figures_by (Refused n p) T = stopped n p
-
-unfoldable pub figures_of : Outcome → Figures
+unfoldable pub figures_of : Outcome → Result Figures Refusal
 unfolding verdict sheet_checks traffic_of microcycle slots rows tab place_at period_at
-figures_of (Read S) = figures_by (verdict (sheet_checks S)) (traffic_of S)
-figures_of (Not n p) = stopped n p
+figures_of (Read S) = unless (verdict (sheet_checks S)) (figures_by (traffic_of S))
+figures_of (Not n p) = Err (refusal n p)
 
 -- ---- Identifiers by rank, 64 of them; 0 past the last rank, and for all that is no WorldFIP sheet
 

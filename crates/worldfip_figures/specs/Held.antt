@@ -1,11 +1,13 @@
 -- What the code holds of a sheet, in arrays that count from 0. Assumes nothing.
 use Rattle.std.specs.Prelude.{◌≡◌, List, ℕ, ◌+◌, ◌-◌, ◌/◌, ◌≤◌, ◌<◌, length, get_or, ltb}
 use Rattle.common.specs.Sums.{when}
-use Rattle.common.specs.Checks.{verdict}
+use Rattle.common.specs.Checks.{verdict, unless}
 use Rattle.common.specs.Runs.{tab}
 use Rattle.worldfip_rules.specs.Traffic.{Traffic, Declared, plain, variable_of, microcycle, slots, rows, period_at}
 use Rattle.worldfip_figures.specs.declared.Figures.{Figures}
 use Rattle.worldfip_figures.specs.Figures.{figure_checks, place_at, figures_by}
+use Rattle.std.specs.declared.result.Result.{Result}
+use Rattle.common.specs.declared.Refusal.{Refusal}
 
 -- entry i of an array, counted from 1
 unfoldable pub numbered : List ℕ → ℕ → ℕ
@@ -22,9 +24,9 @@ pub record Sheeted (ps : List ℕ) (n e : ℕ) : Type 0 where
   pub declares : Declared (held ps n e)
 
 -- what its table goes by, past refusal 3
-unfoldable pub measured : Traffic → Figures
+unfoldable pub measured : Traffic → Result Figures Refusal
 unfolding verdict figure_checks microcycle slots rows tab place_at period_at
-measured T = figures_by (verdict (figure_checks T)) T
+measured T = unless (verdict (figure_checks T)) (figures_by T)
 
 -- at most 64 periods, none shorter than c, which is not 0
 pub record Whole (ps : List ℕ) (n c : ℕ) : Type 0 where

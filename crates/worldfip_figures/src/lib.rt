@@ -14,71 +14,45 @@ ghost use Rattle.worldfip_figures.specs.Figures.{stopped, figures_of, identifier
 ghost use Rattle.worldfip_figures.specs.Held.{held, Sheeted, measured, Gathered};
 
 use periods::{by_rank, in_rows, microcycle, names_by_rank, rows_of};
-use sheet_read::Reading;
+use common::Refusal;
 use units::Micros;
 
-// What a table has, or why there is none.
-#[derive(Clone, Copy)]
-pub enum Told {
-    Table {
-        variables: usize,
-        microcycle: Micros,
-        slots: u32,
-        rows: u32,
-    },
-    // The refusal's number, and its place.
-    Refused {
-        no: u8,
-        place: usize,
-    },
-}
-
-// That, and the variables by rank: their places in the sheet, from 0, and their periods in rows. Past the last rank stands 0, and behind a refusal 0 alone.
+// What a table has, and the variables by rank: their places in the sheet, from 0, and their periods in rows. Past the last rank stands 0.
 #[derive(Clone, Copy)]
 pub struct Figures {
-    pub told: Told,
+    pub variables: usize,
+    pub microcycle: Micros,
+    pub slots: u32,
+    pub rows: u32,
     pub places: [usize; 64],
     pub periods: [u32; 65],
 }
 
-// No table, and why.
-fn stop(no: u8, place: usize) -> Figures
-    ensures { result ≡ stopped no place }
-{
-    Figures {
-        told: Told::Refused { no, place },
-        places: [0usize; 64],
-        periods: [0u32; 65],
-    }
-}
-
 // 10, 11, in this order, and then the figures of n periods.
-fn measure(ps: &[u32], n: usize, e: u32) -> Figures
+fn measure(ps: &[u32], n: usize, e: u32) -> Result<Figures, Refusal>
     requires { Sheeted ps.now n e }
     ensures { result ≡ measured (held ps.now n e) }
 {
     let c = microcycle(ps, n);
     if c < e {
-        return stop(10, 0);
+        return Err(Refusal { no: 10, place: 0 });
     }
     let rows = rows_of(ps, n, c);
     if 4096 < rows {
-        return stop(11, 0);
+        return Err(Refusal { no: 11, place: 0 });
     }
     let places = by_rank(ps, n);
     let periods = in_rows(ps, &places, n, c);
     let slots = c / e;
     let cycle = c as u64;
-    Figures {
-        told: Told::Table {
-            variables: n,
-            microcycle: Micros(cycle),
-            slots,
-            rows,
-        },
+    Ok(Figures {
+        variables: n,
+        microcycle: Micros(cycle),
+        slots,
+        rows,
         places,
         periods,
-    }
+    })
 }
 
 // ---- The sheet
@@ -110,45 +84,33 @@ fn gather(s: &[u8], first: usize, n: usize) -> Variables
 }
 
 // What the table of a WorldFIP sheet goes by, or the refusal.
-pub fn figures_of(s: &[u8]) -> Figures
+pub fn figures_of(s: &[u8]) -> Result<Figures, Refusal>
     ensures { result ≡ figures_of (reading s.now) }
 {
-    match sheet_read::read(s) {
-        Reading::Refused { no, place } => stop(no, place),
-        Reading::Accepted {
-            head,
-            streams,
-            first,
-        } => {
-            if sheet_record::bus_of(head.kind) != 5 {
-                return stop(3, 0);
-            }
-            let v = gather(s, first, streams);
-            let periods = v.periods;
-            measure(&periods, streams, head.a)
-        }
+    let sheet = sheet_read::read(s)?;
+    let head = sheet.head;
+    if sheet_record::bus_of(head.kind) != 5 {
+        return Err(Refusal { no: 3, place: 0 });
     }
+    let v = gather(s, sheet.first, sheet.streams);
+    let periods = v.periods;
+    measure(&periods, sheet.streams, head.a)
 }
 
 // The identifiers of a WorldFIP sheet by rank, and 0 past the last rank; all 0 for bytes that are no WorldFIP sheet.
 pub fn identifiers(s: &[u8]) -> [u16; 64]
     ensures { result ≡ tab (identifier_of (reading s.now)) 64 }
 {
-    match sheet_read::read(s) {
-        Reading::Refused { no: _, place: _ } => [0u16; 64],
-        Reading::Accepted {
-            head,
-            streams,
-            first,
-        } => {
-            if sheet_record::bus_of(head.kind) != 5 {
-                return [0u16; 64];
-            }
-            let v = gather(s, first, streams);
-            let names = v.names;
-            let periods = v.periods;
-            let places = by_rank(&periods, streams);
-            names_by_rank(&names, &places, streams)
-        }
+    let Ok(sheet) = sheet_read::read(s) else {
+        return [0u16; 64];
+    };
+    if sheet_record::bus_of(sheet.head.kind) != 5 {
+        return [0u16; 64];
     }
+    let streams = sheet.streams;
+    let v = gather(s, sheet.first, streams);
+    let names = v.names;
+    let periods = v.periods;
+    let places = by_rank(&periods, streams);
+    names_by_rank(&names, &places, streams)
 }

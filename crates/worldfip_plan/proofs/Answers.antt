@@ -23,8 +23,11 @@ use Rattle.worldfip_figures.specs.Figures.{sheet_checks}
 use Rattle.worldfip_figures.proofs.Measured.{Stops}
 use Rattle.worldfip_figures.proofs.Measured.Stops.{unread, checked}
 use Rattle.worldfip_plan.specs.declared.answer.Plan.{Plan}
-use Rattle.worldfip_plan.specs.declared.answer.Plan.TheVariants as plan
 use Rattle.worldfip_plan.specs.Answer.{row_checks, plan_checks, plan_by, run_by, plan_of, run_of}
+use Rattle.std.specs.declared.result.Result.TheVariants.{Ok, Err}
+use Rattle.common.specs.Checks.{refusal}
+use Rattle.std.specs.declared.result.Result.{Result}
+use Rattle.common.specs.declared.Refusal.{Refusal}
 
 -- ---- The verdict
 
@@ -80,7 +83,7 @@ in_front ds (later e a) = later e (in_front ds a)
 
 -- ---- The answer, and the lent run `old` after it
 
-abbrev pub Tells : Outcome → List ℕ → Plan → List ℕ → Type 0
+abbrev pub Tells : Outcome → List ℕ → Result Plan Refusal → List ℕ → Type 0
 Tells o old p run = (p ≡ plan_of o (length old)) × (run ≡ run_of o old)
 
 pub tells : (S : Sheet) (old : List ℕ) {v : Verdict} → verdict (plan_checks S (length old)) ≡ v → Tells (Read S) old (plan_by v (traffic_of S)) (run_by v (traffic_of S) old)
@@ -88,10 +91,10 @@ unfolding plan_of run_of
 tells S old e = (sym (ap (λ (x : Verdict). plan_by x (traffic_of S)) e), sym (ap (λ (x : Verdict). run_by x (traffic_of S) old) e))
 
 -- the same figures are the same answer
-pub tells_same : {o : Outcome} (S : Sheet) (old : List ℕ) {p p' : Plan} {run run' : List ℕ} → o ≡ Read S → p ≡ p' → run ≡ run' → Tells (Read S) old p' run' → Tells o old p run
+pub tells_same : {o : Outcome} (S : Sheet) (old : List ℕ) {p p' : Result Plan Refusal} {run run' : List ℕ} → o ≡ Read S → p ≡ p' → run ≡ run' → Tells (Read S) old p' run' → Tells o old p run
 tells_same S old e ep er t = (ep ∙ (t.0 ∙ sym (ap (λ (x : Outcome). plan_of x (length old)) e)), er ∙ (t.1 ∙ sym (ap (λ (x : Outcome). run_of x old) e)))
 
-pub accepts : {c c' : Micros} {k k' n n' : ℕ} → c ≡ c' → k ≡ k' → n ≡ n' → plan.Accepted c k n ≡ plan.Accepted c' k' n'
+pub accepts : {c c' : Micros} {k k' n n' : ℕ} → c ≡ c' → k ≡ k' → n ≡ n' → Ok (record { microcycle = c; slots = k; rows = n }) ≡ Ok (record { microcycle = c'; slots = k'; rows = n' })
 accepts ec ek en = rw (ec, ek, en)
 
 -- a sheet without figures has no table
@@ -99,7 +102,7 @@ stops : (S : Sheet) (room n p : ℕ) → verdict (sheet_checks S) ≡ Refused n 
 unfolding plan_checks
 stops S room n p q = refused_if (in_front (row_checks (traffic_of S) room) (refused_then (sheet_checks S) n p q))
 
-pub tells_stop : (o : Outcome) (old : List ℕ) (n p : ℕ) → Stops o n p → Tells o old (plan.Refused n p) old
+pub tells_stop : (o : Outcome) (old : List ℕ) (n p : ℕ) → Stops o n p → Tells o old (Err (refusal n p)) old
 unfolding plan_of run_of
 tells_stop o old n p (unread e) = (sym (ap (λ (x : Outcome). plan_of x (length old)) e), sym (ap (λ (x : Outcome). run_of x old) e))
 tells_stop o old n p (checked S e q) = tells_same S old e refl refl (tells S old (stops S (length old) n p q))

@@ -9,8 +9,9 @@ use Rattle.worldfip_rules.specs.Build.{row, miss_row, by_rank}
 use Rattle.units.specs.Units.{us}
 use Rattle.worldfip_rules.specs.Traffic.{asked_of}
 use Rattle.worldfip_figures.specs.Figures.{identifier_of}
-use Rattle.worldfip_plan.specs.declared.answer.Plan.TheVariants as plan
 use Rattle.worldfip_plan.specs.Answer.{plan_of, run_of}
+use Rattle.std.specs.declared.result.Result.TheVariants.{Ok, Err}
+use Rattle.common.specs.Checks.{refusal}
 
 -- a lent run of six places before the call
 abbrev six : List ℕ
@@ -26,7 +27,7 @@ even =
     ∷ 6 ∷ 0 ∷ 20 ∷ 0 ∷ 0 ∷ 15 ∷ 160
     ∷ []
 
-even_plan : plan_of (reading even) 6 ≡ plan.Accepted (us 1000) 2 4
+even_plan : plan_of (reading even) 6 ≡ Ok (record { microcycle = (us 1000); slots = 2; rows = 4 })
 unfolding plan_of reading sheet_of row miss_row by_rank asked_of
 even_plan = refl
 
@@ -48,7 +49,7 @@ full =
     ∷ 6 ∷ 0 ∷ 20 ∷ 0 ∷ 0 ∷ 15 ∷ 160
     ∷ []
 
-full_plan : plan_of (reading full) 6 ≡ plan.Refused 12 4
+full_plan : plan_of (reading full) 6 ≡ Err (refusal 12 4)
 unfolding plan_of reading sheet_of miss_row by_rank asked_of
 full_plan = refl
 
@@ -67,12 +68,12 @@ source004 =
     ∷ 6 ∷ 0 ∷ 5 ∷ 0 ∷ 0 ∷ 11 ∷ 184
     ∷ []
 
-source004_plan : plan_of (reading source004) 6 ≡ plan.Refused 12 5
+source004_plan : plan_of (reading source004) 6 ≡ Err (refusal 12 5)
 unfolding plan_of reading sheet_of miss_row by_rank asked_of
 source004_plan = refl
 
 -- the same with room for two rows: 13 comes before 12, with the rows that it needs
-source004_room : plan_of (reading source004) 2 ≡ plan.Refused 13 3
+source004_room : plan_of (reading source004) 2 ≡ Err (refusal 13 3)
 unfolding plan_of reading sheet_of miss_row by_rank asked_of
 source004_room = refl
 

@@ -23,27 +23,30 @@ use Rattle.worldfip_rules.proofs.Factors.{asked_sound}
 use Rattle.worldfip_figures.specs.Declares.{traffic_of}
 use Rattle.worldfip_figures.proofs.Passing.{declared}
 use Rattle.worldfip_plan.specs.declared.answer.Plan.{Plan}
-use Rattle.worldfip_plan.specs.declared.answer.Plan.TheVariants as plan
 use Rattle.worldfip_plan.specs.Answer.{plan_checks, plan_by, run_by, plan_of, run_of}
 use Rattle.worldfip_plan.specs.Refusals.{Answers, Room}
 use Rattle.worldfip_plan.specs.Refusals.Answers.{another_bus, none_fits, too_many, too_short, misses, table}
 use Rattle.worldfip_plan.proofs.Refusals.{plan_answers}
+use Rattle.std.specs.declared.result.Result.TheVariants.{Ok, Err}
+use Rattle.common.specs.Checks.{refusal}
+use Rattle.std.specs.declared.result.Result.{Result}
+use Rattle.common.specs.declared.Refusal.{Refusal}
 
 -- ---- A refusal
 
-refused_by : (v : Verdict) (T : Traffic) (old : List ℕ) (n p : ℕ) → plan_by v T ≡ plan.Refused n p → run_by v T old ≡ old
+refused_by : (v : Verdict) (T : Traffic) (old : List ℕ) (n p : ℕ) → plan_by v T ≡ Err (refusal n p) → run_by v T old ≡ old
 refused_by Passed T old n p e = let z : ◌≡◌ {A = ℕ} 0 1 = cc in absurd (omega arith)
 refused_by (Refused k q) T old n p e = refl
 
 -- every place is as it was
-pub refused_keeps : (o : Outcome) (old : List ℕ) (n p : ℕ) → plan_of o (length old) ≡ plan.Refused n p → run_of o old ≡ old
+pub refused_keeps : (o : Outcome) (old : List ℕ) (n p : ℕ) → plan_of o (length old) ≡ Err (refusal n p) → run_of o old ≡ old
 unfolding plan_of run_of
 refused_keeps (Read S) old n p e = refused_by (verdict (plan_checks S (length old))) (traffic_of S) old n p e
 refused_keeps (Not k q) old n p e = refl
 
 -- ---- A table
 
-accepted_by : (v : Verdict) (T : Traffic) (old : List ℕ) (c : Micros) (k n : ℕ) → plan_by v T ≡ plan.Accepted c k n → run_by v T old ≡ filled (row_of T) (rows T) old
+accepted_by : (v : Verdict) (T : Traffic) (old : List ℕ) (c : Micros) (k n : ℕ) → plan_by v T ≡ Ok (record { microcycle = c; slots = k; rows = n }) → run_by v T old ≡ filled (row_of T) (rows T) old
 accepted_by Passed T old c k n e = refl
 accepted_by (Refused x q) T old c k n e = let z : ◌≡◌ {A = ℕ} 0 1 = cc in absurd (omega arith)
 
@@ -53,7 +56,7 @@ pub record Accepts (S : Sheet) (room : ℕ) : Type 0 where
   pub room_for : Room (traffic_of S) room
   pub is_table : Table (asked_of (traffic_of S)) (row_of (traffic_of S))
 
-accepts : (S : Sheet) (room : ℕ) (p : Plan) → Answers S room p → (c : Micros) (k n : ℕ) → p ≡ plan.Accepted c k n → Accepts S room
+accepts : (S : Sheet) (room : ℕ) (p : Result Plan Refusal) → Answers S room p → (c : Micros) (k n : ℕ) → p ≡ Ok (record { microcycle = c; slots = k; rows = n }) → Accepts S room
 accepts S room p (table b f none t) c k n e = record { bus = b; room_for = f; is_table = t }
 accepts S room p (another_bus b) c k n e = let z : ◌≡◌ {A = ℕ} 0 1 = cc in absurd (omega arith)
 accepts S room p (none_fits b l) c k n e = let z : ◌≡◌ {A = ℕ} 0 1 = cc in absurd (omega arith)
@@ -68,7 +71,7 @@ filled_later f n j d l =
     let q : n + (j - n) ≡ j = omega arith in
     ap (λ (i : ℕ). get_or (filled f n d) i 0) (sym e) ∙ (get_or-append-add (tab f n) (drop n d) (j - n) 0 ∙ (get_or-drop n d (j - n) 0 ∙ ap (λ (i : ℕ). get_or d i 0) q))
 
-module _ (s : List ℕ) (S : Sheet) (known : Known s S) (old : List ℕ) (c : Micros) (k n : ℕ) (e : plan_of (Read S) (length old) ≡ plan.Accepted c k n) where
+module _ (s : List ℕ) (S : Sheet) (known : Known s S) (old : List ℕ) (c : Micros) (k n : ℕ) (e : plan_of (Read S) (length old) ≡ Ok (record { microcycle = c; slots = k; rows = n })) where
   run_is : run_of (Read S) old ≡ filled (row_of (traffic_of S)) (rows (traffic_of S)) old
   unfolding plan_of run_of
   run_is = accepted_by (verdict (plan_checks S (length old))) (traffic_of S) old c k n e

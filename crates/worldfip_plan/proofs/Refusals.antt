@@ -20,11 +20,14 @@ use Rattle.worldfip_rules.proofs.Named.{missing_named, named_miss, named_only}
 use Rattle.worldfip_figures.specs.Declares.{traffic_of}
 use Rattle.worldfip_figures.proofs.Passing.{declared}
 use Rattle.worldfip_plan.specs.declared.answer.Plan.{Plan}
-use Rattle.worldfip_plan.specs.declared.answer.Plan.TheVariants as plan
 use Rattle.worldfip_plan.specs.Answer.{plan_checks, plan_by, plan_of}
 use Rattle.worldfip_plan.specs.Refusals.{Fits, Few, Room, Answers}
 use Rattle.worldfip_plan.specs.Refusals.Answers.{another_bus, none_fits, too_many, too_short, misses, table}
 use Rattle.worldfip_plan.proofs.Answers.{gives_3, gives_10, gives_11, gives_13, gives_12, gives_none}
+use Rattle.std.specs.declared.result.Result.TheVariants.{Ok, Err}
+use Rattle.common.specs.Checks.{refusal}
+use Rattle.std.specs.declared.result.Result.{Result}
+use Rattle.common.specs.declared.Refusal.{Refusal}
 
 -- an exchange fits exactly if there is a slot
 module _ (T : Traffic) (D : Declared T) where
@@ -46,7 +49,7 @@ module _ (s : List ℕ) (S : Sheet) (known : Known s S) (room : ℕ) where
   unfolding plan_of
   answered e = ap (λ (x : Verdict). plan_by x (traffic_of S)) e
 
-  only_3 : (bus_in S ≡ worldfip → ⊥) → plan_of (Read S) room ≡ plan.Refused 3 0
+  only_3 : (bus_in S ≡ worldfip → ⊥) → plan_of (Read S) room ≡ Err (refusal 3 0)
   only_3 h = answered (gives_3 S room h)
 
   module _ (bus : bus_in S ≡ worldfip) where
@@ -55,20 +58,20 @@ module _ (s : List ℕ) (S : Sheet) (known : Known s S) (room : ℕ) where
 
     -- ---- No other answer is the page's
 
-    only_10 : microcycle (traffic_of S) < (traffic_of S).exchange → plan_of (Read S) room ≡ plan.Refused 10 0
+    only_10 : microcycle (traffic_of S) < (traffic_of S).exchange → plan_of (Read S) room ≡ Err (refusal 10 0)
     only_10 l = answered (gives_10 S room bus (no_slot (traffic_of S) D l))
 
-    only_11 : Fits (traffic_of S) → 4096 < rows (traffic_of S) → plan_of (Read S) room ≡ plan.Refused 11 0
+    only_11 : Fits (traffic_of S) → 4096 < rows (traffic_of S) → plan_of (Read S) room ≡ Err (refusal 11 0)
     only_11 f l = answered (gives_11 S room bus (a_slot (traffic_of S) D f) l)
 
-    only_13 : Few (traffic_of S) → room < rows (traffic_of S) → plan_of (Read S) room ≡ plan.Refused 13 (rows (traffic_of S))
+    only_13 : Few (traffic_of S) → room < rows (traffic_of S) → plan_of (Read S) room ≡ Err (refusal 13 (rows (traffic_of S)))
     only_13 f l = answered (gives_13 S room bus (a_slot (traffic_of S) D f.fits) f.most l)
 
-    only_12 : Room (traffic_of S) room → miss_of (traffic_of S) ≤ rows (traffic_of S) → plan_of (Read S) room ≡ plan.Refused 12 (missing_of (traffic_of S))
+    only_12 : Room (traffic_of S) room → miss_of (traffic_of S) ≤ rows (traffic_of S) → plan_of (Read S) room ≡ Err (refusal 12 (missing_of (traffic_of S)))
     only_12 f l = answered (gives_12 S room bus (a_slot (traffic_of S) D f.few.fits) f.few.most f.lent l)
 
     only_table : Room (traffic_of S) room → rows (traffic_of S) < miss_of (traffic_of S)
-        → plan_of (Read S) room ≡ plan.Accepted (us (microcycle (traffic_of S))) (slots (traffic_of S)) (rows (traffic_of S))
+        → plan_of (Read S) room ≡ Ok (record { microcycle = (us (microcycle (traffic_of S))); slots = (slots (traffic_of S)); rows = (rows (traffic_of S)) })
     only_table f l = answered (gives_none S room bus (a_slot (traffic_of S) D f.few.fits) f.few.most f.lent l)
 
     -- ---- The planner's is
@@ -98,14 +101,14 @@ module _ (s : List ℕ) (S : Sheet) (known : Known s S) (room : ℕ) where
       by_bus (yes e) = by_slots e (dec_lt (microcycle (traffic_of S)) (traffic_of S).exchange)
       by_bus (no e) = rw (only_3 e) (another_bus e)
 
-  pub answers_only : (p : Plan) → Answers S room p → p ≡ plan_of (Read S) room
+  pub answers_only : (p : Result Plan Refusal) → Answers S room p → p ≡ plan_of (Read S) room
   answers_only p (another_bus e) = sym (only_3 e)
   answers_only p (none_fits e l) = sym (only_10 e l)
   answers_only p (too_many e f l) = sym (only_11 e f l)
   answers_only p (too_short e f l) = sym (only_13 e f l)
   answers_only p (misses i e f N) =
       let d = declared s S known e in
-      ap (plan.Refused 12) (named_only (traffic_of S) d N) ∙ sym (only_12 e f (named_miss (traffic_of S) d N))
+      ap (λ k. Err (refusal 12 k)) (named_only (traffic_of S) d N) ∙ sym (only_12 e f (named_miss (traffic_of S) d N))
   answers_only p (table e f none t) = sym (only_table e f (nobody_misses (dec_lt (rows (traffic_of S)) (miss_of (traffic_of S)))))
     where
       nobody_misses : Dec (rows (traffic_of S) < miss_of (traffic_of S)) → rows (traffic_of S) < miss_of (traffic_of S)

@@ -12,7 +12,10 @@ use Rattle.worldfip_rules.specs.Traffic.{Traffic, microcycle, slots, rows, row_o
 use Rattle.worldfip_figures.specs.Declares.{traffic_of}
 use Rattle.worldfip_figures.specs.Figures.{sheet_checks}
 use Rattle.worldfip_plan.specs.declared.answer.Plan.{Plan}
-use Rattle.worldfip_plan.specs.declared.answer.Plan.TheVariants as plan
+use Rattle.std.specs.declared.result.Result.TheVariants.{Ok, Err}
+use Rattle.common.specs.Checks.{refusal}
+use Rattle.std.specs.declared.result.Result.{Result}
+use Rattle.common.specs.declared.Refusal.{Refusal}
 
 -- ---- The refusals, in the page's order, for a lent run of so many places
 
@@ -29,14 +32,14 @@ plan_checks S room = sheet_checks S ++ row_checks (traffic_of S) room
 
 -- ---- The answer
 
-abbrev pub plan_by : Verdict → Traffic → Plan
-plan_by Passed T = plan.Accepted (us (microcycle T)) (slots T) (rows T)
-plan_by (Refused n p) T = plan.Refused n p
+abbrev pub plan_by : Verdict → Traffic → Result Plan Refusal
+plan_by Passed T = Ok (record { microcycle = (us (microcycle T)); slots = (slots T); rows = (rows T) })
+plan_by (Refused n p) T = Err (refusal n p)
 
-unfoldable pub plan_of : Outcome → ℕ → Plan
+unfoldable pub plan_of : Outcome → ℕ → Result Plan Refusal
 unfolding verdict plan_checks traffic_of microcycle slots rows
 plan_of (Read S) room = plan_by (verdict (plan_checks S room)) (traffic_of S)
-plan_of (Not n p) room = plan.Refused n p
+plan_of (Not n p) room = Err (refusal n p)
 
 -- ---- The lent run: row 0 first, later places as they were; a refusal changes nothing
 

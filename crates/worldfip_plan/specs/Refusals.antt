@@ -9,7 +9,10 @@ use Rattle.worldfip_rules.specs.Traffic.{Traffic, microcycle, slots, rows, asked
 use Rattle.worldfip_rules.specs.Misses.{Named}
 use Rattle.worldfip_figures.specs.Declares.{traffic_of}
 use Rattle.worldfip_plan.specs.declared.answer.Plan.{Plan}
-use Rattle.worldfip_plan.specs.declared.answer.Plan.TheVariants as plan
+use Rattle.std.specs.declared.result.Result.TheVariants.{Ok, Err}
+use Rattle.common.specs.Checks.{refusal}
+use Rattle.std.specs.declared.result.Result.{Result}
+use Rattle.common.specs.declared.Refusal.{Refusal}
 
 -- one exchange at least fits a microcycle
 pub record Fits (T : Traffic) : Type 0 where
@@ -25,17 +28,17 @@ pub record Room (T : Traffic) (room : ℕ) : Type 0 where
   pub few : Few T
   pub lent : rows T ≤ room
 
-pub data Answers (S : Sheet) (room : ℕ) : Plan → Type 0 where
+pub data Answers (S : Sheet) (room : ℕ) : Result Plan Refusal → Type 0 where
   -- 3: another bus's sheet
-  another_bus : (bus_in S ≡ worldfip → ⊥) → Answers S room (plan.Refused 3 0)
+  another_bus : (bus_in S ≡ worldfip → ⊥) → Answers S room (Err (refusal 3 0))
   -- 10: no exchange fits a microcycle
-  none_fits : bus_in S ≡ worldfip → microcycle (traffic_of S) < (traffic_of S).exchange → Answers S room (plan.Refused 10 0)
+  none_fits : bus_in S ≡ worldfip → microcycle (traffic_of S) < (traffic_of S).exchange → Answers S room (Err (refusal 10 0))
   -- 11: more than 4,096 rows
-  too_many : bus_in S ≡ worldfip → Fits (traffic_of S) → 4096 < rows (traffic_of S) → Answers S room (plan.Refused 11 0)
+  too_many : bus_in S ≡ worldfip → Fits (traffic_of S) → 4096 < rows (traffic_of S) → Answers S room (Err (refusal 11 0))
   -- 13: lent room too short, place the length needed
-  too_short : bus_in S ≡ worldfip → Few (traffic_of S) → room < rows (traffic_of S) → Answers S room (plan.Refused 13 (rows (traffic_of S)))
+  too_short : bus_in S ≡ worldfip → Few (traffic_of S) → room < rows (traffic_of S) → Answers S room (Err (refusal 13 (rows (traffic_of S))))
   -- 12: a variable misses its period, place that variable's number
-  misses : (i : ℕ) → bus_in S ≡ worldfip → Room (traffic_of S) room → Named (traffic_of S) i → Answers S room (plan.Refused 12 i)
+  misses : (i : ℕ) → bus_in S ≡ worldfip → Room (traffic_of S) room → Named (traffic_of S) i → Answers S room (Err (refusal 12 i))
   -- else the rows are a table
   table : bus_in S ≡ worldfip → Room (traffic_of S) room → ((i : ℕ) → Named (traffic_of S) i → ⊥) → Table (asked_of (traffic_of S)) (row_of (traffic_of S))
-      → Answers S room (plan.Accepted (us (microcycle (traffic_of S))) (slots (traffic_of S)) (rows (traffic_of S)))
+      → Answers S room (Ok (record { microcycle = (us (microcycle (traffic_of S))); slots = (slots (traffic_of S)); rows = (rows (traffic_of S)) }))

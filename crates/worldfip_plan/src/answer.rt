@@ -1,17 +1,9 @@
 use units::Micros;
 
-// What planning a sheet answers.
+// What the planner answers of a sheet whose table stands in the lent run.
 #[derive(Clone, Copy)]
-pub enum Plan {
-    // The table stands in the lent run.
-    Accepted {
-        microcycle: Micros,
-        slots: u32,
-        rows: u32,
-    },
-    // The refusal's number, and its place.
-    Refused {
-        no: u8,
-        place: usize,
-    },
+pub struct Plan {
+    pub microcycle: Micros,
+    pub slots: u32,
+    pub rows: u32,
 }

@@ -2,12 +2,12 @@
 use Prim.Native.Nat.{ℕ, ◌+◌}
 use mathlib.Core.Path.{◌≡◌, ap, sym, ◌∙◌}
 use native.Mathlib.Omega.{arith}
-use Rattle.sheet_write.specs.declared.Put.TheVariants.{Next}
 use Rattle.sheet_record.specs.Kinds.{size_of}
 use Rattle.sheet_write.specs.Writing.{needed}
 use Rattle.sheet_record.proofs.Tables.{size_is}
 use Rattle.sheet_write.proofs.Writing.{short_free, room_free, needed_is, needed_none}
 use Rattle.sheet_write.proofs.put_whole.Goals as goal
+use Rattle.std.specs.declared.result.Result.TheVariants.{Ok}
 
 pub returns-then-size-at : goal.returns-then-size-at
 returns-then-size-at c =
@@ -35,6 +35,6 @@ returns c =
     let z = size_is a.r.kind a.wa a.wb a.wc a.wd a.we w in
     let p = room_free a.buf.now a.at a.r start.requires.kind_value (omega arith) in
     record {
-      value = ap (λ (n : ℕ). Next (a.at + n)) (sym z) ∙ p.0;
+      value = ap (λ (n : ℕ). Ok (a.at + n)) (sym z) ∙ p.0;
       buf_after = c.store.ensures ∙ p.1;
     }

@@ -11,10 +11,11 @@ use Rattle.worldfip_figures.specs.declared.Figures.{Figures}
 use Rattle.worldfip_figures.specs.Declares.{traffic_of}
 use Rattle.worldfip_figures.proofs.Measured.{Measured, told_table, told_refusal}
 use Rattle.worldfip_figures.proofs.Passing.{declared}
-use Rattle.worldfip_plan.specs.declared.answer.Plan.TheVariants as plan
 use Rattle.worldfip_plan.proofs.Answers.{gives_13, gives_12, gives_none, tells, tells_same, accepts, tells_stop}
 use Rattle.worldfip_plan.proofs.Tied.{usable, within, asked_is, late_is, served_is}
 use Rattle.worldfip_plan.proofs.plan.Goals as goal
+use Rattle.std.specs.declared.result.Result.TheVariants.{Ok, Err}
+use Rattle.common.specs.Checks.{refusal}
 
 -- what the figures tell of the sheet is declared within the ranges
 declares : (s : List ℕ) {f : Figures} {n k m : ℕ} {c : Micros} (M : Measured (reading s) f n c k m) → Declared (traffic_of M.sheet)
@@ -26,7 +27,7 @@ returns-then-rows-need c =
     let t = c.in-Table in
     let M = told_table (reading s) c.figures_of-figures.result t.variables t.microcycle t.slots t.counted c.figures_of-figures.ensures t.is in
     let old = c.args.rows.now in
-    let told = tells_same M.sheet old M.reads (ap (plan.Refused 13) M.rows_are) refl
+    let told = tells_same M.sheet old M.reads (ap (λ k. Err (refusal 13 k)) M.rows_are) refl
     (tells M.sheet old (gives_13 M.sheet _ M.bus M.some M.few (omega (arith, M.rows_are, c.if-rows-need.true)))) in
     record { value = told.0; rows_after = told.1 }
 
@@ -50,7 +51,7 @@ returns-then-late-ne0 c =
     let old = c.args.rows.now in
     let e = c.table-late.ensures in
     let l = late_is D M.places old (asked_is D M.periods _ _ _ M.number M.slots_are M.rows_are) e.value e.out_after c.if-late-ne0.true in
-    let told = tells_same M.sheet old M.reads (ap (plan.Refused 12) l.variable_then) l.run_then
+    let told = tells_same M.sheet old M.reads (ap (λ k. Err (refusal 12 k)) l.variable_then) l.run_then
     (tells M.sheet old
     (gives_12 M.sheet _ M.bus M.some M.few (omega (arith, M.rows_are, c.if-rows-need.false)) l.misses_then)) in
     record { value = told.0; rows_after = told.1 }
