@@ -10,6 +10,7 @@ use lib.ListN.{length, get_or}
 use Rattle.sheet_record.specs.declared.Record.{Record}
 use Rattle.sheet_record.specs.Kinds.{size_of, decode, whole, nothing}
 use Rattle.sheet_reader.specs.Walk.{found_of, step_from, place_after, stays_after, count}
+use Rattle.sheet_reader.specs.declared.Found.TheVariants as found
 use Rattle.sheet_reader.proofs.Walk.{finds_whole, steps_over, step_on, place_within, count_is}
 use Rattle.sheet_rules.specs.Sheets.{Sheet}
 use Rattle.sheet_rules.specs.Records.{records_in}
@@ -19,8 +20,6 @@ use Rattle.sheet_rules.proofs.Walk.{place_next, length_records, record_at}
 use Rattle.sheet_rules.proofs.Cases.{PassesAt, Upto, upto_front}
 use Rattle.sheet_rules.proofs.Order.{in_order}
 use Rattle.sheet_rules.proofs.Known.{ReadsTo, reading_whole}
-use Rattle.std.specs.declared.result.Result.TheVariants.{Ok, Err}
-use Rattle.std.specs.declared.option.Option.TheVariants.{Some}
 
 module _ (s : List ℕ) where
   -- where the first i records stand whole and are of known kinds
@@ -58,7 +57,7 @@ module _ (s : List ℕ) where
     accepted_steps i h = steps_lead_on i (upto_front s (suc r.m) i (omega (arith, how_many)) r.upto)
 
     -- they are found one after the other
-    pub accepted_finds : (i : ℕ) → i < length (records_in S) → found_of s (place_after s i) ≡ Some (Ok (record { found = (get_or (records_in S) i nothing); next = (place_after s (suc i)) }))
+    pub accepted_finds : (i : ℕ) → i < length (records_in S) → found_of s (place_after s i) ≡ found.One (get_or (records_in S) i nothing) (place_after s (suc i))
     unfolding place_of
     accepted_finds i h =
         let l : i ≤ r.m = omega (arith, how_many) in
@@ -66,7 +65,7 @@ module _ (s : List ℕ) where
         let next = accepted_steps (suc i) (omega arith) in
         let there = finds_whole s (place_of s i) (passes_whole i (r.upto.passed i (omega arith))) in
         let is = record_is i l in
-        ap (found_of s) here ∙ (there ∙ (λ k. Some (Ok (record { found = (sym is k); next = (sym next k) }))))
+        ap (found_of s) here ∙ (there ∙ (λ k. found.One (sym is k) (sym next k)))
 
     -- the step behind the last record stays
     accepted_end : stays_after s (length (records_in S)) ≡ true

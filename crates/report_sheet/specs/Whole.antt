@@ -27,9 +27,8 @@ use Rattle.std.specs.declared.result.Result.TheVariants.{Ok, Err}
 use Rattle.common.specs.Checks.{refusal}
 use Rattle.std.specs.declared.result.Result.{Result}
 use Rattle.common.specs.declared.Refusal.{Refusal}
-use Rattle.std.specs.declared.option.Option.{Option}
-use Rattle.std.specs.declared.option.Option.TheVariants.{Some, None}
-use Rattle.sheet_record.specs.declared.Met.{Met}
+use Rattle.sheet_reader.specs.declared.Found.{Found}
+use Rattle.sheet_reader.specs.declared.Found.TheVariants as found
 
 -- no report is longer
 abbrev pub most_text : ℕ
@@ -93,10 +92,10 @@ table_accepts (Err r) = false
 -- ---- Any sheet
 
 -- the kind of the record that stands at the first byte; 0 where none does
-abbrev pub kind_of : Option (Result Met Refusal) → ℕ
-kind_of (Some (Ok m)) = m.found.kind
-kind_of (Some (Err r)) = 0
-kind_of None = 0
+abbrev pub kind_of : Found → ℕ
+kind_of (found.One m) = m.found.kind
+kind_of (found.Refused r) = 0
+kind_of found.End = 0
 
 -- its bus
 unfoldable pub first_bus : List ℕ → ℕ

@@ -170,8 +170,9 @@ fn first_bus(s: &[u8]) -> u8
     ensures { result ≡ first_bus s.now }
 {
     match sheet_reader::first(s) {
-        Some(Ok(met)) => sheet_record::bus_of(met.found.kind),
-        Some(Err(_)) | None => 0,
+        sheet_reader::Found::One(met) => sheet_record::bus_of(met.found.kind),
+        sheet_reader::Found::Refused(_) => 0,
+        sheet_reader::Found::End => 0,
     }
 }
 

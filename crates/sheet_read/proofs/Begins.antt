@@ -265,13 +265,6 @@ module _ {s : List ℕ} {head : Record} {first : ℕ} (b : Begun s head first) (
         is_lacking = lacks_nothing S other';
       }
 
--- the answer of a function that passes settings
-pub settles_refused : {s : List ℕ} {head : Record} {messages : List ℕ} (r : Settings) → (r.no ≡ 0 → ⊥) → Err (refusal r.no r.at) ≡ told s (reading s) → Settles s head messages r
-settles_refused r h e = record { refused = λ n. e; opened = λ z. absurd (h z) }
-
-pub settles_opened : {s : List ℕ} {head : Record} {messages : List ℕ} (r : Settings) → r.no ≡ 0 → Opened s head r.at messages r.lacks → Settles s head messages r
-settles_opened r z o = record { refused = λ n. absurd (n z); opened = λ e. o }
-
 -- a setting that may stand behind a first record of another kind than 1 and 9 is none
 pub none_fits : (S : Sheet) (k : ℕ) → (S.head.kind ≡ 1 → k ≡ 8 → ⊥) → (S.head.kind ≡ 9 → k ≡ 10 → ⊥) → is_setting k ≡ true → fits S k ≡ false
 none_fits S k one nine e = split (setting_kinds k e)

@@ -105,12 +105,12 @@ lacking_same S S' h e = rw (h, e)
 -- ---- What is handed over
 
 -- on a refusal the lent memory keeps what it had
-pub refused_keeps : (s : List ℕ) (no' place : ℕ) (o : Outcome) (counts longests messages : List ℕ) → Err (refusal no' place) ≡ told s o
+pub refused_keeps : (s : List ℕ) (r : Refusal) (o : Outcome) (counts longests messages : List ℕ) → Err r ≡ told s o
     → (counts ≡ counts_told o counts) × ((longests ≡ longests_told o longests) × (messages ≡ messages_told o messages))
 unfolding counts_told longests_told messages_told
-refused_keeps s no' place o counts longests messages e = (kept streams_of_master o counts e, (kept longest_of_master o longests e, kept message_of o messages e))
+refused_keeps s r o counts longests messages e = (kept streams_of_master o counts e, (kept longest_of_master o longests e, kept message_of o messages e))
   where
-    kept : (figure : Sheet → ℕ → ℕ) (o' : Outcome) (old : List ℕ) → Err (refusal no' place) ≡ told s o' → old ≡ by_master figure o' old
+    kept : (figure : Sheet → ℕ → ℕ) (o' : Outcome) (old : List ℕ) → Err r ≡ told s o' → old ≡ by_master figure o' old
     kept figure (Read S) old q = let z : ◌≡◌ {A = ℕ} 0 1 = cc in absurd (omega arith)
     kept figure (Not n p) old q = refl
 

@@ -21,6 +21,9 @@ use Rattle.sheet_rules.proofs.Lengths.{accepted_prefix, reading_prefix}
 use Rattle.sheet_rules.proofs.Known.{Known, reading_read}
 use Rattle.std.specs.declared.result.Result.TheVariants.{Ok, Err}
 use Rattle.common.specs.Checks.{refusal}
+use Rattle.common.proofs.Answered.{same_refusal}
+use Rattle.sheet_read.specs.Told.{accepted}
+use Rattle.sheet_read.specs.declared.Accepted.{Accepted}
 
 -- the answer `Accepted head n first`: what was read has this first record and n streams, the first of them at this place
 pub record Taken (s : List ℕ) (head : Record) (n first : ℕ) : Type 0 where
@@ -35,9 +38,10 @@ taken s h n f e = split (reading s) refl e
   where
     split : (o : Outcome) → reading s ≡ o → told s o ≡ Ok (accepted h n f) → Taken s h n f
     split (Read S) q a =
-        let eh : h ≡ S.head = cc in
-        let en : length S.streams ≡ n = cc in
-        let ef : f ≡ place_of s (first_stream S) = cc in
+        let r : accepted h n f ≡ accepted S.head (length S.streams) (place_of s (first_stream S)) = cc in
+        let eh = ap (λ (x : Accepted). x.head) r in
+        let en = sym (ap (λ (x : Accepted). x.streams) r) in
+        let ef = ap (λ (x : Accepted). x.first) r in
         record {
           reads = rw q;
           begins = rw q eh;
@@ -51,7 +55,7 @@ not_taken s x p e = split (reading s) refl e
   where
     split : (o : Outcome) → reading s ≡ o → told s o ≡ Err (refusal x p) → reading s ≡ Not x p
     split (Read S) q a = let z : ◌≡◌ {A = ℕ} 0 1 = cc in absurd (omega arith)
-    split (Not y r) q a = let ex : y ≡ x = cc in let ep : r ≡ p = cc in cc
+    split (Not y r) q a = let e = same_refusal a in rw (e.0, e.1) at q
 
 -- ---- Stream after stream
 

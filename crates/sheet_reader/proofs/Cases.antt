@@ -7,32 +7,30 @@ use native.Mathlib.Omega.{arith}
 use native.Mathlib.Decide.{dec_le}
 use borrow.Author.Tests.{lt-ltb, le-ltb, le-leb, lt-leb}
 use lib.ListN.{length, get_or}
-use Rattle.common.specs.Checks.{verdict}
+use Rattle.common.specs.Checks.{verdict, refusal}
 use Rattle.sheet_record.specs.declared.Met.{Met}
 use Rattle.sheet_record.specs.Kinds.{known, size_of, decode, whole, met_at}
 use Rattle.sheet_reader.specs.Walk.{byte_checks, found_of}
-use Rattle.std.specs.declared.result.Result.TheVariants.{Ok, Err}
-use Rattle.common.specs.Checks.{refusal}
-use Rattle.std.specs.declared.option.Option.TheVariants.{Some, None}
+use Rattle.sheet_reader.specs.declared.Found.TheVariants as found
 
 module _ (s : List ℕ) (at : ℕ) where
-  pub found_end : length s ≤ at → found_of s at ≡ None
+  pub found_end : length s ≤ at → found_of s at ≡ found.End
   unfolding found_of
   found_end h = rw (le-ltb at (length s) h)
 
   module _ (inside : at < length s) where
-    pub found_unknown : known (get_or s at 0) ≡ false → found_of s at ≡ Some (Err (refusal 2 at))
+    pub found_unknown : known (get_or s at 0) ≡ false → found_of s at ≡ found.Refused (refusal 2 at)
     unfolding found_of byte_checks verdict
     found_unknown e = simp (lt-ltb at (length s) inside, e)
 
     module _ (right : known (get_or s at 0) ≡ true) where
       -- the record ends beyond the sheet
-      pub found_over : length s < at + size_of (get_or s at 0) → found_of s at ≡ Some (Err (refusal 1 at))
+      pub found_over : length s < at + size_of (get_or s at 0) → found_of s at ≡ found.Refused (refusal 1 at)
       unfolding found_of byte_checks verdict
       found_over h = simp (lt-ltb at (length s) inside, right, lt-ltb (length s) (at + size_of (get_or s at 0)) h)
 
       -- it stands whole
-      pub found_whole : at + size_of (get_or s at 0) ≤ length s → found_of s at ≡ Some (Ok (record { found = (decode s at); next = (at + size_of (get_or s at 0)) }))
+      pub found_whole : at + size_of (get_or s at 0) ≤ length s → found_of s at ≡ found.One (record { found = decode s at; next = at + size_of (get_or s at 0) })
       unfolding found_of byte_checks verdict
       found_whole h = simp (lt-ltb at (length s) inside, right, le-ltb (length s) (at + size_of (get_or s at 0)) h)
 
@@ -51,16 +49,16 @@ module _ (s : List ℕ) (at : ℕ) where
         unfolding size_of
         moves = omega arith
 
-        pub found_cut : m.next ≡ at → found_of s at ≡ Some (Err (refusal 1 at))
+        pub found_cut : m.next ≡ at → found_of s at ≡ found.Refused (refusal 1 at)
         found_cut e = go (dec_le (at + size_of (get_or s at 0)) (length s))
           where
-            go : Dec (at + size_of (get_or s at 0) ≤ length s) → found_of s at ≡ Some (Err (refusal 1 at))
+            go : Dec (at + size_of (get_or s at 0) ≤ length s) → found_of s at ≡ found.Refused (refusal 1 at)
             go (yes h) = absurd (omega (arith, moves, e, ap (λ (x : Met). x.next) (met_whole h)))
             go (no h) = found_over (omega (arith, h))
 
-        pub found_one : (m.next ≡ at → ⊥) → found_of s at ≡ Some (Ok (record { found = m.found; next = m.next }))
+        pub found_one : (m.next ≡ at → ⊥) → found_of s at ≡ found.One m
         found_one e = go (dec_le (at + size_of (get_or s at 0)) (length s))
           where
-            go : Dec (at + size_of (get_or s at 0) ≤ length s) → found_of s at ≡ Some (Ok (record { found = m.found; next = m.next }))
+            go : Dec (at + size_of (get_or s at 0) ≤ length s) → found_of s at ≡ found.One m
             go (yes h) = let f = found_whole h in let g = met_whole h in cc
             go (no h) = absurd (e (met_over (omega (arith, h))))

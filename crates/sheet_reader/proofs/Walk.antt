@@ -11,20 +11,16 @@ use lib.ListN.{length, get_or}
 use lib.Dec.{leb, eqb}
 use Rattle.common.proofs.Firsts.{found_first, found_none}
 use Rattle.sheet_record.specs.Kinds.{known, size_of, decode, whole}
+use Rattle.sheet_reader.specs.declared.Found.{Found}
+use Rattle.sheet_reader.specs.declared.Found.TheVariants as found
 use Rattle.sheet_reader.specs.Walk.{found_of, behind_of, step_from, place_after, stays_after, count}
 use Rattle.sheet_reader.proofs.Cases.{found_end, found_unknown, found_over, found_whole}
-use Rattle.std.specs.declared.result.Result.TheVariants.{Ok, Err}
-use Rattle.std.specs.declared.result.Result.{Result}
-use Rattle.common.specs.declared.Refusal.{Refusal}
-use Rattle.std.specs.declared.option.Option.{Option}
-use Rattle.std.specs.declared.option.Option.TheVariants.{Some}
-use Rattle.sheet_record.specs.declared.Met.{Met}
 
 module _ (s : List ℕ) where
   -- ---- One step
 
   module _ (at : ℕ) where
-    by : Option (Result Met Refusal) → ℕ
+    by : Found → ℕ
     by f = behind_of f at
 
     -- just behind the record, where one stands whole; elsewhere it stays
@@ -69,7 +65,7 @@ module _ (s : List ℕ) where
           split true false e f g = absurd (true≢false (sym g))
           split false d e f g = absurd (true≢false (sym g))
 
-      pub finds_whole : found_of s at ≡ Some (Ok (record { found = (decode s at); next = (at + size_of (get_or s at 0)) }))
+      pub finds_whole : found_of s at ≡ found.One (record { found = decode s at; next = at + size_of (get_or s at 0) })
       unfolding size_of
       finds_whole = found_whole s at (omega (arith, whole_then.1)) whole_then.0 whole_then.1
 

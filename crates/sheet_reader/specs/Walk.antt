@@ -1,15 +1,12 @@
 -- Page 01, 'Sheet records': what a reader finds at a place of the sheet s, and where its steps lead. Of the refusals it gives those two
 -- that the bytes show by themselves, 2 and 1 in this order; the others need the records before. Assumes nothing.
 use Rattle.std.specs.Prelude.{ℕ, zero, suc, ◌+◌, List, [], ◌∷◌, Bool, cond, not, length, get_or, ltb, eqb}
-use Rattle.common.specs.Checks.{Check, check, verdict, unless}
+use Rattle.common.specs.Checks.{Check, check, Verdict, verdict, refusal}
+use Rattle.common.specs.Checks.Verdict.{Passed, Refused}
 use Rattle.common.specs.Sums.{first_of}
 use Rattle.sheet_record.specs.Kinds.{known, size_of, decode}
-use Rattle.std.specs.declared.result.Result.TheVariants.{Ok, Err}
-use Rattle.std.specs.declared.result.Result.{Result}
-use Rattle.common.specs.declared.Refusal.{Refusal}
-use Rattle.std.specs.declared.option.Option.{Option}
-use Rattle.std.specs.declared.option.Option.TheVariants.{Some, None}
-use Rattle.sheet_record.specs.declared.Met.{Met}
+use Rattle.sheet_reader.specs.declared.Found.{Found}
+use Rattle.sheet_reader.specs.declared.Found.TheVariants as found
 
 unfoldable pub byte_checks : List ℕ → ℕ → List Check
 unfolding known size_of
@@ -18,21 +15,25 @@ byte_checks s at =
     ∷ check 1 (ltb (length s) (at + size_of (get_or s at 0))) at
     ∷ []
 
+abbrev pub found_by : Verdict → Found → Found
+found_by Passed f = f
+found_by (Refused n p) f = found.Refused (refusal n p)
+
 -- past the last byte the end; else the first refusal that applies, or the record and the place just after it
-unfoldable pub found_of : List ℕ → ℕ → Option (Result Met Refusal)
+unfoldable pub found_of : List ℕ → ℕ → Found
 unfolding verdict byte_checks decode size_of
 found_of s at =
     cond (ltb at (length s))
-    (Some (unless (verdict (byte_checks s at)) (record { found = decode s at; next = at + size_of (get_or s at 0) })))
-    None
+    (found_by (verdict (byte_checks s at)) (found.One (record { found = decode s at; next = at + size_of (get_or s at 0) })))
+    found.End
 
 -- ---- The walk
 
 -- the place just after the record that was found at a place; where none was, that place
-abbrev pub behind_of : Option (Result Met Refusal) → ℕ → ℕ
-behind_of (Some (Ok m)) at = m.next
-behind_of (Some (Err r)) at = at
-behind_of None at = at
+abbrev pub behind_of : Found → ℕ → ℕ
+behind_of (found.One m) at = m.next
+behind_of (found.Refused r) at = at
+behind_of found.End at = at
 
 -- where a step from a place leads
 unfoldable pub step_from : List ℕ → ℕ → ℕ

@@ -16,21 +16,29 @@ pub struct Reader<'a> {
     pub at: usize,
 }
 
-// What stands at a place of a sheet: a record with the place just after it, or the refusal that the bytes there show by themselves; nothing at the end.
-pub fn found_at(s: &[u8], at: usize) -> Option<Result<Met, Refusal>>
+// What stands at a place: a record with the place just after it, the refusal that the bytes there show by themselves, or the end.
+#[derive(Clone, Copy)]
+pub enum Found {
+    One(Met),
+    Refused(Refusal),
+    End,
+}
+
+// What stands at a place of a sheet.
+pub fn found_at(s: &[u8], at: usize) -> Found
     ensures { result ≡ found_of s.now at }
 {
     if s.len() <= at {
-        return None;
+        return Found::End;
     }
     if !sheet_record::known(s[at]) {
-        return Some(Err(Refusal { no: 2, place: at }));
+        return Found::Refused(Refusal { no: 2, place: at });
     }
     let met = record_at(s, at);
     if met.next == at {
-        return Some(Err(Refusal { no: 1, place: at }));
+        return Found::Refused(Refusal { no: 1, place: at });
     }
-    Some(Ok(met))
+    Found::One(met)
 }
 
 // The place just after the record that stands at a place of a sheet; where none stands, that place.
@@ -38,8 +46,9 @@ pub fn behind(s: &[u8], at: usize) -> usize
     ensures { result ≡ step_from s.now at }
 {
     match found_at(s, at) {
-        Some(Ok(met)) => met.next,
-        Some(Err(_)) | None => at,
+        Found::One(met) => met.next,
+        Found::Refused(_) => at,
+        Found::End => at,
     }
 }
 
@@ -51,7 +60,7 @@ pub fn new<'a>(src: &'a [u8]) -> Reader<'a>
 }
 
 // What stands at the reader's place.
-pub fn next<'a>(r: Reader<'a>) -> Option<Result<Met, Refusal>>
+pub fn next<'a>(r: Reader<'a>) -> Found
     ensures { result ≡ found_of r.entry.src.now r.entry.at }
 {
     found_at(r.src, r.at)
@@ -80,7 +89,7 @@ pub fn step<'a>(r: Reader<'a>) -> Reader<'a>
 }
 
 // What stands at the first byte of a sheet, for callers with plain parameters.
-pub fn first(s: &[u8]) -> Option<Result<Met, Refusal>>
+pub fn first(s: &[u8]) -> Found
     ensures { result ≡ found_of s.now 0 }
 {
     next(new(s))
