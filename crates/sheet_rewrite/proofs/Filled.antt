@@ -24,28 +24,21 @@ use Rattle.std.specs.declared.result.Result.TheVariants.{Ok, Err}
 use Rattle.common.specs.Checks.{refusal}
 use Rattle.std.specs.declared.result.Result.{Result}
 use Rattle.common.specs.declared.Refusal.{Refusal}
+use Rattle.std.specs.Result.{result_unwrap_or}
 
 -- ---- One record
 
 module _ (b : List ℕ) (at : ℕ) (r : Record) (k : written r.kind ≡ true) (room : at + size_of r.kind ≤ length b) where
-  pub one_wrote : {b' : List ℕ} {e : ℕ} → Ok e ≡ free_answer (length b) at r → b' ≡ free_bytes b at r → Wrote b at (encode r) b' e
+  -- there is room
+  pub one_wrote : {p : Result ℕ Refusal} {b' : List ℕ} {e : ℕ} → p ≡ free_answer (length b) at r → b' ≡ free_bytes b at r → e ≡ result_unwrap_or p at → Wrote b at (encode r) b' e
   unfolding behind
-  one_wrote {b'} {e} p q =
+  one_wrote {p} {b'} {e} a q u =
       let f = room_free b at r k room in
-      let n : Ok e ≡ Ok (at + size_of r.kind) = p ∙ sym f.0 in
-      let n' : e ≡ at + size_of r.kind = cc in
+      let n' : e ≡ at + size_of r.kind = u ∙ ap (λ x. result_unwrap_or x at) (a ∙ sym f.0) in
       record {
         stored = q ∙ (sym f.1 ∙ sym (sets-eq (encode r) b at (omega (arith, length_encode r)) ∙ append_assoc (take at b) (encode r) (drop (at + length (encode r)) b)));
         ends = omega (arith, length_encode r);
       }
-
-  -- there is room
-  pub one_not_refused : {n p : ℕ} → Err (refusal n p) ≡ free_answer (length b) at r → ⊥
-  one_not_refused {n} {p} q =
-      let f = room_free b at r k room in
-      let e : Err (refusal n p) ≡ Ok (at + size_of r.kind) = q ∙ sym f.0 in
-      let z : ◌≡◌ {A = ℕ} 0 1 = cc in
-      omega arith
 
 -- ---- The ring and its messages
 
