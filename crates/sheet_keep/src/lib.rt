@@ -1,29 +1,13 @@
 // What is kept of the streams of a sheet so far, and a stream judged by it, page 01 'Numbered refusals' 5 and 7.
 #![tactic(auto)]
 
-ghost use Rattle.std.specs.Prelude.{◌≡◌, ◌≤◌, max};
-ghost use Rattle.sheet_keep.specs.Steps;
+ghost use Rattle.std.specs.Prelude.{◌≡◌, ◌≤◌};
 ghost use Rattle.sheet_keep.specs.Steps.{late_no, counts_with, longests_with, ids_with};
 
 use sheet_record::Record;
 
 // No sheet of P-NET or PROFIBUS has more streams.
 pub const MOST: usize = 800;
-
-// Whether x stands among the first n identifiers.
-fn among(x: u32, n: usize, ids: &[u32; 64]) -> bool
-    requires { n ≤ 64 }
-    ensures { result ≡ Steps.among x n ids.now }
-{
-    let mut i: usize = 0;
-    while i < n {
-        if ids[i] == x {
-            return true;
-        }
-        i += 1;
-    }
-    false
-}
 
 // The refusal of a stream by the n before it: one too many, or an identifier met before; 0 if there is none.
 pub fn late_no(counts: &[u8; 33], ids: &[u32; 64], n: usize, r: Record) -> u8
@@ -34,7 +18,7 @@ pub fn late_no(counts: &[u8; 33], ids: &[u32; 64], n: usize, r: Record) -> u8
         if 64 <= n {
             return 5;
         }
-        if among(r.a, n, ids) {
+        if ids[..n].contains(&r.a) {
             return 7;
         }
         return 0;
@@ -47,12 +31,6 @@ pub fn late_no(counts: &[u8; 33], ids: &[u32; 64], n: usize, r: Record) -> u8
         return 5;
     }
     0
-}
-
-fn larger(a: u32, b: u32) -> u32
-    ensures { result ≡ max a b }
-{
-    if a < b { b } else { a }
 }
 
 // Keeps a stream that passed: one more of its master, and the longest C of those, or its identifier.
@@ -74,6 +52,6 @@ pub fn keep(
     } else {
         let master = r.a as usize;
         counts[master] += 1;
-        longests[master] = larger(longests[master], r.b);
+        longests[master] = longests[master].max(r.b);
     }
 }

@@ -1,7 +1,7 @@
 -- `sheet_keep::late_no` meets its contract, a law of `Late` for each answer.
 use mathlib.Core.Path.{◌∙◌, sym}
 use native.Mathlib.Omega.{arith}
-use Rattle.sheet_keep.proofs.Late.{late_variables, late_met, late_new, late_streams, late_master, late_none}
+use Rattle.sheet_keep.proofs.Late.{among_is, late_variables, late_met, late_new, late_streams, late_master, late_none}
 use Rattle.sheet_keep.proofs.late_no.Goals as goal
 
 pub returns-then-n-ge64 : goal.returns-then-n-ge64
@@ -9,15 +9,15 @@ returns-then-n-ge64 c =
     let a = c.args in
     late_variables a.counts.now a.ids.now a.n a.r c.if-r-eq6.true c.if-n-ge64.true
 
-pub returns-then-among : goal.returns-then-among
-returns-then-among c =
+pub returns-then-contains : goal.returns-then-contains
+returns-then-contains c =
     let a = c.args in
-    late_met a.counts.now a.ids.now a.n a.r c.if-r-eq6.true c.if-n-ge64.false (sym c.among.ensures ∙ c.if-among.true)
+    late_met a.counts.now a.ids.now a.n a.r c.if-r-eq6.true c.if-n-ge64.false (sym (among_is a.r.a a.n a.ids.now (omega (arith, c.if-n-ge64.false))) ∙ (sym c.contains.ensures.value ∙ c.if-contains.true))
 
 pub returns-then-r-eq6 : goal.returns-then-r-eq6
 returns-then-r-eq6 c =
     let a = c.args in
-    late_new a.counts.now a.ids.now a.n a.r c.if-r-eq6.true c.if-n-ge64.false (sym c.among.ensures ∙ c.if-among.false)
+    late_new a.counts.now a.ids.now a.n a.r c.if-r-eq6.true c.if-n-ge64.false (sym (among_is a.r.a a.n a.ids.now (omega (arith, c.if-n-ge64.false))) ∙ (sym c.contains.ensures.value ∙ c.if-contains.false))
 
 pub returns-then-n-ge-MOST : goal.returns-then-n-ge-MOST
 returns-then-n-ge-MOST c =
