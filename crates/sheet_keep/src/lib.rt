@@ -18,7 +18,7 @@ pub fn late_no(counts: &[u8; 33], ids: &[u32; 64], n: usize, r: Record) -> u8
         if 64 <= n {
             return 5;
         }
-        if ids[..n].contains(&r.a) {
+        if ids[..n].iter().any(|&id| id == r.a) {
             return 7;
         }
         return 0;
