@@ -3,7 +3,6 @@ use Prim.Native.Nat.{ℕ, zero, suc, ◌+◌, ◌*◌, ◌≤◌, ◌<◌}
 use mathlib.Core.Path.{◌≡◌, refl, sym, ap, ◌∙◌, subst}
 use mathlib.Core.List.{List, ◌++◌, append_assoc}
 use mathlib.Core.Bool.{true}
-use native.Mathlib.Numerals.{add-one}
 use native.Mathlib.Omega.{arith}
 use borrow.Author.Tests.{lt-ltb, le-ltb}
 use lib.ListN.{length, take, drop, length-append}
@@ -105,8 +104,10 @@ module _ (h : Record) where
     unfolding behind
     fronted_room room l = omega (arith, f.wrote.ends, messages_length three m, length_wrote f.wrote, message_size)
 
-    pub fronted_more : {now' : List ℕ} {at' : ℕ} → m < h.a → Wrote now at (encode (own (m + 1))) now' at' → Fronted old start (m + 1) now' at'
-    fronted_more l w = record { wrote = rw add-one (rw (messages_more three m) (wrote_then f.wrote (rw add-one at w))); within = omega arith }
+    pub fronted_more : {n : ℕ} {now' : List ℕ} {at' : ℕ} → n ≡ m + 1 → n ≤ h.a → Wrote now at (encode (own n)) now' at' → Fronted old start n now' at'
+    fronted_more {n} e l w =
+        let e' : n ≡ suc m = omega arith in
+        record { wrote = rw (e', messages_more three m) (wrote_then f.wrote (rw e' at w)); within = l }
 
     -- behind the ring, all of them
     pub fronted_all : {o : List ℕ} → Wrote o 0 (encode (open_ring h)) old start → h.a ≤ m → Wrote o 0 (front_bytes h h.a) now at
