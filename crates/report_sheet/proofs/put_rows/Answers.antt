@@ -8,18 +8,18 @@ use Rattle.report_sheet.proofs.put_rows.Goals as goal
 
 pub loop-m-init : goal.loop-m-init
 unfolding texts
-loop-m-init c = (search rules, wrote_none)
+loop-m-init c = wrote_none
 
 pub loop-m-preserved : goal.loop-m-preserved
 unfolding row_at
 loop-m-preserved c =
     let start = c in
-    (omega arith, wrote_next (row_at (item start.args.rows.now) (item start.args.names.now)) c.loop-m.invariant.1 c.put_row-next.ensures)
+    wrote_next (row_at (item start.args.rows.now) (item start.args.names.now)) c.loop-m.invariant c.put_row-next.ensures
 
 pub shape_of-out : goal.shape_of-out
-shape_of-out c = length_wrote c.loop-m.invariant.1
+shape_of-out c = length_wrote c.loop-m.invariant
 
 pub returns : goal.returns
 returns c =
     let start = c in
-    wrote_all (row_at (item start.args.rows.now) (item start.args.names.now)) c.loop-m.invariant.1 (omega arith)
+    wrote_all (row_at (item start.args.rows.now) (item start.args.names.now)) c.loop-m.invariant (omega arith)
