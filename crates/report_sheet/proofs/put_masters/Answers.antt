@@ -1,6 +1,4 @@
-use Prim.Native.Nat.{◌-◌}
 use native.Mathlib.Omega.{arith}
-use borrow.Author.Rules.{rules}
 use Rattle.text.specs.Text.{item, texts}
 use Rattle.report_sheet.specs.Arrays.{master_at}
 use Rattle.text.proofs.Writing.{length_wrote, wrote_none, wrote_next, wrote_all}

@@ -1,5 +1,4 @@
 -- `report_sheet::put_masters` stores the lines of n masters. The loop's invariant: the first i lines are stored.
-use Prim.Native.Nat.{◌≤◌}
 use Rattle.text.specs.Text.{item, texts, Wrote}
 use Rattle.report_sheet.specs.Arrays.{master_at}
 use Rattle.report_sheet.proofs.put_masters.Given as goal

@@ -1,5 +1,4 @@
 -- `report_sheet::put_rows` stores the rows. The loop's invariant: the first m are stored.
-use Prim.Native.Nat.{◌≤◌}
 use Rattle.text.specs.Text.{item, texts, Wrote}
 use Rattle.report_sheet.specs.Whole.{row_at}
 use Rattle.report_sheet.proofs.put_rows.Given as goal
