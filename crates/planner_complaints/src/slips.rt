@@ -2,9 +2,9 @@
 // and the likeliest slip. It goes to standard error beside the report, which it does not change.
 use crate::advice::{advice_on_slip, advice_on_word, advise};
 use crate::place::{cell_at, greatest, slip_in};
-use crate::scan::{byte_at, find, is_blank, is_digit, is_sheet, one_more};
+use crate::scan::{byte_at, find, is_blank, is_digit, is_sheet};
 use crate::{blame, say, show};
-use planner_output::{complain, complain_number, end_of};
+use planner_output::{complain, complain_number};
 use sheet_line::LINE;
 use sheet_read::Reading;
 use sheet_record::record_at;
@@ -60,7 +60,7 @@ fn show_place(rt: &HostRuntime, name: &[u8], number: usize, line: &[u8], at: usi
     complain(rt, b"line ");
     complain_number(rt, number as u64);
     complain(rt, b", column ");
-    complain_number(rt, one_more(at) as u64);
+    complain_number(rt, at.saturating_add(1) as u64);
     if line.len() <= at {
         complain(rt, b" is the end of the text");
         return;
@@ -77,8 +77,8 @@ fn show_place(rt: &HostRuntime, name: &[u8], number: usize, line: &[u8], at: usi
 const FEW: usize = 24;
 
 fn show_cell(rt: &HostRuntime, line: &[u8], at: usize) {
-    let comma = find(line, one_more(at), b',');
-    let end = end_of(comma, find(line, at, b'\n'));
+    let comma = find(line, at.saturating_add(1), b',');
+    let end = comma.min(find(line, at, b'\n'));
     if at < end {
         if end - at > FEW {
             show(rt, line, at, at + FEW, 126);
@@ -191,7 +191,7 @@ fn line_of_byte(s: &[u8], place: usize) -> usize {
             return line;
         }
         at = next;
-        line = one_more(line);
+        line = line.saturating_add(1);
     }
     line
 }
@@ -232,14 +232,7 @@ fn is_shown(byte: u8) -> bool {
 }
 
 fn all_shown(line: &[u8]) -> bool {
-    let mut i: usize = 0;
-    while i < line.len() {
-        if !is_shown(line[i]) {
-            return false;
-        }
-        i += 1;
-    }
-    true
+    line.iter().all(|byte| is_shown(*byte))
 }
 
 // It begins as a word, a cell or a saved text does.
@@ -265,7 +258,6 @@ pub fn of_bytes(rt: &HostRuntime, name: &[u8], s: &[u8]) {
     if is_sheet(s) {
         return;
     }
-    let front = end_of(LINE, one_more(find(s, 0, b'\n')));
-    let end = end_of(s.len(), front);
-    tell_first(rt, name, &s[..end]);
+    let front = find(s, 0, b'\n').saturating_add(1).min(LINE);
+    tell_first(rt, name, &s[..front.min(s.len())]);
 }

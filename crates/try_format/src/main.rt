@@ -72,10 +72,8 @@ fn say_byte(rt: &HostRuntime, b: u8) {
 
 fn say_bytes(rt: &HostRuntime, s: &[u8]) {
     say(rt, b": ");
-    let mut i: usize = 0;
-    while i < s.len() {
-        say_byte(rt, s[i]);
-        i += 1;
+    for byte in s {
+        say_byte(rt, *byte);
     }
 }
 
@@ -101,7 +99,7 @@ fn number(c: [u8; 30], at: usize) -> u32 {
 fn room_of(asked: u8) -> usize
     ensures { result ≤ 24 }
 {
-    if asked < 24 { asked as usize } else { 24 }
+    asked.min(24) as usize
 }
 
 fn record_of(c: [u8; 30]) -> Record {
@@ -137,14 +135,12 @@ fn try_line(rt: &HostRuntime, line: &[u8]) {
 }
 
 fn try_lines(rt: &HostRuntime, text: &[u8]) {
-    let mut start: usize = 0;
-    let mut i: usize = 0;
-    while i < text.len() {
-        if text[i] == b'\n' {
+    let mut start = 0;
+    for (i, byte) in text.iter().enumerate() {
+        if *byte == b'\n' {
             try_line(rt, &text[start..i]);
             start = i + 1;
         }
-        i += 1;
     }
 }
 

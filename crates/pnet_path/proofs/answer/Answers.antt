@@ -8,4 +8,4 @@ returns-then-way c = answer_of_refused c.args.way _ c.if-way.true
 pub returns : goal.returns
 returns c =
     let g = c in
-    answer_of_others g.args.way _ g.if-way.false _ g.gateways_of-gateways.ensures c.over_gateways.result c.over_gateways.ensures
+    answer_of_others g.args.way _ g.if-way.false _ g.saturating_sub-gateways.ensures c.over_gateways.result c.over_gateways.ensures
