@@ -7,7 +7,6 @@ ghost use Rattle.common.specs.Checks.{verdict};
 ghost use Rattle.common.specs.Sums.{when};
 ghost use Rattle.sheet_record.specs.Kinds.{within};
 ghost use Rattle.capture_log.specs.Records.{event_at, event_checks};
-ghost use Rattle.capture_tally.specs.declared.Taken.TheVariants as answer;
 ghost use Rattle.capture_tally.specs.Pieces.{most, before, answer_to, run_by, left_after, since_after, answers_after, largest_after, above_after};
 ghost use Rattle.capture_tally.specs.Steps.{Long, no_of, open_no, spot, left_with, since_with, answers_with, largest_with, above_with};
 

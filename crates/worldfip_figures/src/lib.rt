@@ -10,7 +10,7 @@ ghost use Rattle.sheet_record.specs.Kinds.{worldfip};
 ghost use Rattle.sheet_rules.specs.Whole.{reading};
 ghost use Rattle.sheet_rules.specs.Ready.{sheet_in, Ready};
 ghost use Rattle.worldfip_figures.specs.Declares.{traffic_of};
-ghost use Rattle.worldfip_figures.specs.Figures.{stopped, figures_of, identifier_of};
+ghost use Rattle.worldfip_figures.specs.Figures.{figures_of, identifier_of};
 ghost use Rattle.worldfip_figures.specs.Held.{held, Sheeted, measured, Gathered};
 
 use periods::{by_rank, in_rows, microcycle, names_by_rank, rows_of};
