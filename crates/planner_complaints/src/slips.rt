@@ -6,7 +6,6 @@ use crate::scan::{byte_at, find, is_blank, is_digit, is_sheet};
 use crate::{blame, say, show};
 use planner_output::{complain, complain_number};
 use sheet_line::LINE;
-use sheet_read::Reading;
 use sheet_record::record_at;
 use sheet_said::{begins, kind_in};
 
@@ -214,13 +213,8 @@ fn tell_byte(rt: &HostRuntime, name: &[u8], s: &[u8], place: usize) {
 
 // Says of the sheet that a text stands for, if its reading is refused, which line that is.
 pub fn of_sheet(rt: &HostRuntime, name: &[u8], s: &[u8]) {
-    match sheet_read::read(s) {
-        Reading::Refused { no: _, place } => tell_byte(rt, name, s, place),
-        Reading::Accepted {
-            head: _,
-            streams: _,
-            first: _,
-        } => {}
+    if let Err(refusal) = sheet_read::read(s) {
+        tell_byte(rt, name, s, refusal.place);
     }
 }
 

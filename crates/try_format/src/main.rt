@@ -6,8 +6,8 @@
 
 ghost use Rattle.std.specs.Prelude.{◌≤◌, length};
 
+use common::Refusal;
 use sheet_record::Record;
-use sheet_write::Put;
 use std::io::Read;
 
 fn say(rt: &HostRuntime, text: &[u8]) {
@@ -56,13 +56,13 @@ fn say_next(rt: &HostRuntime, next: usize, s: &[u8], at: usize, r: Record) {
     }
 }
 
-fn say_answer(rt: &HostRuntime, p: Put, s: &[u8], at: usize, r: Record) {
-    match p {
-        Put::Refused { no, place } => {
-            say_with(rt, b"refused ", no as u64);
-            say_with(rt, b" at ", place as u64);
+fn say_answer(rt: &HostRuntime, answer: Result<usize, Refusal>, s: &[u8], at: usize, r: Record) {
+    match answer {
+        Ok(next) => say_next(rt, next, s, at, r),
+        Err(refusal) => {
+            say_with(rt, b"refused ", refusal.no as u64);
+            say_with(rt, b" at ", refusal.place as u64);
         }
-        Put::Next(next) => say_next(rt, next, s, at, r),
     }
 }
 
@@ -78,8 +78,8 @@ fn say_bytes(rt: &HostRuntime, s: &[u8]) {
 }
 
 fn put(rt: &HostRuntime, lent: &mut [u8], at: usize, r: Record) {
-    let p = sheet_write::put_record(lent, at, r);
-    say_answer(rt, p, lent, at, r);
+    let answer = sheet_write::put_record(lent, at, r);
+    say_answer(rt, answer, lent, at, r);
     say_bytes(rt, lent);
 }
 
