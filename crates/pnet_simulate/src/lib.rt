@@ -32,10 +32,8 @@ fn oldest(owner: &[u8], answered: &[u64], m: u8) -> usize
     ensures { result ≡ oldest_of owner.now answered.now m }
 {
     for p in 0..owner.len() {
-        if owner[p] == m {
-            if answered[p] == 0 {
-                return p;
-            }
+        if owner[p] == m && answered[p] == 0 {
+            return p;
         }
     }
     owner.len()
@@ -117,7 +115,7 @@ fn go_on(
     ensures { bus_of result answered.new ≡ visited_times n owner.now cycle.now (bus_of from answered.old) visits }
 {
     let mut stage = from;
-    for v in 0..visits {
+    for _ in 0..visits {
         stage = visit(n, owner, cycle, stage, answered);
     }
     stage

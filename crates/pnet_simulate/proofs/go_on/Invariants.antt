@@ -6,11 +6,11 @@ use lib.ListN.{length}
 use Rattle.pnet_simulate.specs.Simulated.{bus_of, visited_times}
 use Rattle.pnet_simulate.proofs.go_on.Given as goal
 
-abbrev pub invariant-loop-v : goal.invariant-loop-v
-invariant-loop-v l =
+abbrev pub invariant-loop : goal.invariant-loop
+invariant-loop l =
     record {
-      stands : bus_of l.stage l.answered ≡ visited_times l.n l.owner l.cycle (bus_of l.initial.stage l.initial.answered) l.v;
-      early : l.stage.now ≤ 40 + l.v * 65582;
+      stands : bus_of l.stage l.answered ≡ visited_times l.n l.owner l.cycle (bus_of l.initial.stage l.initial.answered) l.counter;
+      early : l.stage.now ≤ 40 + l.counter * 65582;
       master : l.stage.master ≤ l.n;
       long : length l.answered ≡ length l.initial.answered;
     }

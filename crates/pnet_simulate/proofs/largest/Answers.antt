@@ -1,4 +1,4 @@
-use mathlib.Core.Path.{◌≡◌, refl, ◌∙◌}
+use mathlib.Core.Path.{◌≡◌, refl}
 use native.Mathlib.Omega.{arith}
 use lib.ListN.{length}
 use Rattle.common.specs.Sums.{greatest}
@@ -14,7 +14,7 @@ pub loop-p-preserved : goal.loop-p-preserved
 loop-p-preserved c =
     let a = c.args in
     let l = c.loop-p in
-    c.max-longest.ensures ∙ largest_more a.owner.now a.answered.now a.k l.p _ _ l.invariant c.response.ensures
+    omega (arith, largest_more a.owner.now a.answered.now a.k l.p _ _ l.invariant c.response.ensures)
 
 pub returns : goal.returns
 unfolding largest_of
