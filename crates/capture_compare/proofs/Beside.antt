@@ -22,6 +22,8 @@ use Rattle.capture_tally.specs.Pieces.{most}
 use Rattle.capture_compare.specs.Steps.{plan_by, run_by}
 use Rattle.std.specs.declared.result.Result.TheVariants.{Ok, Err}
 use Rattle.common.specs.Checks.{refusal}
+use Rattle.common.proofs.Answered.{accepts_alike, same_refusal}
+use Rattle.pnet_plan.specs.declared.answer.Plan.{Plan}
 
 -- ---- A sheet that is accepted with room for its streams
 
@@ -35,12 +37,12 @@ pub record Accepts (s : List ℕ) (room m k : ℕ) : Type 0 where
 
 -- what an outcome that is told as accepted is
 told_accepted : (o : Outcome) (m k : ℕ) → plan_of o ≡ Ok (record { masters = m; streams = k }) → (H : Sheet) × ((o ≡ Read H) × ((masters_of H ≡ m) × (length H.streams ≡ k)))
-told_accepted (Read H) m k e = (H, (refl, (cc, cc)))
+told_accepted (Read H) m k e = let p = accepts_alike e in (H, (refl, (ap (λ (x : Plan). x.masters) p, ap (λ (x : Plan). x.streams) p)))
 told_accepted (Not n p) m k e = let z : ◌≡◌ {A = ℕ} 0 1 = cc in absurd (omega arith)
 
 pub told_refused : (o : Outcome) (n p : ℕ) → plan_of o ≡ Err (refusal n p) → o ≡ Not n p
 told_refused (Read H) n p e = let z : ◌≡◌ {A = ℕ} 0 1 = cc in absurd (omega arith)
-told_refused (Not a b) n p e = cc
+told_refused (Not a b) n p e = let q = same_refusal e in rw (q.0, q.1)
 
 pub accepts : (s : List ℕ) (room m k : ℕ) → plan_of (bounded s room) ≡ Ok (record { masters = m; streams = k }) → Accepts s room m k
 unfolding segment_of

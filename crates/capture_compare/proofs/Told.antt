@@ -6,18 +6,19 @@ use mathlib.Core.List.{List}
 use native.Mathlib.Omega.{arith}
 use lib.Dec.{ltb}
 use lib.ListN.{length, get_or, replicate}
+use Rattle.common.specs.Checks.{Verdict, refusal, unless}
 use Rattle.common.specs.Checks.Verdict.{Passed, Refused}
 use Rattle.common.specs.Runs.{tab, filled}
 use Rattle.common.specs.Sums.{up}
 use Rattle.common.proofs.Runs.{filled_same, get_d_tab, zero_at}
 use Rattle.capture_log.specs.Log.{Before, fresh, answers, answered, largest, above, left, shown}
 use Rattle.capture_log.specs.Records.{size, event_at, events_in, records, events, heard}
-use Rattle.capture_tally.proofs.Answers.{told_refused, told_passed}
+use Rattle.common.proofs.Answered.{unless_passed, unless_refused}
 use Rattle.capture_tally.specs.Pieces as Pieces
 use Rattle.capture_tally.specs.Pieces.{most, before, answer_to, left_after, answers_after, largest_after, above_after}
 use Rattle.capture_compare.specs.Steps.{run_by}
 use Rattle.std.specs.declared.result.Result.TheVariants.{Ok, Err}
-use Rattle.common.specs.Checks.{refusal, unless}
+use Rattle.std.specs.Bool.{⊤}
 use Rattle.std.specs.declared.result.Result.{Result}
 use Rattle.common.specs.declared.Refusal.{Refusal}
 
@@ -54,15 +55,15 @@ module _ (c : List ℕ) (n : ℕ) (few : n ≤ most) where
 
   pub whole_refused : (r p : ℕ) → answer_to c n (before none none) ≡ Err (refusal r p) → heard c n fresh ≡ Refused r p
   unfolding answer_to
-  whole_refused r p e = sym heard_same ∙ told_refused _ r p e
+  whole_refused r p e = sym heard_same ∙ unless_refused _ tt e
 
-  pub whole_passed : answer_to c n (before none none) ≡ (Ok tt) → heard c n fresh ≡ Passed
+  pub whole_passed : answer_to c n (before none none) ≡ Ok tt → heard c n fresh ≡ Passed
   unfolding answer_to
-  whole_passed e = sym heard_same ∙ told_passed _ e
+  whole_passed e = sym heard_same ∙ (unless_passed _ tt e).0
 
-  pub whole_taken : heard c n fresh ≡ Passed → answer_to c n (before none none) ≡ (Ok tt)
+  pub whole_taken : heard c n fresh ≡ Passed → answer_to c n (before none none) ≡ Ok tt
   unfolding answer_to
-  whole_taken h = ap unless (heard_same ∙ h) tt
+  whole_taken h = ap (λ (v : Verdict). unless v tt) (heard_same ∙ h)
 
 -- the runs then
 module _ (c : List ℕ) (i : ℕ) (l : i < most) where
@@ -96,7 +97,7 @@ module _ (c : List ℕ) (i : ℕ) (l : i < most) where
         ∙ rw (zero_at most i) (omega (arith, above_few fresh (get_or bound i 0) c (records c) (i + 1), some_records))
 
 -- a run that is handed over, where the capture is heard to its end: taking it as one piece made `kept` of the zeros
-pub handed : (c : List ℕ) (n : ℕ) (f : ℕ → ℕ) (run kept zeros old new : List ℕ) {t : Result ⊤ Refusal} → t ≡ (Ok tt) → heard c n fresh ≡ Passed
+pub handed : (c : List ℕ) (n : ℕ) (f : ℕ → ℕ) (run kept zeros old new : List ℕ) {t : Result ⊤ Refusal} → t ≡ Ok tt → heard c n fresh ≡ Passed
     → new ≡ filled (λ i. get_or run i 0) n old → run ≡ Pieces.run_by t kept zeros → ((i : ℕ) → i < n → get_or kept i 0 ≡ f i) → new ≡ run_by (heard c n fresh) f n old
 handed c n f run kept zeros old new all h e k w =
     let is : run ≡ kept = k ∙ ap (λ (x : Result ⊤ Refusal). Pieces.run_by x kept zeros) all in

@@ -1,7 +1,7 @@
 -- What two pieces of a capture, one behind the other, are taken as. Assumes nothing.
 use Rattle.std.proofs.Common.{◌≡◌, ℕ, ◌+◌, ◌-◌, ◌*◌, ◌<◌, ◌≤◌, min, List, ◌++◌, length, get_or, sym, refl, ap, ◌∙◌, subst, arith}
 use native.Mathlib.Decide.{ℕ_discrete}
-use Rattle.common.specs.Checks.{Verdict, unless}
+use Rattle.common.specs.Checks.{Verdict, refusal, unless}
 use Rattle.common.specs.Checks.Verdict.{Passed, Refused}
 use Rattle.common.specs.Runs.{tab}
 use Rattle.common.proofs.Runs.{get_d_tab, tab_same}
@@ -14,9 +14,8 @@ use Rattle.capture_log.proofs.Heard.{heard_behind}
 use Rattle.capture_tally.specs.Pieces.{most, before, behind, answer_to, left_after, since_after}
 use Rattle.capture_tally.specs.Steps.{no_of}
 use Rattle.capture_tally.proofs.Judged.{passed_by, refused_by}
-use Rattle.capture_tally.proofs.Answers.{told_passed}
+use Rattle.common.proofs.Answered.{unless_passed}
 use Rattle.std.specs.declared.result.Result.TheVariants.{Ok, Err}
-use Rattle.common.specs.Checks.{refusal}
 
 -- an answer tells a verdict, and its place
 pub taken_later : (d : ℕ) (v : Verdict) → unless (later d v) tt ≡ behind d (unless v tt)
@@ -51,11 +50,11 @@ module _ (c : List ℕ) (b : Before) where
 -- a piece c of m whole records, then a piece p
 module _ (c p : List ℕ) (m : ℕ) (whole : length c ≡ size * m) where
   -- the first is taken, for n streams
-  pub both_heard : (n : ℕ) (b : Before) → answer_to c n b ≡ (Ok tt) → heard (c ++ p) (min n most) b ≡ later (length c) (heard p (min n most) (b' c b))
+  pub both_heard : (n : ℕ) (b : Before) → answer_to c n b ≡ Ok tt → heard (c ++ p) (min n most) b ≡ later (length c) (heard p (min n most) (b' c b))
   unfolding answer_to events
   both_heard n b all =
       let l : Leaves most b (events_in c m) (b' c b) = subst (λ (j : ℕ). Leaves most b (events_in c j) (b' c b)) (records_whole c m whole) (leaves c b) in
-      heard_behind c p m whole (min n most) (told_passed _ all) l (omega arith)
+      heard_behind c p m whole (min n most) (unless_passed _ tt all).0 l (omega arith)
 
   both_events : events (c ++ p) ≡ events p ++ events c
   unfolding events

@@ -10,15 +10,15 @@ use Rattle.capture_log.proofs.Joined.{left_joined, since_joined, answered_joined
 use Rattle.capture_log.proofs.Heard.{stops, heard_front}
 use Rattle.capture_tally.specs.Pieces.{most, before, behind, answer_to, left_after, since_after, answers_after, largest_after, above_after}
 use Rattle.capture_tally.proofs.Seam.{taken_later, refused_place, leaves, both_heard, by_place, goes_on}
-use Rattle.capture_tally.proofs.Answers.{told_refused}
+use Rattle.common.proofs.Answered.{unless_refused}
 use Rattle.std.specs.declared.result.Result.TheVariants.{Ok, Err}
-use Rattle.common.specs.Checks.{refusal, unless}
+use Rattle.common.specs.Checks.{Verdict, refusal, unless}
 
 -- the place of a refusal lies in the piece
 pub refused_inside : (p : List ℕ) (n : ℕ) (b : Before) (r q : ℕ) → answer_to p n b ≡ Err (refusal r q) → q < length p
 unfolding answer_to records up
 refused_inside p n b r q e =
-    let s = stops p (min n most) b r q (told_refused _ r q e) in
+    let s = stops p (min n most) b r q (unless_refused _ tt e) in
     let at = refused_place p (min n most) b (taken p (min n most) b) r q s.refusal in
     omega (arith, s.inside)
 
@@ -33,12 +33,12 @@ module _ (c p : List ℕ) (m : ℕ) (whole : length c ≡ size * m) (b : Before)
   -- the first is refused: so are the two as one
   pub split_refused : (n r q : ℕ) → answer_to c n b ≡ Err (refusal r q) → answer_to (c ++ p) n b ≡ Err (refusal r q)
   unfolding answer_to
-  split_refused n r q e = ap unless (heard_front c p m whole (min n most) b r q (told_refused _ r q e)) tt
+  split_refused n r q e = ap (λ (v : Verdict). unless v tt) (heard_front c p m whole (min n most) b r q (unless_refused _ tt e))
 
   -- the first is taken
-  pub split_answer : (n : ℕ) → answer_to c n b ≡ (Ok tt) → answer_to (c ++ p) n b ≡ behind (length c) (answer_to p n b')
+  pub split_answer : (n : ℕ) → answer_to c n b ≡ Ok tt → answer_to (c ++ p) n b ≡ behind (length c) (answer_to p n b')
   unfolding answer_to
-  split_answer n all = ap unless (both_heard c p m whole n b all) tt ∙ taken_later (length c) (heard p (min n most) b')
+  split_answer n all = ap (λ (v : Verdict). unless v tt) (both_heard c p m whole n b all) ∙ taken_later (length c) (heard p (min n most) b')
 
   -- ---- The runs, where both are taken
 

@@ -1,15 +1,13 @@
 -- Page 02, 'Ask 1', a capture that is read piece by piece: what is kept of the pieces before, in runs of 800 places, place i for
 -- stream i + 1, and what a piece makes of it. A piece ends with a record, but for the last, whose end is the capture's.
 -- Assumes nothing.
-use Rattle.std.specs.Prelude.{ℕ, ◌+◌, ◌-◌, ◌%◌, ◌^◌, min, max, List, slice_index}
-use Rattle.common.specs.Checks.{Verdict, unless}
-use Rattle.common.specs.Checks.Verdict.{Passed, Refused}
+use Rattle.std.specs.Prelude.{ℕ, ◌+◌, ◌-◌, ◌%◌, ◌^◌, min, max, List, slice_index, ⊤}
+use Rattle.common.specs.Checks.{refusal, unless}
 use Rattle.common.specs.Runs.{tab}
 use Rattle.capture_log.specs.Log as Log
 use Rattle.capture_log.specs.Log.{Before}
 use Rattle.capture_log.specs.Records.{events, heard}
 use Rattle.std.specs.declared.result.Result.TheVariants.{Ok, Err}
-use Rattle.common.specs.Checks.{refusal}
 use Rattle.std.specs.declared.result.Result.{Result}
 use Rattle.common.specs.declared.Refusal.{Refusal}
 
@@ -30,7 +28,7 @@ answer_to p n b = unless (heard p (min n most) b) tt
 
 -- the answer to a piece with d bytes before it: its place is counted from their start
 abbrev pub behind : ℕ → Result ⊤ Refusal → Result ⊤ Refusal
-behind d (Ok tt) = (Ok tt)
+behind d (Ok tt) = Ok tt
 behind d (Err r) = Err (refusal r.no (d + r.place))
 
 -- ---- The runs then

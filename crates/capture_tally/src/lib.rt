@@ -2,24 +2,17 @@
 // stream of five runs.
 #![tactic(auto)]
 
-ghost use Rattle.std.specs.Prelude.{◌≡◌, ℕ, ◌<◌, ◌≤◌, min, max, length, nat_lt, slice_index};
+ghost use Rattle.std.specs.Prelude.{◌≡◌, ℕ, ◌<◌, ◌≤◌, min, length, nat_lt, slice_index};
 ghost use Rattle.common.specs.Checks.{verdict};
 ghost use Rattle.common.specs.Sums.{when};
 ghost use Rattle.sheet_record.specs.Kinds.{within};
 ghost use Rattle.capture_log.specs.Records.{event_at, event_checks};
-ghost use Rattle.capture_tally.specs.declared.Taken.TheVariants as answer;
 ghost use Rattle.capture_tally.specs.Pieces.{most, before, answer_to, run_by, left_after, since_after, answers_after, largest_after, above_after};
 ghost use Rattle.capture_tally.specs.Steps.{Long, no_of, open_no, spot, left_with, since_with, answers_with, largest_with, above_with};
 
 use capture_log::Event;
 use common::Refusal;
 use sheet_read::MOST;
-
-fn larger(a: u32, b: u32) -> u32
-    ensures { result ≡ max a b }
-{
-    if a < b { b } else { a }
-}
 
 // 1 for a response above the bound, else 0.
 fn exceeds(bound: u32, shown: u32) -> u64
@@ -33,7 +26,7 @@ fn on_sheet(stream: u32, streams: usize) -> bool
     ensures { result ≡ within 1 stream (min streams most) }
 {
     let i = stream as usize;
-    (1 <= i) & ((i <= MOST) & (i <= streams))
+    (1 <= i) & (i <= streams.min(MOST))
 }
 
 // An answer with no request open, a request while one is open, or neither.
@@ -94,9 +87,9 @@ fn keep(
     }
     let shown = capture_log::response(e.stamp, since[k]).0;
     left[k] = 0;
-    answers[k] = std::num::wrapping_add_u64(answers[k], 1);
-    largest[k] = larger(largest[k], shown);
-    above[k] = std::num::wrapping_add_u64(above[k], exceeds(bound[k], shown));
+    answers[k] = answers[k].wrapping_add(1);
+    largest[k] = largest[k].max(shown);
+    above[k] = above[k].wrapping_add(exceeds(bound[k], shown));
 }
 
 // The records of a piece, one after the other, up to the first that is refused.

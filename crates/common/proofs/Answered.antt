@@ -9,6 +9,10 @@ use Rattle.common.specs.declared.Refusal.{Refusal}
 use Rattle.common.specs.Checks.{Verdict, refusal, unless, unless_no}
 use Rattle.common.specs.Checks.Verdict.{Passed, Refused}
 
+-- answers that accept alike have the same value
+pub accepts_alike : {A : Type 0} {x y : A} → ◌≡◌ {A = Result A Refusal} (Ok x) (Ok y) → x ≡ y
+accepts_alike e = cc
+
 -- answers that refuse alike have the same refusal, by number and place
 pub refuses_alike : {A : Type 0} {r q : Refusal} → ◌≡◌ {A = Result A Refusal} (Err r) (Err q) → r ≡ q
 refuses_alike e = cc

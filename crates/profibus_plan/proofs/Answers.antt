@@ -6,11 +6,10 @@ use Prim.Native.Nat.{ℕ, ◌+◌, ◌≤◌}
 use native.Mathlib.Decide.{ℕ_discrete, dec_le}
 use native.Mathlib.Omega.{arith}
 use borrow.Author.Tests.{eq-eqb, ne_eqb, le-leb, lt-leb}
-use Rattle.common.specs.Checks.{verdict}
+use Rattle.common.specs.Checks.{verdict, refusal}
 use Rattle.sheet_record.specs.Kinds.{profibus}
 use Rattle.sheet_rules.specs.Sheets.{Sheet, bus_in}
 use Rattle.sheet_rules.specs.Whole.Outcome.{Read}
-use Rattle.units.specs.Units.{ring_bp}
 use Rattle.profibus_rules.specs.Ring.{ring_of, Declared}
 use Rattle.profibus_rules.specs.Target.{AllPass, FirstFails, Limited, target, first_failing}
 use Rattle.sheet_rules.proofs.Known.{Known}
@@ -18,10 +17,9 @@ use Rattle.profibus_rules.proofs.Rule.{all_pass_below}
 use Rattle.profibus_rules.proofs.Declared.{declared}
 use Rattle.profibus_rules.proofs.Answer.{named_fails, none_fails, fails_named, none_named, target_limited, limited_is}
 use Rattle.profibus_plan.specs.declared.answer.Plan.{Plan}
-use Rattle.profibus_plan.specs.Planned.{fails_at_latency, plan_checks, plan_by, plan_of, Answers}
+use Rattle.profibus_plan.specs.Planned.{fails_at_latency, plan_checks, plan_at, plan_by, plan_of, Answers}
 use Rattle.profibus_plan.specs.Planned.Answers.{another_bus, fails, limited}
 use Rattle.std.specs.declared.result.Result.TheVariants.{Ok, Err}
-use Rattle.common.specs.Checks.{refusal}
 use Rattle.std.specs.declared.result.Result.{Result}
 use Rattle.common.specs.declared.Refusal.{Refusal}
 
@@ -38,13 +36,13 @@ module _ (S : Sheet) where
         rw (eq-eqb (bus_in S) profibus bus, fails_named R R.latency i f, le-leb i R.number f.there.1)
 
     pub plan_passes : AllPass (ring_of S) (ring_of S).latency
-        → plan_of (Read S) ≡ Ok (record { rotation = (ring_bp (target (ring_of S))); stream = (first_failing (ring_of S) (target (ring_of S) + 1)) })
+        → plan_of (Read S) ≡ Ok (plan_at (target (ring_of S)) (first_failing (ring_of S) (target (ring_of S) + 1)))
     unfolding plan_of plan_by plan_checks fails_at_latency verdict
     plan_passes p =
         let R = ring_of S in
         rw (eq-eqb (bus_in S) profibus bus, none_named R R.latency p, lt-leb (1 + R.number) R.number (omega arith))
 
-    pub plan_limited : Declared (ring_of S) → (ttr i : ℕ) → Limited (ring_of S) ttr i → plan_of (Read S) ≡ Ok (record { rotation = (ring_bp ttr); stream = i })
+    pub plan_limited : Declared (ring_of S) → (ttr i : ℕ) → Limited (ring_of S) ttr i → plan_of (Read S) ≡ Ok (plan_at ttr i)
     plan_limited within ttr i a =
         let R = ring_of S in
         let e = limited_is R within ttr i a in

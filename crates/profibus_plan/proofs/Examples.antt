@@ -5,9 +5,8 @@ use mathlib.Core.Path.{◌≡◌, refl}
 use mathlib.Core.List.{List, [], ◌∷◌}
 use Rattle.sheet_rules.specs.Sheets.{sheet_of, message_of}
 use Rattle.sheet_rules.specs.Whole.{reading}
-use Rattle.units.specs.Units.{ring_bp}
-use Rattle.profibus_plan.specs.Planned.{plan_of}
-use Rattle.std.specs.declared.result.Result.TheVariants.{Ok, Err}
+use Rattle.profibus_plan.specs.Planned.{plan_at, plan_of}
+use Rattle.std.specs.declared.result.Result.TheVariants.{Ok}
 
 -- master 1: C 400 D 8,400 and C 500 D 10,000; master 2: C 300 D 5,000
 abbrev streams : List ℕ
@@ -21,7 +20,7 @@ streams =
 abbrev three : List ℕ
 three = 3 ∷ 3 ∷ 0 ∷ 0 ∷ 1 ∷ 44 ∷ 0 ∷ 0 ∷ 1 ∷ 244 ∷ streams
 
-answer : plan_of (reading three) ≡ Ok (record { rotation = (ring_bp 2500); stream = 1 })
+answer : plan_of (reading three) ≡ Ok (plan_at 2500 1)
 unfolding plan_of reading sheet_of message_of
 answer = refl
 
@@ -31,11 +30,11 @@ open_ring h l h' l' h'' l'' =
     9 ∷ 3 ∷ 0 ∷ 0 ∷ 1 ∷ 44 ∷ 10 ∷ 1 ∷ 0 ∷ 0 ∷ h ∷ l ∷ 10 ∷ 2 ∷ 0 ∷ 0 ∷ h' ∷ l' ∷ 10 ∷ 3 ∷ 0 ∷ 0 ∷ h'' ∷ l'' ∷ streams
 
 -- 500 for each
-again : plan_of (reading (open_ring 1 244 1 244 1 244)) ≡ Ok (record { rotation = (ring_bp 2500); stream = 1 })
+again : plan_of (reading (open_ring 1 244 1 244 1 244)) ≡ Ok (plan_at 2500 1)
 unfolding plan_of reading sheet_of message_of
 again = refl
 
 -- 500, 300 and 100
-own : plan_of (reading (open_ring 1 244 1 44 0 100)) ≡ Ok (record { rotation = (ring_bp 3100); stream = 1 })
+own : plan_of (reading (open_ring 1 244 1 44 0 100)) ≡ Ok (plan_at 3100 1)
 unfolding plan_of reading sheet_of message_of
 own = refl

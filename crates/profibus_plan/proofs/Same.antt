@@ -1,20 +1,20 @@
 -- Page 02, Ask 8, 'give the same TTR': two sheets of one ring, as the one by kind 3 and the other by kinds 9 and 10, have the same answer. Assumes nothing.
-use mathlib.Core.Path.{◌≡◌, refl, ap, ◌∙◌}
-use mathlib.Core.Bool.{not}
+use mathlib.Core.Path.{◌≡◌, ap, ◌∙◌}
+use mathlib.Core.Bool.{Bool, not}
 use mathlib.Core.List.{[], ◌∷◌}
 use Prim.Native.Nat.{ℕ, ◌+◌}
 use lib.Dec.{eqb, leb}
-use Rattle.common.specs.Checks.{Check, check, Verdict, verdict}
-use Rattle.common.specs.Checks.Verdict.{Passed, Refused}
+use Rattle.common.specs.Checks.{Check, check, verdict, unless}
+use Rattle.common.specs.declared.Refusal.{Refusal}
 use Rattle.sheet_record.specs.Kinds.{profibus}
 use Rattle.sheet_rules.specs.Sheets.{Sheet, bus_in}
 use Rattle.sheet_rules.specs.Whole.Outcome.{Read}
-use Rattle.units.specs.Units.{ring_bp}
 use Rattle.profibus_rules.specs.Ring.{Ring, ring_of, SameRings}
 use Rattle.profibus_rules.specs.Target.{target, first_failing}
 use Rattle.profibus_rules.proofs.Same.{same_target, same_first}
-use Rattle.profibus_plan.specs.Planned.{fails_at_latency, plan_checks, plan_by, plan_of}
-use Rattle.std.specs.declared.result.Result.TheVariants.{Ok, Err}
+use Rattle.profibus_plan.specs.Planned.{fails_at_latency, plan_checks, plan_at, plan_by, plan_of}
+use Rattle.profibus_plan.specs.declared.answer.Plan.{Plan}
+use Rattle.std.specs.declared.result.Result.{Result}
 
 module _ {R R' : Ring} (same : SameRings R R') where
   same_at_latency : first_failing R' R'.latency ≡ first_failing R R.latency
@@ -26,16 +26,14 @@ module _ {R R' : Ring} (same : SameRings R R') where
       ap (λ (n : ℕ). check 9 (leb (first_failing R' R'.latency) n) (first_failing R' R'.latency)) same.number
       ∙ ap (λ (i : ℕ). check 9 (leb i R.number) i) same_at_latency
 
-  same_by : (v : Verdict) → plan_by v R' ≡ plan_by v R
+  same_by : plan_by R' ≡ plan_by R
   unfolding plan_by
-  same_by Passed =
-      ap (λ (t : ℕ). Ok (record { rotation = (ring_bp t); stream = (first_failing R' (t + 1)) })) (same_target same)
-      ∙ ap (λ k. Ok (record { rotation = (ring_bp (target R)); stream = k })) (same_first same (target R + 1))
-  same_by (Refused n p) = refl
+  same_by = ap (λ (t : ℕ). plan_at t (first_failing R' (t + 1))) (same_target same) ∙ ap (plan_at (target R)) (same_first same (target R + 1))
 
 pub same_plan : (S S' : Sheet) → bus_in S' ≡ bus_in S → SameRings (ring_of S) (ring_of S') → plan_of (Read S') ≡ plan_of (Read S)
 unfolding plan_of plan_checks
 same_plan S S' bus same =
-    ap (λ (b : ℕ). plan_by (verdict (check 3 (not (eqb b profibus)) 0 ∷ fails_at_latency (ring_of S') ∷ [])) (ring_of S')) bus
-    ∙ (ap (λ (f : Check). plan_by (verdict (check 3 (not (eqb (bus_in S) profibus)) 0 ∷ f ∷ [])) (ring_of S')) (same_check same)
-    ∙ same_by same (verdict (check 3 (not (eqb (bus_in S) profibus)) 0 ∷ fails_at_latency (ring_of S) ∷ [])))
+    let by : Bool → Check → Plan → Result Plan Refusal = λ ring f p. unless (verdict (check 3 (not ring) 0 ∷ f ∷ [])) p in
+    ap (λ (b : ℕ). by (eqb b profibus) (fails_at_latency (ring_of S')) (plan_by (ring_of S'))) bus
+    ∙ (ap (λ (f : Check). by (eqb (bus_in S) profibus) f (plan_by (ring_of S'))) (same_check same)
+    ∙ ap (by (eqb (bus_in S) profibus) (fails_at_latency (ring_of S))) (same_by same))

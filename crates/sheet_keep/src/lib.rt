@@ -1,9 +1,8 @@
 // What is kept of the streams of a sheet so far, and a stream judged by it, page 01 'Numbered refusals' 5 and 7.
 #![tactic(auto)]
 
-ghost use Rattle.std.specs.Prelude.{◌≡◌, ◌≤◌, max};
+ghost use Rattle.std.specs.Prelude.{◌≡◌, ◌≤◌};
 ghost use Rattle.common.specs.Checks.{unless_no};
-ghost use Rattle.sheet_keep.specs.Steps;
 ghost use Rattle.sheet_keep.specs.Steps.{late_no, counts_with, longests_with, ids_with};
 
 use common::Refusal;
@@ -11,21 +10,6 @@ use sheet_record::Record;
 
 // No sheet of P-NET or PROFIBUS has more streams.
 pub const MOST: usize = 800;
-
-// Whether x stands among the first n identifiers.
-fn among(x: u32, n: usize, ids: &[u32; 64]) -> bool
-    requires { n ≤ 64 }
-    ensures { result ≡ Steps.among x n ids.now }
-{
-    let mut i: usize = 0;
-    while i < n {
-        if ids[i] == x {
-            return true;
-        }
-        i += 1;
-    }
-    false
-}
 
 // Judges a stream at a place by the n before it: refused with 5 where it is one too many, with 7 where its identifier was met before.
 pub fn judge(
@@ -42,7 +26,7 @@ pub fn judge(
         if 64 <= n {
             return Err(Refusal { no: 5, place });
         }
-        if among(r.a, n, ids) {
+        if ids[..n].iter().any(|&id| id == r.a) {
             return Err(Refusal { no: 7, place });
         }
         return Ok(());
@@ -55,12 +39,6 @@ pub fn judge(
         return Err(Refusal { no: 5, place });
     }
     Ok(())
-}
-
-fn larger(a: u32, b: u32) -> u32
-    ensures { result ≡ max a b }
-{
-    if a < b { b } else { a }
 }
 
 // Keeps a stream that passed: one more of its master, and the longest C of those, or its identifier.
@@ -82,6 +60,6 @@ pub fn keep(
     } else {
         let master = r.a as usize;
         counts[master] += 1;
-        longests[master] = larger(longests[master], r.b);
+        longests[master] = longests[master].max(r.b);
     }
 }

@@ -36,10 +36,8 @@ fn put_cells(out: &mut [u8], at: usize, name: &[u8], r: Record, n: usize, unit: 
     ensures { Wrote out.old at (line_by name.now r n unit.now) out.new result }
 {
     let mut next = put_counted(out, at, name, r.a as u64, b"");
-    let mut j: usize = 0;
-    while j < n {
+    for j in 0..n {
         next = put_counted(out, next, b",", other(r, j) as u64, unit);
-        j += 1;
     }
     text::put_word(out, next, b"\n")
 }

@@ -14,14 +14,7 @@ pub fn lacks(given: &[u32; 33], n: u32) -> bool
     ensures { result ≡ lacks_in n given.now }
 {
     let last = n as usize;
-    let mut y: usize = 0;
-    while y < last {
-        y += 1;
-        if given[y] == 0 {
-            return true;
-        }
-    }
-    false
+    given[1..=last].contains(&0)
 }
 
 // What counts for a master: its own where it is given, and else the greatest.
@@ -31,22 +24,13 @@ fn counted(message: u32) -> u32
     if message == 0 { GREATEST } else { message }
 }
 
-fn count_each(messages: &mut [u32])
-    requires { length messages.old ≡ 33 }
-    ensures { messages.new ≡ tab (λ y. message_by (get_or messages.old y 0)) 33 }
-{
-    let mut y: usize = 0;
-    while y < 33 {
-        messages[y] = counted(messages[y]);
-        y += 1;
-    }
-}
-
 // What counts for each master.
 pub fn count_missing(messages: &mut [u32; 33])
     ensures { messages.new ≡ tab (λ y. message_by (get_or messages.old y 0)) 33 }
 {
-    count_each(messages);
+    for message in messages.iter_mut() {
+        *message = counted(*message);
+    }
 }
 
 // What counts for the master y of a record, which may be any number as long as its range was not looked at.

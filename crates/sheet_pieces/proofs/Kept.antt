@@ -24,9 +24,10 @@ use Rattle.sheet_rules.specs.Lengths.{enough}
 use Rattle.sheet_rules.proofs.Lengths.{enough_is, longest_sheet_is, length_at_most, reading_prefix}
 use Rattle.sheet_line.specs.Lines.{has_word}
 use Rattle.sheet_line.proofs.Lines.{known_but_3}
-use Rattle.sheet_pieces.specs.Steps.{room, place_after, kept_more, sheet_more}
+use Rattle.sheet_pieces.specs.Steps.{room, kept_more, sheet_more}
 use Rattle.std.specs.declared.result.Result.{Result}
 use Rattle.common.specs.declared.Refusal.{Refusal}
+use Rattle.std.specs.Result.{result_unwrap_or}
 
 pub room_is : room ≡ 12836
 unfolding room
@@ -44,7 +45,7 @@ module _ (sheet : List ℕ) (at : ℕ) (r : Record) where
   keeps_none l = let e = le-ltb at enough l in (rw e, rw e)
 
   -- by what writing it answered
-  pub keeps_by : {p : Result ℕ Refusal} {sheet' : List ℕ} → at < enough → p ≡ free_answer (length sheet) at r → sheet' ≡ free_bytes sheet at r → KeptOne sheet at r (place_after p at) sheet'
+  pub keeps_by : {p : Result ℕ Refusal} {sheet' : List ℕ} → at < enough → p ≡ free_answer (length sheet) at r → sheet' ≡ free_bytes sheet at r → KeptOne sheet at r (result_unwrap_or p at) sheet'
   unfolding kept_more sheet_more
   keeps_by l e q = let t = lt-ltb at enough l in (rw (t, e), rw (t, q))
 

@@ -51,7 +51,7 @@ record BadAt (n : ℕ) (st : State) : Type 0 where
 
 bad_comes : {n : ℕ} {st : State} (t : List ℕ) → BadAt n st → Comes (steps st t) (Bad n)
 unfolding ended_as
-bad_comes {n} {st} t w = rw (bad_stays t st w.bad) (bad {n = n} (rw w.bad (ap Err (refusal 23 w.line))))
+bad_comes {n} {st} t w = rw (bad_stays t st w.bad) (bad {n = n} (rw w.bad (ap (λ k. Err (refusal 23 k)) w.line)))
 
 -- ---- A line under way
 
@@ -90,7 +90,7 @@ module _ {n : ℕ} {o s : List ℕ} {st : State} (u : Under n o s st) where
           })
       by false e =
           let some = eqb-false (length o) 0 e in
-          bad {n = n} (rw u.going (when_true (Ok st.taken.kept) (lt-ltb _ st.taken.held (omega (arith, u.held.count, u.held.wide, some))) ∙ ap Err (refusal 23 u.line)))
+          bad {n = n} (rw u.going (when_true (Ok st.taken.kept) (lt-ltb _ st.taken.held (omega (arith, u.held.count, u.held.wide, some))) ∙ ap (λ k. Err (refusal 23 k)) u.line))
 
   module _ (b : ℕ) where
     -- a byte more of the line

@@ -10,6 +10,7 @@ use Rattle.std.specs.declared.result.Result.TheVariants.{Ok, Err}
 use Rattle.std.specs.declared.result.Result.{Result}
 use Rattle.common.specs.declared.Refusal.{Refusal}
 use Rattle.common.specs.Checks.{refusal}
+use Rattle.std.specs.Result.{result_unwrap_or}
 
 -- a record more than what decides a sheet's reading
 unfoldable pub room : ℕ
@@ -40,14 +41,10 @@ front_with front h b = set front (holds front h) b
 
 -- ---- The front of the sheet
 
-abbrev pub place_after : Result ℕ Refusal → ℕ → ℕ
-place_after (Ok n) at = n
-place_after (Err r) at = at
-
 -- behind the bytes that decide its reading, no more is kept
 unfoldable pub kept_more : List ℕ → ℕ → Record → ℕ
 unfolding free_answer enough
-kept_more sheet at r = cond (ltb at enough) (place_after (free_answer (length sheet) at r) at) at
+kept_more sheet at r = cond (ltb at enough) (result_unwrap_or (free_answer (length sheet) at r) at) at
 
 unfoldable pub sheet_more : List ℕ → ℕ → Record → List ℕ
 unfolding free_bytes enough

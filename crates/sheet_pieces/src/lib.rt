@@ -5,7 +5,7 @@
 ghost use Rattle.std.specs.Prelude.{◌≡◌, ◌≤◌, length};
 ghost use Rattle.text.specs.Text.{Zeros};
 ghost use Rattle.sheet_pieces.specs.Steps;
-ghost use Rattle.sheet_pieces.specs.Steps.{started, room, held_more, front_with, kept_more, sheet_more, next_line, stepped, steps, ended_as};
+ghost use Rattle.sheet_pieces.specs.Steps.{started, room, held_more, front_with, kept_more, sheet_more, stepped, steps, ended_as};
 
 use sheet_line::LINE;
 use sheet_record::Record;
@@ -77,15 +77,6 @@ fn keep(sheet: &mut [u8], at: usize, r: Record) -> usize
     sheet_write::put_free(sheet, at, r).unwrap_or(at)
 }
 
-fn next_line(n: usize) -> usize
-    ensures { result ≡ next_line n }
-{
-    if n < 18_446_744_073_709_551_615 {
-        return n + 1;
-    }
-    n
-}
-
 // The line under way has its end.
 fn end_line(t: Taken, front: &[u8], sheet: &mut [u8]) -> Taken
     requires { t.held ≤ length front.now }
@@ -103,7 +94,7 @@ fn end_line(t: Taken, front: &[u8], sheet: &mut [u8]) -> Taken
         };
     }
     Taken {
-        line: next_line(t.line),
+        line: t.line.saturating_add(1),
         held: 0,
         kept: keep(sheet, t.kept, r),
         bad: false,
@@ -139,10 +130,8 @@ pub fn take(piece: &[u8], t: Taken, front: &mut [u8], sheet: &mut [u8]) -> Taken
     ensures sheet_after { sheet.new ≡ (steps (record { taken = t; front = front.old; sheet = sheet.old }) piece.now).sheet }
 {
     let mut taken = t;
-    let mut i: usize = 0;
-    while i < piece.len() {
-        taken = step(taken, piece[i], front, sheet);
-        i += 1;
+    for &byte in piece {
+        taken = step(taken, byte, front, sheet);
     }
     taken
 }
@@ -152,11 +141,9 @@ pub fn take(piece: &[u8], t: Taken, front: &mut [u8], sheet: &mut [u8]) -> Taken
 pub fn end(t: Taken) -> Result<usize, Refusal>
     ensures { result ≡ ended_as t }
 {
+    let at = t.line;
     if t.bad | (0 < t.held) {
-        return Err(Refusal {
-            no: 23,
-            place: t.line,
-        });
+        return Err(Refusal { no: 23, place: at });
     }
     Ok(t.kept)
 }

@@ -6,18 +6,11 @@ ghost use Rattle.sheet_record.specs.Kinds.{within, in_range};
 
 use sheet_record::{Given, Record};
 
-// a less b, and 0 where b is the greater.
-fn less(a: u32, b: u32) -> u32
-    ensures { result ≡ a - b }
-{
-    if b < a { a - b } else { 0 }
-}
-
 // A deadline D in 1..T - J and a release jitter J in 0..T - 1.
 fn fits_behind(t: u32, d: u32, j: u32) -> bool
     ensures { result ≡ (within 1 d (t - j) && within 0 j (t - 1)) }
 {
-    (1 <= d) & (d <= less(t, j)) & (j <= less(t, 1))
+    (1 <= d) & (d <= t.saturating_sub(j)) & (j <= t.saturating_sub(1))
 }
 
 // The longest cycle C of a P-NET stream is at most so many bp.

@@ -39,6 +39,7 @@ use Rattle.sheet_rules.proofs.Order.{no_limits, given_none, given_same, nth, str
 use Rattle.sheet_read.proofs.Begins.{own_passed, numbered_not, told_refused, judged_own, judged_wrong, judged_late}
 use Rattle.std.specs.declared.result.Result.TheVariants.{Ok, Err}
 use Rattle.common.specs.Checks.{refusal}
+use Rattle.common.specs.declared.Refusal.{Refusal}
 
 -- ---- Masters
 

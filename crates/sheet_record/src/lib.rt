@@ -38,10 +38,8 @@ fn number(s: &[u8], at: usize, w: usize) -> u32
     ensures { (result ≡ be s.now at w) × (result < 256 ^ w) }
 {
     let mut x: u32 = 0;
-    let mut i: usize = 0;
-    while i < w {
-        x = x * 256 + s[at + i] as u32;
-        i += 1;
+    for &byte in &s[at..at + w] {
+        x = x * 256 + byte as u32;
     }
     x
 }

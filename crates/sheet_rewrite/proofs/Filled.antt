@@ -3,7 +3,6 @@ use Prim.Native.Nat.{ℕ, zero, suc, ◌+◌, ◌*◌, ◌≤◌, ◌<◌}
 use mathlib.Core.Path.{◌≡◌, refl, sym, ap, ◌∙◌, subst}
 use mathlib.Core.List.{List, ◌++◌, append_assoc}
 use mathlib.Core.Bool.{true}
-use native.Mathlib.Numerals.{add-one}
 use native.Mathlib.Omega.{arith}
 use borrow.Author.Tests.{lt-ltb, le-ltb}
 use lib.ListN.{length, take, drop, length-append}
@@ -24,28 +23,21 @@ use Rattle.std.specs.declared.result.Result.TheVariants.{Ok, Err}
 use Rattle.common.specs.Checks.{refusal}
 use Rattle.std.specs.declared.result.Result.{Result}
 use Rattle.common.specs.declared.Refusal.{Refusal}
+use Rattle.std.specs.Result.{result_unwrap_or}
 
 -- ---- One record
 
 module _ (b : List ℕ) (at : ℕ) (r : Record) (k : written r.kind ≡ true) (room : at + size_of r.kind ≤ length b) where
-  pub one_wrote : {b' : List ℕ} {e : ℕ} → Ok e ≡ free_answer (length b) at r → b' ≡ free_bytes b at r → Wrote b at (encode r) b' e
+  -- there is room
+  pub one_wrote : {p : Result ℕ Refusal} {b' : List ℕ} {e : ℕ} → p ≡ free_answer (length b) at r → b' ≡ free_bytes b at r → e ≡ result_unwrap_or p at → Wrote b at (encode r) b' e
   unfolding behind
-  one_wrote {b'} {e} p q =
+  one_wrote {p} {b'} {e} a q u =
       let f = room_free b at r k room in
-      let n : Ok e ≡ Ok (at + size_of r.kind) = p ∙ sym f.0 in
-      let n' : e ≡ at + size_of r.kind = cc in
+      let n' : e ≡ at + size_of r.kind = u ∙ ap (λ x. result_unwrap_or x at) (a ∙ sym f.0) in
       record {
         stored = q ∙ (sym f.1 ∙ sym (sets-eq (encode r) b at (omega (arith, length_encode r)) ∙ append_assoc (take at b) (encode r) (drop (at + length (encode r)) b)));
         ends = omega (arith, length_encode r);
       }
-
-  -- there is room
-  pub one_not_refused : {n p : ℕ} → Err (refusal n p) ≡ free_answer (length b) at r → ⊥
-  one_not_refused {n} {p} q =
-      let f = room_free b at r k room in
-      let e : Err (refusal n p) ≡ Ok (at + size_of r.kind) = q ∙ sym f.0 in
-      let z : ◌≡◌ {A = ℕ} 0 1 = cc in
-      omega arith
 
 -- ---- The ring and its messages
 
@@ -112,8 +104,10 @@ module _ (h : Record) where
     unfolding behind
     fronted_room room l = omega (arith, f.wrote.ends, messages_length three m, length_wrote f.wrote, message_size)
 
-    pub fronted_more : {now' : List ℕ} {at' : ℕ} → m < h.a → Wrote now at (encode (own (m + 1))) now' at' → Fronted old start (m + 1) now' at'
-    fronted_more l w = record { wrote = rw add-one (rw (messages_more three m) (wrote_then f.wrote (rw add-one at w))); within = omega arith }
+    pub fronted_more : {n : ℕ} {now' : List ℕ} {at' : ℕ} → n ≡ m + 1 → n ≤ h.a → Wrote now at (encode (own n)) now' at' → Fronted old start n now' at'
+    fronted_more {n} e l w =
+        let e' : n ≡ suc m = omega arith in
+        record { wrote = rw (e', messages_more three m) (wrote_then f.wrote (rw e' at w)); within = l }
 
     -- behind the ring, all of them
     pub fronted_all : {o : List ℕ} → Wrote o 0 (encode (open_ring h)) old start → h.a ≤ m → Wrote o 0 (front_bytes h h.a) now at

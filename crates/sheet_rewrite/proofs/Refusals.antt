@@ -13,7 +13,7 @@ use Rattle.common.specs.Checks.Verdict.{Refused}
 use Rattle.common.proofs.Checks.{Applies, refused_if, refused_then}
 use Rattle.common.proofs.Checks.Applies.{here, later}
 use Rattle.text.specs.Text.{over}
-use Rattle.sheet_write.proofs.Writing.{refused_by, refused_kept, next_passed}
+use Rattle.sheet_write.proofs.Writing.{refused_kept}
 use Rattle.sheet_rules.specs.Sheets.{Sheet}
 use Rattle.sheet_rules.specs.Whole.{Outcome, reading}
 use Rattle.sheet_rules.specs.Whole.Outcome.{Read, Not}
@@ -24,6 +24,7 @@ use Rattle.sheet_rewrite.specs.Refusals.RewriteRefused.{unread, no_room, no_room
 use Rattle.sheet_rewrite.proofs.Rewritten.{rewritten_alike, renewed_length, rewritten_at_most}
 use Rattle.std.specs.declared.result.Result.TheVariants.{Ok, Err}
 use Rattle.common.specs.Checks.{refusal}
+use Rattle.common.proofs.Answered.{unless_passed, unless_refused}
 
 -- the new length, in the page's words
 new_length_law : (s : List ℕ) (S : Sheet) → reading s ≡ Read S → S.head.kind ≡ 3 → length (rewritten s S) ≡ new_length S
@@ -33,7 +34,7 @@ new_length_law s S r three = renewed_length s S r three
 module _ (room : ℕ) (s : List ℕ) where
   rewrite_then : (n p : ℕ) → rewrite_answer room s ≡ Err (refusal n p) → RewriteRefused s room n p
   unfolding rewrite_answer
-  rewrite_then n p e = by (reading s) refl (refused_by (rewrite_verdict room s (reading s)) (length (rewritten_by s (reading s))) n p e)
+  rewrite_then n p e = by (reading s) refl (unless_refused (rewrite_verdict room s (reading s)) (length (rewritten_by s (reading s))) e)
     where
       short : (S : Sheet) → reading s ≡ Read S → room < length (rewritten s S) → RewriteRefused s room 13 (length (rewritten s S))
       short S r l = split (ℕ_discrete S.head.kind 3)
@@ -78,7 +79,7 @@ module _ (room : ℕ) (s : List ℕ) where
   -- the lengths that are answered: no one takes them for a refusal behind 2^32 (planner_exports)
   pub rewrite_at_most : (n : ℕ) → rewrite_answer room s ≡ Ok n → n ≤ 12804
   unfolding rewrite_answer
-  rewrite_at_most n e = by (reading s) refl (next_passed (rewrite_verdict room s (reading s)) (length (rewritten_by s (reading s))) n e).1
+  rewrite_at_most n e = by (reading s) refl (sym (unless_passed (rewrite_verdict room s (reading s)) (length (rewritten_by s (reading s))) e).1)
     where
       by : (o : Outcome) → reading s ≡ o → n ≡ length (rewritten_by s o) → n ≤ 12804
       by (Read S) r q = omega (arith, rewritten_at_most s S r)

@@ -37,9 +37,7 @@ fn put_ring(out: &mut [u8], ring: Record) -> usize
         e: 0,
     };
     let mut at = put_one(out, 0, open);
-    let mut master: u32 = 0;
-    while master < ring.a {
-        master += 1;
+    for master in 1..=ring.a {
         let message = Record {
             kind: 10,
             a: master,

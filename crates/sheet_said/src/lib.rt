@@ -13,17 +13,7 @@ use sheet_record::Record;
 pub fn begins(line: &[u8], word: &[u8]) -> bool
     ensures { result ≡ Said.begins word.now line.now }
 {
-    if line.len() < word.len() {
-        return false;
-    }
-    let mut i: usize = 0;
-    while i < word.len() {
-        if line[i] != word[i] {
-            return false;
-        }
-        i += 1;
-    }
-    true
+    line.starts_with(word)
 }
 
 // The kind whose word and a comma stand at the front of a line, or of a whole text; 0 if there is none.
@@ -75,8 +65,7 @@ fn cell_at(line: &[u8], at: usize) -> Cell
     ensures next_in_bounds { result.next ≤ length line.now }
 {
     let mut number: u32 = 0;
-    let mut i = at;
-    while i < line.len() {
+    for i in at..line.len() {
         let byte = line[i];
         if byte == b',' {
             return Cell {
@@ -85,9 +74,11 @@ fn cell_at(line: &[u8], at: usize) -> Cell
             };
         }
         number = text_entry::with_byte(number, byte);
-        i += 1;
     }
-    Cell { number, next: i }
+    Cell {
+        number,
+        next: line.len(),
+    }
 }
 
 // The only record that a line can be that of: its word's kind, and what the digits behind each comma say.

@@ -1,6 +1,6 @@
 -- Laws of import: from what a text came to, to the answer. Assumes nothing.
 use Prim.Native.Nat.{ℕ, ◌≤◌, min}
-use mathlib.Core.Path.{◌≡◌, refl}
+use mathlib.Core.Path.{◌≡◌, refl, sym, ◌∙◌}
 use mathlib.Core.List.{List}
 use native.Mathlib.Omega.{arith}
 use lib.ListN.{length, take}
@@ -19,6 +19,7 @@ use Rattle.std.specs.declared.result.Result.TheVariants.{Ok, Err}
 use Rattle.common.specs.Checks.{refusal}
 use Rattle.std.specs.declared.result.Result.{Result}
 use Rattle.common.specs.declared.Refusal.{Refusal}
+use Rattle.common.proofs.Answered.{refuses_alike}
 
 -- what `take` leaves of a whole text, from the start and in fresh runs
 pub comes_taken : (text front sheet : List ℕ) {t₀ t : Taken} {front' sheet' : List ℕ} → t₀ ≡ started → Zeros 96 front → Zeros room sheet
@@ -37,16 +38,16 @@ ImportedAs old text p now = (p ≡ import_answer (length old) text) × (now ≡ 
 
 module _ (old text : List ℕ) where
   -- a bad line: there are no more lines than bytes, so its number is told as it is
-  pub imported_bad : {st : State} {n : ℕ} → Comes st (meaning text) → length text ≤ 18446744073709551615 → ended_as st.taken ≡ Err (refusal 23 n) → ImportedAs old text (Err (refusal 23 n)) old
+  pub imported_bad : {st : State} {r : Refusal} → Comes st (meaning text) → length text ≤ 18446744073709551615 → ended_as st.taken ≡ Err r → ImportedAs old text (Err r) old
   unfolding import_answer import_bytes
-  imported_bad {st} {n} comes few ended = by (meaning text) refl comes
+  imported_bad {st} {r} comes few ended = by (meaning text) refl comes
     where
-      by : (m : Meaning) → meaning text ≡ m → Comes st m → ImportedAs old text (Err (refusal 23 n)) old
+      by : (m : Meaning) → meaning text ≡ m → Comes st m → ImportedAs old text (Err r) old
       by m e (stands k) = let z : ◌≡◌ {A = ℕ} 0 1 = cc k.ended in absurd (omega arith)
       by m e (bad {n = l} q) =
-          let told : n ≡ min l 18446744073709551615 = cc in
-          let same : n ≡ l = omega (arith, bad_within text l e) in
-          (rw (e, same), rw e)
+          let told : r ≡ refusal 23 (min l 18446744073709551615) = refuses_alike (sym ended ∙ q) in
+          let same : min l 18446744073709551615 ≡ l = omega (arith, bad_within text l e) in
+          (rw (e, told, same), rw e)
 
   as_copied : {s : List ℕ} {p : Result ℕ Refusal} {now : List ℕ} → meaning text ≡ Stands s → CopiedAs old s p now → ImportedAs old text p now
   unfolding import_answer import_bytes copy_answer copy_bytes

@@ -24,7 +24,6 @@ use Rattle.sheet_ranges.proofs.Fits.{Fit, in_range_fits}
 use Rattle.sheet_ranges.proofs.Fits.Fit.{none as no_field, over as no_number, more as a-field}
 use Rattle.sheet_write.specs.Writing.{greatest}
 use Rattle.sheet_write.proofs.Trips.{decode_fit}
-use Rattle.sheet_write.proofs.Writing.{next_passed}
 use Rattle.sheet_rules.specs.Sheets.{Sheet, bus_in}
 use Rattle.sheet_rules.specs.Records.{records_in, bytes_of}
 use Rattle.sheet_rules.specs.Whole.{Outcome, reading}
@@ -44,6 +43,7 @@ use Rattle.sheet_text.specs.Refusals.AllSayable.{none, more}
 use Rattle.sheet_text.proofs.Meaning.{means_then, means_if}
 use Rattle.std.specs.declared.result.Result.TheVariants.{Ok, Err}
 use Rattle.common.specs.Checks.{refusal}
+use Rattle.common.proofs.Answered.{unless_passed}
 
 -- ---- The records of an accepted sheet
 
@@ -234,9 +234,9 @@ module _ (room : ℕ) (s : List ℕ) (n : ℕ) where
       by : (o : Outcome) → reading s ≡ o → unless (export_verdict room o) (length (text_by o)) ≡ Ok n → Exportable s room n
       by (Not m p) q a = absurd (let z : ◌≡◌ {A = ℕ} 0 1 = cc in omega arith)
       by (Read S) q a =
-          let v = next_passed (verdict (export_checks room S)) (length (sheet_text S)) n a in
+          let v = unless_passed (verdict (export_checks room S)) (length (sheet_text S)) a in
           let c = clear S (passed_then (export_checks room S) v.0) in
-          record { sheet = S; reads = q; worded = c.0; is_length = v.1; fits = omega (arith, v.1, c.1) }
+          record { sheet = S; reads = q; worded = c.0; is_length = sym v.1; fits = omega (arith, v.1, c.1) }
 
 -- the run then has the text in front
 export_front : (old s : List ℕ) (n : ℕ) (x : Exportable s (length old) n) → take n (export_bytes old s) ≡ sheet_text x.sheet
@@ -275,8 +275,8 @@ module _ (room : ℕ) (t : List ℕ) (n : ℕ) where
       read s m (Not k p) q a = absurd (let z : ◌≡◌ {A = ℕ} 0 1 = cc in omega arith)
       read s m (Read S) q a =
           let cs = check 13 (ltb room (length s)) (length s) ∷ [] in
-          let v = next_passed (verdict cs) (length s) n a in
-          record { bytes = s; sheet = S; stands = means_then t s m; reads = q; is_length = v.1; fits = omega (arith, v.1, clear (length s) (passed_then cs v.0)) }
+          let v = unless_passed (verdict cs) (length s) a in
+          record { bytes = s; sheet = S; stands = means_then t s m; reads = q; is_length = sym v.1; fits = omega (arith, v.1, clear (length s) (passed_then cs v.0)) }
 
       by : (m : Meaning) → meaning t ≡ m → unless (import_verdict room m) (length (sheet_by m)) ≡ Ok n → Importable t room n
       by (Bad k) m a = absurd (let z : ◌≡◌ {A = ℕ} 0 1 = cc in omega arith)

@@ -17,7 +17,7 @@ use Rattle.common.proofs.Checks.Applies.{here, later}
 use Rattle.sheet_record.specs.declared.Record.{Record}
 use Rattle.sheet_record.specs.Kinds.{decode}
 use Rattle.sheet_record.proofs.Tables.{known_within}
-use Rattle.sheet_write.proofs.Writing.{refused_by, refused_kept}
+use Rattle.sheet_write.proofs.Writing.{refused_kept}
 use Rattle.sheet_rules.specs.Sheets.{Sheet}
 use Rattle.sheet_rules.specs.Records.{bytes_of}
 use Rattle.sheet_rules.specs.Whole.{Outcome, place_of, reading}
@@ -40,13 +40,14 @@ use Rattle.sheet_text.proofs.Meaning.{means_then, means_if, bad_then, bad_if}
 use Rattle.sheet_text.proofs.Inverse.{head_word, no_head_word}
 use Rattle.std.specs.declared.result.Result.TheVariants.{Ok, Err}
 use Rattle.common.specs.Checks.{refusal}
+use Rattle.common.proofs.Answered.{unless_refused}
 
 -- ---- Import
 
 module _ (room : ℕ) (t : List ℕ) where
   import_then : (n p : ℕ) → import_answer room t ≡ Err (refusal n p) → ImportRefused t room n p
   unfolding import_answer
-  import_then n p e = by (meaning t) refl (refused_by (import_verdict room (meaning t)) (length (sheet_by (meaning t))) n p e)
+  import_then n p e = by (meaning t) refl (unless_refused (import_verdict room (meaning t)) (length (sheet_by (meaning t))) e)
     where
       line : {s : List ℕ} {S : Sheet} {m q : ℕ} → StandsFor t s → reading s ≡ Read S → Applies (check 13 (ltb room (length s)) (length s) ∷ []) m q → ImportRefused t room m q
       line f r (here q) = no-room-text f r (ltb-true _ _ q)
@@ -85,7 +86,7 @@ import_keeps old t n p e = refused_kept (import_verdict (length old) (meaning t)
 module _ (room : ℕ) (s : List ℕ) where
   export_then : (n p : ℕ) → export_answer room s ≡ Err (refusal n p) → ExportRefused s room n p
   unfolding export_answer export_checks
-  export_then n p e = by (reading s) refl (refused_by (export_verdict room (reading s)) (length (text_by (reading s))) n p e)
+  export_then n p e = by (reading s) refl (unless_refused (export_verdict room (reading s)) (length (text_by (reading s))) e)
     where
       three : (S : Sheet) → reading s ≡ Read S → has_word S.head.kind ≡ false → S.head.kind ≡ 3
       three S r w = split (ℕ_discrete S.head.kind 3)

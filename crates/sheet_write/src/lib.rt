@@ -18,11 +18,9 @@ fn put_number(buf: &mut [u8], at: usize, w: usize, v: u32)
     ensures { buf.new ≡ pasted buf.old at (digits w v) }
 {
     let mut x = v;
-    let mut j = w;
-    while 0 < j {
-        j -= 1;
+    for j in (0..w).rev() {
         buf[at + j] = (x % 256) as u8;
-        x = x / 256;
+        x /= 256;
     }
 }
 

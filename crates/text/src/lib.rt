@@ -5,40 +5,24 @@
 ghost use Rattle.std.specs.Prelude.{◌≡◌, ◌-◌, min};
 ghost use Rattle.text.specs.Text.{Wrote, places, width_of, decimal, counted};
 
-// How many of k bytes fit into a run of `length` from place `at` on.
-fn fit(length: usize, at: usize, k: usize) -> usize
-    ensures { result ≡ min k (length - at) }
-{
-    if at >= length {
-        return 0;
-    }
-    if k < length - at {
-        return k;
-    }
-    length - at
-}
-
 pub fn put_word(out: &mut [u8], at: usize, word: &[u8]) -> usize
     ensures { Wrote out.old at word.now out.new result }
 {
-    let count = fit(out.len(), at, word.len());
-    let mut j = 0;
-    while j < count {
-        out[at + j] = word[j];
-        j += 1;
+    let count = word.len().min(out.len().saturating_sub(at));
+    let end = at + count;
+    if at < end {
+        out[at..end].copy_from_slice(&word[..count]);
     }
-    at + j
+    end
 }
 
 // The last k digits of n.
 pub fn put_places(out: &mut [u8], at: usize, k: usize, n: u64) -> usize
     ensures { Wrote out.old at (places k n) out.new result }
 {
-    let count = fit(out.len(), at, k);
-    let mut j = k;
+    let count = k.min(out.len().saturating_sub(at));
     let mut rest = n;
-    while j > 0 {
-        j -= 1;
+    for j in (0..k).rev() {
         if j < count {
             out[at + j] = b'0' + (rest % 10) as u8;
         }

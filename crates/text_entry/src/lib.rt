@@ -10,10 +10,7 @@ fn with_digit(n: u32, digit: u8) -> u32
     ensures { result ≡ min (n * 10 + (digit - 48)) 4294967295 }
 {
     let next = n as u64 * 10 + (digit - 48) as u64;
-    if next < 4_294_967_295 {
-        return next as u32;
-    }
-    4_294_967_295
+    next.min(u32::MAX as u64) as u32
 }
 
 // The number with one byte more behind it: another digit, as far as 32 bits go; what is no digit changes nothing.
@@ -34,14 +31,11 @@ pub fn number(word: &[u8]) -> Option<u32>
         return None;
     }
     let mut n: u32 = 0;
-    let mut i: usize = 0;
-    while i < word.len() {
-        let digit = word[i];
+    for &digit in word {
         if (digit < 48) | (digit > 57) {
             return None;
         }
         n = with_digit(n, digit);
-        i += 1;
     }
     Some(n)
 }

@@ -59,12 +59,10 @@ pub fn put_bytes(out: &mut [u8], text: &[u8]) -> usize
 {
     let mut n: usize = 0;
     let mut high: u8 = 16;
-    let mut i: usize = 0;
-    while i < text.len() {
-        let next = step(out, n, high, text[i]);
+    for &b in text {
+        let next = step(out, n, high, b);
         n = next.n;
         high = next.high;
-        i += 1;
     }
     n
 }

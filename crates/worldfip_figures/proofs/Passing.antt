@@ -10,8 +10,7 @@ use lib.Dec.{ltb}
 use lib.ListN.{length, get_or, get_or-eq_default}
 use borrow.Author.Tests.{lt-ltb, le-ltb, eq-eqb, ne_eqb, eqb-true}
 use Rattle.common.specs.Sums.{when}
-use Rattle.common.specs.Checks.{Check, Verdict, verdict}
-use Rattle.common.specs.Checks.Verdict.{Passed, Refused}
+use Rattle.common.specs.Checks.{Check, verdict, refusal, unless}
 use Rattle.sheet_record.specs.declared.Met.{Met}
 use Rattle.sheet_record.specs.Kinds.{nothing, worldfip, is_stream_of, stream_met}
 use Rattle.sheet_record.proofs.Parts.{exchange_first, variables}
@@ -26,9 +25,10 @@ use Rattle.sheet_read.proofs.Taken.{ready_known, stream_met_law}
 use Rattle.worldfip_rules.specs.Traffic.{Traffic, Declared, plain, period_of, ahead, rank_of, variable_of, identifier_at, microcycle, slots, in_rows, rows, period_at}
 use Rattle.worldfip_rules.proofs.Plain.{plain_of, plain_declared, plain_variable}
 use Rattle.worldfip_figures.specs.Declares.{variable_by, variable_at, traffic_of}
-use Rattle.worldfip_figures.specs.Figures.{figure_checks, sheet_checks, place_at, stopped, figures_by, figures_of, identifier_of}
+use Rattle.worldfip_figures.specs.Figures.{figure_checks, sheet_checks, place_at, figures_by, figures_of, identifier_of}
 use Rattle.worldfip_figures.specs.Held.{numbered, held, Sheeted, measured, Placed, Ranked, Gathered}
 use Rattle.worldfip_figures.proofs.Tied.{variable_is}
+use Rattle.std.specs.declared.result.Result.TheVariants.{Err}
 
 -- ---- A sheet that reads without refusal declares traffic within the ranges
 
@@ -89,10 +89,9 @@ module _ {s : List ℕ} {first n : ℕ} (ready : Ready s worldfip first n) where
 
 -- identifiers play no part
 module _ (T : Traffic) where
-  plain_by : (v : Verdict) → figures_by v (plain_of T) ≡ figures_by v T
+  plain_by : figures_by (plain_of T) ≡ figures_by T
   unfolding place_at plain slots rows microcycle in_rows period_at variable_of rank_of ahead
-  plain_by Passed = refl
-  plain_by (Refused n p) = refl
+  plain_by = refl
 
   plain_checks : figure_checks (plain_of T) ≡ figure_checks T
   unfolding figure_checks plain slots rows microcycle in_rows
@@ -100,7 +99,7 @@ module _ (T : Traffic) where
 
   plain_measured : measured (plain_of T) ≡ measured T
   unfolding measured
-  plain_measured = ap (λ (cs : List Check). figures_by (verdict cs) (plain_of T)) plain_checks ∙ plain_by (verdict (figure_checks T))
+  plain_measured = ap (λ (cs : List Check). unless (verdict cs) (figures_by (plain_of T))) plain_checks ∙ ap (unless (verdict (figure_checks T))) plain_by
 
 -- a sheet of this bus goes on to 10
 module _ (S : Sheet) (bus : bus_in S ≡ worldfip) where
@@ -114,7 +113,7 @@ module _ (S : Sheet) (bus : bus_in S ≡ worldfip) where
 
 -- one of another is refused with 3 at 0
 module _ (S : Sheet) (other : bus_in S ≡ worldfip → ⊥) where
-  pub other_bus : figures_of (Read S) ≡ stopped 3 0
+  pub other_bus : figures_of (Read S) ≡ Err (refusal 3 0)
   unfolding figures_of sheet_checks verdict
   other_bus = rw (ne_eqb (bus_in S) worldfip other)
 

@@ -94,7 +94,8 @@ tells S old e = (sym (ap (λ (x : Verdict). plan_by x (traffic_of S)) e), sym (a
 pub tells_same : {o : Outcome} (S : Sheet) (old : List ℕ) {p p' : Result Plan Refusal} {run run' : List ℕ} → o ≡ Read S → p ≡ p' → run ≡ run' → Tells (Read S) old p' run' → Tells o old p run
 tells_same S old e ep er t = (ep ∙ (t.0 ∙ sym (ap (λ (x : Outcome). plan_of x (length old)) e)), er ∙ (t.1 ∙ sym (ap (λ (x : Outcome). run_of x old) e)))
 
-pub accepts : {c c' : Micros} {k k' n n' : ℕ} → c ≡ c' → k ≡ k' → n ≡ n' → Ok (record { microcycle = c; slots = k; rows = n }) ≡ Ok (record { microcycle = c'; slots = k'; rows = n' })
+pub accepts : {c c' : Micros} {k k' n n' : ℕ} → c ≡ c' → k ≡ k' → n ≡ n'
+    → ◌≡◌ {A = Result Plan Refusal} (Ok (record { microcycle = c; slots = k; rows = n })) (Ok (record { microcycle = c'; slots = k'; rows = n' }))
 accepts ec ek en = rw (ec, ek, en)
 
 -- a sheet without figures has no table

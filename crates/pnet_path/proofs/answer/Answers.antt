@@ -6,4 +6,4 @@ pub returns-in-Some : goal.returns-in-Some
 returns-in-Some c = answer_of_refused c.args.way _ c.in-Some.is
 
 pub returns : goal.returns
-returns c = answer_of_others c.args.way _ c.in_default.is _ c.gateways_of-gateways.ensures c.over_gateways.result c.over_gateways.ensures
+returns c = answer_of_others c.args.way _ c.in_default.is _ c.saturating_sub-gateways.ensures c.over_gateways.result c.over_gateways.ensures

@@ -2,6 +2,7 @@
 use mathlib.Core.Path.{◌≡◌, sym, ap, ◌∙◌}
 use native.Mathlib.Omega.{arith}
 use lib.ListN.{get_or}
+use Rattle.std.proofs.lemmas.Result.{err_from_is_err_and}
 use Rattle.common.specs.Runs.{tab}
 use Rattle.common.specs.Sums.{upto}
 use Rattle.sheet_read.proofs.Taken.{Taken, taken, not_taken, taken_ready}
@@ -17,20 +18,20 @@ use Rattle.profibus_plan.proofs.plan.Goals.{Else-bus_of-ne3}
 
 -- what the reader took is a PROFIBUS sheet
 took : (c : Else-bus_of-ne3)
-    → Taken c.args.s.now c.in-Accepted.head c.in-Accepted.streams c.in-Accepted.first
+    → Taken c.args.s.now c.in_ok-sheet.sheet.head c.in_ok-sheet.sheet.streams c.in_ok-sheet.sheet.first
 took c =
-    taken c.args.s.now c.in-Accepted.head c.in-Accepted.streams c.in-Accepted.first
-    (sym c.read_ring.ensures.value ∙ c.in-Accepted.is)
+    taken c.args.s.now c.in_ok-sheet.sheet.head c.in_ok-sheet.sheet.streams c.in_ok-sheet.sheet.first
+    (sym c.read_ring.ensures.value ∙ c.in_ok-sheet.was)
 
-ready : (c : Else-bus_of-ne3) → Ready c.args.s.now profibus c.in-Accepted.first c.in-Accepted.streams
+ready : (c : Else-bus_of-ne3) → Ready c.args.s.now profibus c.in_ok-sheet.sheet.first c.in_ok-sheet.sheet.streams
 ready c = taken_ready (took c) (sym c.bus_of.ensures ∙ c.if-bus_of-ne3.false)
 
 -- the ring is declared
 within : (c : Else-bus_of-ne3) → Declared (ring_of (sheet_in c.args.s.now))
 within c =
-    ready_declared c.args.s.now c.in-Accepted.first c.in-Accepted.streams (ready c)
+    ready_declared c.args.s.now c.in_ok-sheet.sheet.first c.in_ok-sheet.sheet.streams (ready c)
 
-masters : (c : Else-bus_of-ne3) → c.in-Accepted.head.a ≡ (ring_of (sheet_in c.args.s.now)).masters
+masters : (c : Else-bus_of-ne3) → c.in_ok-sheet.sheet.head.a ≡ (ring_of (sheet_in c.args.s.now)).masters
 unfolding ring_of
 masters c = ap (λ (r : Record). r.a) (took c).begins
 
@@ -38,17 +39,17 @@ masters c = ap (λ (r : Record). r.a) (took c).begins
 handed : (c : Else-bus_of-ne3) → c.read_ring.new.messages ≡ tab (ring_of (sheet_in c.args.s.now)).longest 33
 handed c =
     c.read_ring.ensures.messages_after
-    ∙ ready_messages c.args.s.now c.in-Accepted.first c.in-Accepted.streams (ready c) _
+    ∙ ready_messages c.args.s.now c.in_ok-sheet.sheet.first c.in_ok-sheet.sheet.streams (ready c) _
 
-latency : (c : Else-bus_of-ne3) → c.in-Accepted.head.b ≡ (ring_of (sheet_in c.args.s.now)).latency
+latency : (c : Else-bus_of-ne3) → c.in_ok-sheet.sheet.head.b ≡ (ring_of (sheet_in c.args.s.now)).latency
 unfolding ring_of
 latency c = ap (λ (r : Record). r.b) (took c).begins
 
 pub returns-then-bus_of-ne3 : goal.returns-then-bus_of-ne3
 returns-then-bus_of-ne3 c =
     let t =
-    taken c.args.s.now c.in-Accepted.head c.in-Accepted.streams c.in-Accepted.first
-    (sym c.read_ring.ensures.value ∙ c.in-Accepted.is) in
+    taken c.args.s.now c.in_ok-sheet.sheet.head c.in_ok-sheet.sheet.streams c.in_ok-sheet.sheet.first
+    (sym c.read_ring.ensures.value ∙ c.in_ok-sheet.was) in
     let S = sheet_in c.args.s.now in
     sym (ap plan_of t.reads ∙ plan_other_bus S (λ e. c.if-bus_of-ne3.true (c.bus_of.ensures ∙ (ap (λ (r : Record). bus_of r.kind) t.begins ∙ e))))
 
@@ -63,7 +64,7 @@ largest_target-requires c =
     let e = (goal.at.largest_target-requires c).Else-bus_of-ne3 in
     let R = ring_of (sheet_in c.args.s.now) in
     let run = c.read_ring.new.messages in
-    let h = c.in-Accepted in
+    let h = c.in_ok-sheet.sheet in
     record {
       ready = ready e;
       counts_value = c.read_ring.ensures.counts_after ∙ ready_counts c.args.s.now h.first h.streams (ready e) _;
@@ -71,12 +72,12 @@ largest_target-requires c =
           (latency e, c.together-longest.ensures ∙ (ap (upto (λ y. get_or run y 0)) (masters e) ∙ messages_sum R (within e) run (handed e)));
     }
 
-pub returns-in-Refused : goal.returns-in-Refused
+pub returns-in_err-sheet : goal.returns-in_err-sheet
 unfolding plan_of
-returns-in-Refused c =
-    let s = c.args.s.now in
-    let e = sym c.read_ring.ensures.value ∙ c.in-Refused.is in
-    sym (ap plan_of (not_taken s c.in-Refused.no c.in-Refused.place e))
+returns-in_err-sheet c =
+    let p = err_from_is_err_and c.from_residual.result c.from_residual.ensures.1 in
+    let r = c.in_err-sheet.field-0.0 in
+    rw (p.1, p.2) (sym (ap plan_of (not_taken c.args.s.now r.no r.place (sym c.read_ring.ensures.value ∙ c.in_err-sheet.was))))
 
-pub returns-else-bus_of-ne3 : goal.returns-else-bus_of-ne3
-returns-else-bus_of-ne3 c = c.largest_target.ensures ∙ ap plan_of (sym (took (goal.at.returns-else-bus_of-ne3 c).Else-bus_of-ne3).reads)
+pub returns : goal.returns
+returns c = c.largest_target.ensures ∙ ap plan_of (sym (took (goal.at.returns c).Else-bus_of-ne3).reads)

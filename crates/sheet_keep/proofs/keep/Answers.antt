@@ -49,6 +49,6 @@ returns-else-r-eq6 c =
     let e = ne_eqb c.args.r.kind 6 c.if-r-eq6.false in
     record {
       counts_after = rw e;
-      longests_after = rw (e, c.larger.ensures);
+      longests_after = rw (e, c.max.ensures);
       ids_after = rw e;
     }

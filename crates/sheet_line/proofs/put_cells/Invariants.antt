@@ -1,5 +1,5 @@
 -- `sheet_line::put_cells` stores the line of a record, number by number. The loop's invariant: behind the first number, j others are stored.
-use Prim.Native.Nat.{ℕ, ◌-◌, ◌≤◌}
+use Prim.Native.Nat.{ℕ}
 use mathlib.Core.List.{List}
 use Rattle.text.specs.Text.{word, item, counted, texts, Wrote}
 use Rattle.sheet_record.specs.declared.Record.{Record}
@@ -10,7 +10,4 @@ abbrev pub cell : Record → List ℕ → ℕ → List ℕ
 cell r unit j = counted (word ",") (item (others r) j) unit
 
 abbrev pub invariant-loop-j : goal.invariant-loop-j
-invariant-loop-j l = (l.j ≤ l.n) × Wrote l.initial.out l.initial.next (texts (cell l.r l.unit) l.j) l.out l.next
-
-abbrev pub decreases-loop-j : goal.decreases-loop-j
-decreases-loop-j l = l.n - l.j
+invariant-loop-j l = Wrote l.initial.out l.initial.next (texts (cell l.r l.unit) l.j) l.out l.next

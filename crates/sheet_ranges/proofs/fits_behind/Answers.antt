@@ -8,4 +8,4 @@ use Rattle.sheet_ranges.proofs.fits_behind.Goals as goal
 pub returns : goal.returns
 unfolding within
 returns c =
-    rw (c.less.ensures, c.less-2.ensures, le-leb 0 c.args.j (omega arith)) (simp (and_assoc))
+    rw (c.saturating_sub.ensures, c.saturating_sub-2.ensures, le-leb 0 c.args.j (omega arith)) (simp (and_assoc))

@@ -1,15 +1,17 @@
 -- `sheet_read::read_behind` meets its contract: the settings by `pass_settings`, and the streams by `read_streams`.
+use mathlib.Core.Path.{subst}
+use Rattle.std.proofs.lemmas.Result.{err_from_is_err_and}
+use Rattle.sheet_read.specs.Steps.{Settles}
 use Rattle.sheet_read.proofs.Behind.{refused_keeps}
 use Rattle.sheet_read.proofs.read_behind.Goals as goal
 
-pub returns-then-settings-ne0 : goal.returns-then-settings-ne0
-returns-then-settings-ne0 c =
+pub returns-in_err-settings : goal.returns-in_err-settings
+returns-in_err-settings c =
     let a = c.args in
-    let e = c.pass_settings-settings.ensures.refused c.if-settings-ne0.true in
-    let k = refused_keeps a.s.now _ _ _ a.counts.now a.longests.now a.handed.now e in
-    record { value = e; counts_after = k.0; longests_after = k.1.0; handed_after = k.1.1 }
+    let e = subst (Settles a.s.now a.head c.pass_settings.new.messages) c.in_err-settings.was c.pass_settings.ensures in
+    let k = refused_keeps a.s.now _ _ a.counts.now a.longests.now a.handed.now e in
+    let p = err_from_is_err_and c.from_residual.result c.from_residual.ensures.1 in
+    rw (p.1, p.2) (record { value = e; counts_after = k.0; longests_after = k.1.0; handed_after = k.1.1 })
 
 pub read_streams-requires : goal.read_streams-requires
-read_streams-requires c =
-    let o = c in
-    o.pass_settings-settings.ensures.opened o.if-settings-ne0.false
+read_streams-requires c = subst (Settles c.args.s.now c.args.head c.pass_settings.new.messages) c.in_ok-settings.was c.pass_settings.ensures

@@ -1,5 +1,6 @@
+use mathlib.Core.Path.{◌≡◌}
+use Prim.Native.Nat.{◌+◌, ◌-◌}
 use native.Mathlib.Omega.{arith}
-use Rattle.text.proofs.Writing.{length_wrote}
 use Rattle.sheet_rewrite.proofs.Filled.{ring_written, message_written, ring_size, fronted_none, ring_room, fronted_room, fronted_more, fronted_all}
 use Rattle.sheet_rewrite.proofs.put_ring.Goals as goal
 
@@ -18,10 +19,16 @@ put_one-at-requires-in-loop-master c =
 
 pub loop-master-preserved : goal.loop-master-preserved
 loop-master-preserved c =
-    fronted_more _ c.requires.kind_value c.loop-master.invariant (omega arith) c.put_one-at-in-loop-master.ensures
+    let l = c.loop-master in
+    let e : l.master + 1 - 1 ≡ l.master = omega arith in
+    rw e (fronted_more _ c.requires.kind_value l.invariant (omega arith) (omega arith) c.put_one-at-in-loop-master.ensures)
 
-pub shape_of-out : goal.shape_of-out
-shape_of-out c = omega (arith, length_wrote c.loop-master.invariant.wrote, length_wrote c.put_one-at.ensures)
-
+-- a ring without masters, or behind the last of them
 pub returns : goal.returns
 returns c = fronted_all _ c.requires.kind_value c.loop-master.invariant c.put_one-at.ensures (omega arith)
+
+pub returns-2 : goal.returns-2
+returns-2 c =
+    let l = c.loop-master in
+    let last = fronted_more _ c.requires.kind_value l.invariant (omega arith) (omega arith) c.put_one-at-in-loop-master.ensures in
+    fronted_all _ c.requires.kind_value last c.put_one-at.ensures (omega arith)

@@ -1,11 +1,6 @@
 -- `sheet_said::cell_at` meets its contract. The loop's invariant: with the digits so far as one number, what is left of the line gives the cell.
-use Prim.Native.Nat.{◌-◌}
-use lib.ListN.{length}
 use Rattle.sheet_said.proofs.Cells.{Within}
 use Rattle.sheet_said.proofs.cell_at.Given as goal
 
 abbrev pub invariant-loop-i : goal.invariant-loop-i
 invariant-loop-i l = Within l.line l.at l.number l.i
-
-abbrev pub decreases-loop-i : goal.decreases-loop-i
-decreases-loop-i l = length l.line - l.i

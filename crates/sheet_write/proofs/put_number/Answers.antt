@@ -1,7 +1,6 @@
 use Prim.Native.Nat.{◌-◌, ◌+◌}
 use mathlib.Core.Path.{◌≡◌, ◌∙◌, sym}
 use native.Mathlib.Omega.{arith}
-use borrow.Author.Rules.{rules}
 use Rattle.sheet_record.proofs.Numbers.{put_step, put_done, length_digits}
 use Rattle.sheet_write.proofs.put_number.Goals as goal
 
@@ -10,10 +9,10 @@ loop-j-preserved c =
     let l = c.loop-j in
     let a = c.args in
     let e : (l.j - 1) + 1 ≡ l.j = omega arith in
-    (search rules, search rules, rw e at (put_step l.buf a.at (l.j - 1) l.x (omega arith)) ∙ l.invariant.2)
+    rw e at (put_step l.buf a.at (l.j - 1) l.x (omega arith)) ∙ l.invariant
 
 pub returns : goal.returns
 returns c =
     let l = c.loop-j in
     let e : l.j ≡ 0 = omega arith in
-    rw length_digits (sym (put_done l.buf c.args.at l.x) ∙ (rw e at l.invariant.2))
+    rw length_digits (sym (put_done l.buf c.args.at l.x) ∙ (rw e at l.invariant))

@@ -2,8 +2,7 @@ use mathlib.Core.Path.{◌≡◌, sym, ap, ◌∙◌}
 use mathlib.Core.List.{List}
 use Prim.Native.Nat.{ℕ, ◌+◌, ◌-◌, ◌/◌}
 use native.Mathlib.Omega.{arith}
-use borrow.Author.Rules.{rules}
-use lib.ListN.{length, set, length-set}
+use lib.ListN.{set}
 use lib.Seq.{sets, set_out}
 use Rattle.text.specs.Text.{digit, places, behind}
 use Rattle.text.proofs.Numbers.{length_places, last_digit_first}
@@ -19,11 +18,9 @@ loop-j-preserved c =
     let l = c.loop-j in
     let at = c.args.at in
     let i = l.j - 1 in
-    let e : i + 1 ≡ l.j = omega arith in (
-      search rules,
-      ap (λ (x : List ℕ). sets x at (places i (l.rest / 10))) (stored (goal.at.loop-j-preserved c).Joined-j-count) ∙ (last_digit_first l.out at i l.rest ∙ (ap (λ (m : ℕ). sets l.out at (places m l.rest)) e ∙ l.invariant.1)),
-      ap length (stored (goal.at.loop-j-preserved c).Joined-j-count) ∙ (length-set l.out (at + i) (digit l.rest) ∙ l.invariant.2),
-    )
+    let e : i + 1 ≡ l.j = omega arith in
+    ap (λ (x : List ℕ). sets x at (places i (l.rest / 10))) (stored (goal.at.loop-j-preserved c).Joined-j-count)
+    ∙ (last_digit_first l.out at i l.rest ∙ (ap (λ (m : ℕ). sets l.out at (places m l.rest)) e ∙ l.invariant))
 
 pub returns : goal.returns
 unfolding behind places
@@ -32,6 +29,6 @@ returns c =
     let a = c.args in
     let z : l.j ≡ 0 = omega arith in
     record {
-      stored = ap (λ (m : ℕ). sets l.out a.at (places m l.rest)) (sym z) ∙ l.invariant.1;
+      stored = ap (λ (m : ℕ). sets l.out a.at (places m l.rest)) (sym z) ∙ l.invariant;
       ends = omega (arith, length_places a.k a.n);
     }

@@ -1,4 +1,4 @@
-use Prim.Native.Nat.{ℕ, ◌+◌, ◌-◌}
+use Prim.Native.Nat.{ℕ, ◌+◌}
 use mathlib.Core.Path.{sym, ap, ◌∙◌}
 use native.Mathlib.Omega.{arith}
 use borrow.Author.Rules.{rules}
@@ -10,33 +10,32 @@ use Rattle.text_entry.proofs.number.Goals as goal
 pub returns-then-word-eq0 : goal.returns-then-word-eq0
 returns-then-word-eq0 c = sym (entered_empty _ c.if-word-eq0.true)
 
-pub loop-i-init : goal.loop-i-init
-loop-i-init c = (search rules, search rules, entered_some _ c.if-word-eq0.false)
+pub loop-digit-init : goal.loop-digit-init
+loop-digit-init c = (search rules, entered_some _ c.if-word-eq0.false)
 
 pub returns-then-digit : goal.returns-then-digit
 returns-then-digit c =
-    let l = c.loop-i in
+    let l = c.loop-digit in
     let word = c.args.word.now in
-    sym (l.invariant.2 ∙ (ap (entered_behind l.n) (left_more word l.i (omega arith)) ∙ behind_other l.n (get_or word l.i 0) (drop (l.i + 1) word) c.if-digit.true))
+    sym (l.invariant.1 ∙ (ap (entered_behind l.n) (left_more word l.digit-index (omega arith)) ∙ behind_other l.n (get_or word l.digit-index 0) (drop (l.digit-index + 1) word) c.if-digit.true))
 
 pub with_digit-n-requires : goal.with_digit-n-requires
 with_digit-n-requires c = inside 48 _ 57 c.if-digit.false
 
-pub loop-i-preserved : goal.loop-i-preserved
-loop-i-preserved c =
-    let l = c.loop-i in
+pub loop-digit-preserved : goal.loop-digit-preserved
+loop-digit-preserved c =
+    let l = c.loop-digit in
     let word = c.args.word.now in
-    let rest = drop (l.i + 1) word in
-    let r = inside 48 (get_or word l.i 0) 57 c.if-digit.false in (
-      search rules,
+    let rest = drop (l.digit-index + 1) word in
+    let r = inside 48 (get_or word l.digit-index 0) 57 c.if-digit.false in (
       omega (arith, c.with_digit-n.ensures),
-      l.invariant.2
-          ∙ (ap (entered_behind l.n) (left_more word l.i (omega arith))
-          ∙ (behind_digit l.n (get_or word l.i 0) rest r.0 r.1 ∙ ap (λ (m : ℕ). entered_behind m rest) (sym c.with_digit-n.ensures))),
+      l.invariant.1
+          ∙ (ap (entered_behind l.n) (left_more word l.digit-index (omega arith))
+          ∙ (behind_digit l.n (get_or word l.digit-index 0) rest r.0 r.1 ∙ ap (λ (m : ℕ). entered_behind m rest) (sym c.with_digit-n.ensures))),
     )
 
 pub returns : goal.returns
 returns c =
-    let l = c.loop-i in
+    let l = c.loop-digit in
     let word = c.args.word.now in
-    sym (l.invariant.2 ∙ (ap (entered_behind l.n) (left_none word l.i (omega arith)) ∙ behind_none l.n l.invariant.1))
+    sym (l.invariant.1 ∙ (ap (entered_behind l.n) (left_none word l.digit-index (omega arith)) ∙ behind_none l.n l.invariant.0))

@@ -17,24 +17,24 @@ use Rattle.worldfip_figures.proofs.identifiers.Goals.{Else-bus_of-ne5}
 
 -- what the reader took
 took : (c : Else-bus_of-ne5)
-    → Taken c.args.s.now c.in-Accepted.head c.in-Accepted.streams c.in-Accepted.first
+    → Taken c.args.s.now c.in-Ok.sheet.head c.in-Ok.sheet.streams c.in-Ok.sheet.first
 took c =
-    taken c.args.s.now c.in-Accepted.head c.in-Accepted.streams c.in-Accepted.first
-    (sym c.read.ensures ∙ c.in-Accepted.is)
+    taken c.args.s.now c.in-Ok.sheet.head c.in-Ok.sheet.streams c.in-Ok.sheet.first
+    (sym c.read.ensures ∙ c.in-Ok.is)
 
 -- is a WorldFIP sheet
-ready : (c : Else-bus_of-ne5) → Ready c.args.s.now worldfip c.in-Accepted.first c.in-Accepted.streams
+ready : (c : Else-bus_of-ne5) → Ready c.args.s.now worldfip c.in-Ok.sheet.first c.in-Ok.sheet.streams
 ready c = taken_ready (took c) (sym c.bus_of.ensures ∙ c.if-bus_of-ne5.false)
 
 -- with its E
-exchange : (c : Else-bus_of-ne5) → c.in-Accepted.head.a ≡ (sheet_in c.args.s.now).head.a
+exchange : (c : Else-bus_of-ne5) → c.in-Ok.sheet.head.a ≡ (sheet_in c.args.s.now).head.a
 exchange c = ap (λ (r : Record). r.a) (took c).begins
 
 pub returns-then-bus_of-ne5 : goal.returns-then-bus_of-ne5
 returns-then-bus_of-ne5 c =
     let t =
-    taken c.args.s.now c.in-Accepted.head c.in-Accepted.streams c.in-Accepted.first
-    (sym c.read.ensures ∙ c.in-Accepted.is) in
+    taken c.args.s.now c.in-Ok.sheet.head c.in-Ok.sheet.streams c.in-Ok.sheet.first
+    (sym c.read.ensures ∙ c.in-Ok.is) in
     let S = sheet_in c.args.s.now in
     let other : (bus_in S ≡ worldfip → ⊥) = λ (e : bus_in S ≡ worldfip). c.if-bus_of-ne5.true (c.bus_of.ensures ∙ (ap (λ (r : Record). bus_of r.kind) t.begins ∙ e)) in
     zero_run (identifier_of (reading c.args.s.now)) (λ r. ap (λ (o : Outcome). identifier_of o r) t.reads ∙ other_name S other r)
@@ -53,15 +53,17 @@ names_by_rank-requires c =
     let p = sheeted (ready (goal.at.names_by_rank-requires c).Else-bus_of-ne5) (exchange (goal.at.names_by_rank-requires c).Else-bus_of-ne5) g in
     record { n_bound = (few p, omega (arith, few p, g.names_long)); within = places_within p c.by_rank-places.ensures }
 
-pub returns-in-Refused : goal.returns-in-Refused
+pub returns-in_default : goal.returns-in_default
 unfolding identifier_of
-returns-in-Refused c =
+returns-in_default c =
     let s = c.args.s.now in
-    let e = not_taken s _ _ (sym c.read.ensures ∙ c.in-Refused.is) in
-    zero_run (identifier_of (reading s)) (λ r. ap (λ (o : Outcome). identifier_of o r) e)
+    let r = c.in_default.field-0 in
+    let e = not_taken s r.no r.place (sym c.read.ensures ∙ c.in_default.is) in
+    zero_run (identifier_of (reading s)) (λ k. ap (λ (o : Outcome). identifier_of o k) e)
 
-pub returns-else-bus_of-ne5 : goal.returns-else-bus_of-ne5
-returns-else-bus_of-ne5 c =
+pub returns : goal.returns
+returns c =
     let q = c.names_by_rank.ensures in
-    let is = name_is (ready (goal.at.returns-else-bus_of-ne5 c).Else-bus_of-ne5) (exchange (goal.at.returns-else-bus_of-ne5 c).Else-bus_of-ne5) c.gather-v.ensures c.by_rank-places.ensures q.1 in
+    let at = (goal.at.returns c).Else-bus_of-ne5 in
+    let is = name_is (ready at) (exchange at) c.gather-v.ensures c.by_rank-places.ensures q.1 in
     tab_places (identifier_of (reading c.args.s.now)) c.names_by_rank.result 64 q.0 (λ r l. is r)

@@ -26,7 +26,7 @@ counted c = c.rows_of-rows.ensures ∙ ap (min 4097) (rows_are c.requires (c.mic
 pub returns-then-c-e : goal.returns-then-c-e
 returns-then-c-e c =
     let at = goal.at.returns-then-c-e c in
-    c.stop.ensures ∙ stops_10 (traffic at.Start) (none_fits c.requires (micro at.After-microcycle-c) c.if-c-e.true)
+    stops_10 (traffic at.Start) (none_fits c.requires (micro at.After-microcycle-c) c.if-c-e.true)
 
 pub rows_of-rows-requires : goal.rows_of-rows-requires
 rows_of-rows-requires c = whole c.requires (micro (goal.at.rows_of-rows-requires c).After-microcycle-c)
@@ -34,8 +34,7 @@ rows_of-rows-requires c = whole c.requires (micro (goal.at.rows_of-rows-requires
 pub returns-then-rows-gt4096 : goal.returns-then-rows-gt4096
 returns-then-rows-gt4096 c =
     let at = goal.at.returns-then-rows-gt4096 c in
-    c.stop-then-rows-gt4096.ensures
-    ∙ stops_11 (traffic at.Start) (some at.After-rows_of-rows) (omega (arith, counted at.After-rows_of-rows, c.if-rows-gt4096.true))
+    stops_11 (traffic at.Start) (some at.After-rows_of-rows) (omega (arith, counted at.After-rows_of-rows, c.if-rows-gt4096.true))
 
 pub by_rank-places-requires : goal.by_rank-places-requires
 by_rank-places-requires c = (c.requires.there, few c.requires)

@@ -1,12 +1,12 @@
 -- `worldfip_plan::plan` meets its contract: a sheet without figures stays refused, and else 13, 12 or the rows.
-use mathlib.Core.Path.{refl, ap}
+use mathlib.Core.Path.{refl, sym, ap, ◌∙◌}
 use mathlib.Core.List.{List}
 use Prim.Native.Nat.{ℕ}
 use native.Mathlib.Omega.{arith}
+use Rattle.std.proofs.lemmas.Result.{err_from_is_err_and}
 use Rattle.sheet_rules.specs.Whole.{reading}
 use Rattle.sheet_rules.proofs.Known.{reading_read}
 use Rattle.worldfip_rules.specs.Traffic.{Declared}
-use Rattle.units.specs.declared.Micros.{Micros}
 use Rattle.worldfip_figures.specs.declared.Figures.{Figures}
 use Rattle.worldfip_figures.specs.Declares.{traffic_of}
 use Rattle.worldfip_figures.proofs.Measured.{Measured, told_table, told_refusal}
@@ -18,14 +18,13 @@ use Rattle.std.specs.declared.result.Result.TheVariants.{Ok, Err}
 use Rattle.common.specs.Checks.{refusal}
 
 -- what the figures tell of the sheet is declared within the ranges
-declares : (s : List ℕ) {f : Figures} {n k m : ℕ} {c : Micros} (M : Measured (reading s) f n c k m) → Declared (traffic_of M.sheet)
+declares : (s : List ℕ) {f : Figures} (M : Measured (reading s) f) → Declared (traffic_of M.sheet)
 declares s M = declared s M.sheet (reading_read s M.sheet M.reads) M.bus
 
 pub returns-then-rows-need : goal.returns-then-rows-need
 returns-then-rows-need c =
     let s = c.args.s.now in
-    let t = c.in-Table in
-    let M = told_table (reading s) c.figures_of-figures.result t.variables t.microcycle t.slots t.counted c.figures_of-figures.ensures t.is in
+    let M = told_table (reading s) c.in_ok-figures.figures (sym c.in_ok-figures.was ∙ c.figures_of.ensures) in
     let old = c.args.rows.now in
     let told = tells_same M.sheet old M.reads (ap (λ k. Err (refusal 13 k)) M.rows_are) refl
     (tells M.sheet old (gives_13 M.sheet _ M.bus M.some M.few (omega (arith, M.rows_are, c.if-rows-need.true)))) in
@@ -34,8 +33,7 @@ returns-then-rows-need c =
 pub table-late-requires : goal.table-late-requires
 table-late-requires c =
     let s = c.args.s.now in
-    let t = c.in-Table in
-    let M = told_table (reading s) c.figures_of-figures.result t.variables t.microcycle t.slots t.counted c.figures_of-figures.ensures t.is in
+    let M = told_table (reading s) c.in_ok-figures.figures (sym c.in_ok-figures.was ∙ c.figures_of.ensures) in
     let D = declares s M in
     record {
       usable = (usable D M.periods _ M.number, within D M.places _ M.number);
@@ -45,8 +43,7 @@ table-late-requires c =
 pub returns-then-late-ne0 : goal.returns-then-late-ne0
 returns-then-late-ne0 c =
     let s = c.args.s.now in
-    let t = c.in-Table in
-    let M = told_table (reading s) c.figures_of-figures.result t.variables t.microcycle t.slots t.counted c.figures_of-figures.ensures t.is in
+    let M = told_table (reading s) c.in_ok-figures.figures (sym c.in_ok-figures.was ∙ c.figures_of.ensures) in
     let D = declares s M in
     let old = c.args.rows.now in
     let e = c.table-late.ensures in
@@ -56,18 +53,18 @@ returns-then-late-ne0 c =
     (gives_12 M.sheet _ M.bus M.some M.few (omega (arith, M.rows_are, c.if-rows-need.false)) l.misses_then)) in
     record { value = told.0; rows_after = told.1 }
 
-pub returns-in-Refused : goal.returns-in-Refused
-returns-in-Refused c =
+pub returns-in_err-figures : goal.returns-in_err-figures
+returns-in_err-figures c =
     let s = c.args.s.now in
-    let r = c.in-Refused in
-    let told = tells_stop (reading s) c.args.rows.now r.no r.place (told_refusal (reading s) c.figures_of-figures.result r.no r.place c.figures_of-figures.ensures r.is) in
-    record { value = told.0; rows_after = told.1 }
+    let p = err_from_is_err_and c.from_residual.result c.from_residual.ensures.1 in
+    let r = c.in_err-figures.field-0.0 in
+    let told = tells_stop (reading s) c.args.rows.now r.no r.place (told_refusal (reading s) r.no r.place (sym c.in_err-figures.was ∙ c.figures_of.ensures)) in
+    record { value = rw (p.1, p.2) told.0; rows_after = told.1 }
 
-pub returns-else-late-ne0 : goal.returns-else-late-ne0
-returns-else-late-ne0 c =
+pub returns : goal.returns
+returns c =
     let s = c.args.s.now in
-    let t = c.in-Table in
-    let M = told_table (reading s) c.figures_of-figures.result t.variables t.microcycle t.slots t.counted c.figures_of-figures.ensures t.is in
+    let M = told_table (reading s) c.in_ok-figures.figures (sym c.in_ok-figures.was ∙ c.figures_of.ensures) in
     let D = declares s M in
     let old = c.args.rows.now in
     let e = c.table-late.ensures in

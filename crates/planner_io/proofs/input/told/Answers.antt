@@ -7,4 +7,4 @@ pub returns-in-Bad-clause-by_index : goal.returns-in-Bad-clause-by_index
 returns-in-Bad-clause-by_index c = λ first k. took_bad k _ (sym c.end.ensures ∙ c.in-Bad.is)
 
 pub returns-in-Sheet-clause-by_index : goal.returns-in-Sheet-clause-by_index
-returns-in-Sheet-clause-by_index c = λ first k. took_sheet k _ _ (sym c.end.ensures ∙ c.in-Sheet.is) refl c.end_of-length.ensures
+returns-in-Sheet-clause-by_index c = λ first k. took_sheet k _ _ (sym c.end.ensures ∙ c.in-Sheet.is) refl c.min-length.ensures
