@@ -2,7 +2,7 @@
 // it piece by piece.
 #![tactic(auto)]
 
-ghost use Rattle.std.specs.Prelude.{◌≡◌, ◌+◌, ◌≤◌, min, length, get_or};
+ghost use Rattle.std.specs.Prelude.{◌≡◌, ◌+◌, ◌≤◌, length, get_or};
 ghost use Rattle.common.specs.Runs.{filled};
 ghost use Rattle.pnet_plan.specs.Planned.{plan_of};
 ghost use Rattle.capture_log.specs.Log;
@@ -16,12 +16,6 @@ ghost use Rattle.capture_compare.specs.Steps.{plan_by, run_by};
 use common::Refusal;
 use pnet_plan::Plan;
 use sheet_read::MOST;
-
-fn shorter(a: usize, b: usize) -> usize
-    ensures { result ≡ min a b }
-{
-    if a < b { a } else { b }
-}
 
 // Hands the figures of the first n streams over.
 fn hand_over(
@@ -41,14 +35,10 @@ fn hand_over(
     ensures exceeding_after { exceeding.new ≡ filled (λ i. get_or above.now i 0) n exceeding.old }
     ensures waiting_after { waiting.new ≡ filled (λ i. get_or left.now i 0) n waiting.old }
 {
-    let mut i: usize = 0;
-    while i < n {
-        answered[i] = answers[i];
-        longest[i] = largest[i];
-        exceeding[i] = above[i];
-        waiting[i] = left[i];
-        i += 1;
-    }
+    answered[..n].copy_from_slice(&answers[..n]);
+    longest[..n].copy_from_slice(&largest[..n]);
+    exceeding[..n].copy_from_slice(&above[..n]);
+    waiting[..n].copy_from_slice(&left[..n]);
 }
 
 // The same for a sheet that is accepted, with its bounds.
@@ -117,10 +107,11 @@ pub fn compare(
         × (above.new ≡ stream_run outcome (above_of c.now) above.old)
         × (left.new ≡ stream_run outcome (left_of c.now) left.old) }
 {
-    let room = shorter(
-        answers.len(),
-        shorter(largest.len(), shorter(above.len(), left.len())),
-    );
+    let room = answers
+        .len()
+        .min(largest.len())
+        .min(above.len())
+        .min(left.len());
     let mut masters = [0u8; MOST];
     let mut bound = [0u32; MOST];
     let mut spacing = [0u32; MOST];

@@ -1,6 +1,6 @@
 -- The number of a record's refusal, case by case. Assumes nothing.
-use Rattle.std.proofs.Common.{◌≡◌, ℕ, ◌+◌, ◌*◌, ◌<◌, ◌≤◌, min, Bool, true, false, cond, not, ◌&&◌, eqb, ltb, leb, List, [], ◌∷◌, length, get_or, sym, refl, ap, ◌∙◌, subst, arith, ltb-false, le-ltb, lt-ltb, le-leb, leb-false, leb-true}
-use borrow.Author.Tests.{lt-leb, not-false}
+use Rattle.std.proofs.Common.{◌≡◌, ℕ, ◌+◌, ◌*◌, ◌<◌, ◌≤◌, Bool, true, false, cond, not, ◌&&◌, eqb, ltb, List, [], ◌∷◌, length, get_or, refl, ap, ◌∙◌, subst, arith, ltb-false, le-ltb, lt-ltb}
+use borrow.Author.Tests.{not-false}
 use Rattle.common.specs.Checks.{check, verdict}
 use Rattle.common.specs.Checks.Verdict.{Passed, Refused}
 use Rattle.common.proofs.Checks.{Clear, passed_then}
@@ -48,19 +48,6 @@ module _ (c : List ℕ) (at n w : ℕ) where
           split true y = refl
           split false true = refl
           split false false = refl
-
--- the stream is one of the sheet's, as the code asks it
-pub within_min : (i n top : ℕ) → (leb 1 i && (leb i top && leb i n)) ≡ within 1 i (min n top)
-unfolding within
-within_min i n top = ap (λ (b : Bool). leb 1 i && b) (split (leb i top) (leb i n) refl refl)
-  where
-    split : (x y : Bool) → leb i top ≡ x → leb i n ≡ y → (leb i top && leb i n) ≡ leb i (min n top)
-    split true true p q =
-        let a = leb-true i top p in
-        let b = leb-true i n q in
-        rw (p, q) (sym (le-leb i (min n top) (omega arith)))
-    split true false p q = let b = leb-false i n q in rw (p, q) (sym (lt-leb i (min n top) (omega arith)))
-    split false y p q = let a = leb-false i top p in rw p (sym (lt-leb i (min n top) (omega arith)))
 
 -- ---- A verdict by its number
 

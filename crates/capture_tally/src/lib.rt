@@ -2,7 +2,7 @@
 // stream of five runs.
 #![tactic(auto)]
 
-ghost use Rattle.std.specs.Prelude.{◌≡◌, ℕ, ◌<◌, ◌≤◌, min, max, length, nat_lt, slice_index};
+ghost use Rattle.std.specs.Prelude.{◌≡◌, ℕ, ◌<◌, ◌≤◌, min, length, nat_lt, slice_index};
 ghost use Rattle.common.specs.Checks.{verdict};
 ghost use Rattle.common.specs.Sums.{when};
 ghost use Rattle.sheet_record.specs.Kinds.{within};
@@ -13,12 +13,6 @@ ghost use Rattle.capture_tally.specs.Steps.{Long, no_of, open_no, spot, left_wit
 use capture_log::Event;
 use common::Refusal;
 use sheet_read::MOST;
-
-fn larger(a: u32, b: u32) -> u32
-    ensures { result ≡ max a b }
-{
-    if a < b { b } else { a }
-}
 
 // 1 for a response above the bound, else 0.
 fn exceeds(bound: u32, shown: u32) -> u64
@@ -32,7 +26,7 @@ fn on_sheet(stream: u32, streams: usize) -> bool
     ensures { result ≡ within 1 stream (min streams most) }
 {
     let i = stream as usize;
-    (1 <= i) & ((i <= MOST) & (i <= streams))
+    (1 <= i) & (i <= streams.min(MOST))
 }
 
 // An answer with no request open, a request while one is open, or neither.
@@ -93,9 +87,9 @@ fn keep(
     }
     let shown = capture_log::response(e.stamp, since[k]).0;
     left[k] = 0;
-    answers[k] = std::num::wrapping_add_u64(answers[k], 1);
-    largest[k] = larger(largest[k], shown);
-    above[k] = std::num::wrapping_add_u64(above[k], exceeds(bound[k], shown));
+    answers[k] = answers[k].wrapping_add(1);
+    largest[k] = largest[k].max(shown);
+    above[k] = above[k].wrapping_add(exceeds(bound[k], shown));
 }
 
 // The records of a piece, one after the other, up to the first that is refused.
@@ -119,15 +113,13 @@ fn take_each(
         × (result ≡ Ok tt → largest.new ≡ largest_after p b largest.old)
         × (result ≡ Ok tt → above.new ≡ above_after p b bound.now above.old) }
 {
-    let mut at: usize = 0;
-    while at < piece.len() {
+    for at in (0..piece.len()).step_by(capture_log::SIZE) {
         let no = refusal(piece, at, streams, left);
         if no != 0 {
             return Err(Refusal { no, place: at });
         }
         let e = capture_log::event_at(piece, at);
         keep(e, bound, left, since, answers, largest, above);
-        at += capture_log::SIZE;
     }
     Ok(())
 }

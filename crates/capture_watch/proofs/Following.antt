@@ -1,8 +1,10 @@
 -- What follows of one record, and of the records of a piece up to a place, as the code goes over them. Assumes nothing.
-use Prim.Native.Nat.{ℕ, suc, ◌+◌, ◌*◌, ◌/◌, ◌≤◌, ◌<◌}
+use Prim.Native.Nat.{ℕ, ◌+◌, ◌*◌}
 use mathlib.Core.Path.{◌≡◌, refl, ap, ◌∙◌}
 use mathlib.Core.Bool.{Bool, true, false, cond}
 use mathlib.Core.List.{List}
+use native.Mathlib.Nat.{mul_comm}
+use native.Mathlib.Numerals.{add-one}
 use native.Mathlib.Omega.{arith}
 use lib.Dec.{ltb, eqb}
 use lib.ListN.{length, get_or, set, length-set}
@@ -61,30 +63,24 @@ module _ (T J : List ℕ) (s : Seen) (e : Event) where
   unfolding seen_with
   lead_long = same_places s.lead (spot e) _
 
--- behind place `at` of the piece p: s is what all records before it leave of s₀
-pub record Following (T J p : List ℕ) (s₀ s : Seen) (at : ℕ) : Type 0 where
-  pub j : ℕ
-  pub place : at ≡ size * j
-  pub inside : at ≤ length p
-  pub is : s ≡ followed T J s₀ (met_in p j)
+-- behind n records of the piece p: s is what they leave of s₀
+pub record Following (T J p : List ℕ) (s₀ s : Seen) (n : ℕ) : Type 0 where
+  pub is : s ≡ followed T J s₀ (met_in p n)
   pub long : length s.asked ≡ most
   pub leads : length s.lead ≡ most
 
 pub following_none : (T J p : List ℕ) (s : Seen) → length s.asked ≡ most → length s.lead ≡ most → Following T J p s s 0
 unfolding followed met_in
-following_none T J p s h l = record { j = 0; place = refl; inside = omega arith; is = refl; long = h; leads = l }
+following_none T J p s h l = record { is = refl; long = h; leads = l }
 
-module _ {T J p : List ℕ} {s₀ s : Seen} {at : ℕ} (f : Following T J p s₀ s at) where
+module _ {T J p : List ℕ} {s₀ s : Seen} {n : ℕ} (f : Following T J p s₀ s n) where
   -- one record more, as the code reads it
-  pub following_more : (e : Event) (w : Watch) (asked lead : List ℕ) → at + size ≤ length p → e ≡ met_at p at
+  pub following_more : (e : Event) (w : Watch) (asked lead : List ℕ) → e ≡ met_at p (n * size)
       → w ≡ (seen_with T J s e).watch → asked ≡ (seen_with T J s e).asked → lead ≡ (seen_with T J s e).lead
-      → Following T J p s₀ (seen w asked lead) (at + size)
+      → Following T J p s₀ (seen w asked lead) (n + 1)
   unfolding followed met_in
-  following_more e w asked lead h r a b d = record {
-    j = suc f.j;
-    place = omega (arith, f.place);
-    inside = h;
-    is = all w asked lead a b d ∙ (ap (λ (x : Seen). seen_with T J x e) f.is ∙ ap (seen_with T J (followed T J s₀ (met_in p f.j))) (r ∙ ap (met_at p) f.place));
+  following_more e w asked lead r a b d = record {
+    is = rw add-one (all w asked lead a b d ∙ (ap (λ (x : Seen). seen_with T J x e) f.is ∙ ap (seen_with T J (followed T J s₀ (met_in p n))) (r ∙ ap (met_at p) (mul_comm n size))));
     long = ap length b ∙ (asked_long T J s e ∙ f.long);
     leads = ap length d ∙ (lead_long T J s e ∙ f.leads);
   }
@@ -93,11 +89,9 @@ module _ {T J p : List ℕ} {s₀ s : Seen} {at : ℕ} (f : Following T J p s₀
           → seen w asked lead ≡ seen_with T J s e
       all w asked lead a b d = rw (a, b, d) refl
 
-  -- no whole record is left
-  pub following_all : length p < at + size → s ≡ followed T J s₀ (met_in p (length p / size))
-  following_all h =
-      let all : f.j ≡ length p / size = omega (arith, f.place, f.inside) in
-      f.is ∙ ap (λ (n : ℕ). followed T J s₀ (met_in p n)) all
+  -- all of them
+  pub following_all : (m : ℕ) → n ≡ m → s ≡ followed T J s₀ (met_in p m)
+  following_all m e = f.is ∙ ap (λ (k : ℕ). followed T J s₀ (met_in p k)) e
 
 -- ---- At the end
 

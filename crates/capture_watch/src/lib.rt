@@ -60,11 +60,9 @@ fn follow_each(
     ensures lead_after { lead.new ≡ (followed spacing.now jitter.now (seen kept asked.old lead.old) (met_in piece.now (length piece.now / size))).lead }
 {
     let mut w = kept;
-    let mut at: usize = 0;
-    while capture_log::SIZE <= piece.len() - at {
-        let e = capture_log::event_at(piece, at);
+    for n in 0..piece.len() / capture_log::SIZE {
+        let e = capture_log::event_at(piece, n * capture_log::SIZE);
         w = follow_one(w, e, spacing, jitter, asked, lead);
-        at += capture_log::SIZE;
     }
     w
 }
@@ -91,10 +89,8 @@ fn overdue_each(clock: u64, bound: &[u32], left: &[u8], asked: &[u64], late: &mu
     requires { (length bound.now ≡ most) × ((length left.now ≡ most) × ((length asked.now ≡ most) × (length late.old ≡ most))) }
     ensures { late.new ≡ overdue_run clock bound.now left.now asked.now }
 {
-    let mut i: usize = 0;
-    while i < MOST {
+    for i in 0..MOST {
         late[i] = open_too_long(clock, bound[i], left[i], asked[i]);
-        i += 1;
     }
 }
 

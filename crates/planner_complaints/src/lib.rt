@@ -9,8 +9,8 @@ pub mod slips;
 
 ghost use Rattle.std.specs.Prelude.{◌<◌};
 
-use planner_output::{complain, end_of};
-use scan::{find, one_more};
+use planner_output::complain;
+use scan::find;
 use text::put_word;
 
 // Four bytes show one, and a word has 4,096 at most.
@@ -38,15 +38,11 @@ fn put_shown(out: &mut [u8], at: usize, byte: u8, greatest: u8) -> usize {
 // The bytes of a text from a place on to an end, as far as there are, strange ones by their numbers.
 pub fn show(rt: &HostRuntime, text: &[u8], from: usize, n: usize, greatest: u8) {
     let mut out = [0u8; SHOWN];
-    let end = end_of(text.len(), n);
-    let mut at: usize = 0;
-    let mut i = from;
-    while i < end {
-        at = put_shown(&mut out, at, text[i], greatest);
-        i += 1;
+    let mut at = 0;
+    for byte in text.iter().take(n).skip(from) {
+        at = put_shown(&mut out, at, *byte, greatest);
     }
-    let shown = end_of(SHOWN, at);
-    complain(rt, &out[..shown]);
+    complain(rt, &out[..at.min(SHOWN)]);
 }
 
 // Begins a line that says something of an input; `-` is standard input.
@@ -62,13 +58,16 @@ pub fn blame(rt: &HostRuntime, name: &[u8]) {
 
 // ---- Lists of words, a line for each number from 1 on
 
+// The place behind the end of the line that a place is in, or behind the list.
+fn behind_line(list: &[u8], at: usize) -> usize {
+    find(list, at, b'\n').saturating_add(1)
+}
+
 // Where line k of a list begins.
 pub(crate) fn start_of(list: &[u8], k: usize) -> usize {
-    let mut at: usize = 0;
-    let mut i: usize = 1;
-    while i < k {
-        at = one_more(find(list, at, b'\n'));
-        i += 1;
+    let mut at = 0;
+    for _ in 1..k {
+        at = behind_line(list, at);
     }
     at
 }
@@ -76,7 +75,7 @@ pub(crate) fn start_of(list: &[u8], k: usize) -> usize {
 // Line k of a list, with its end.
 pub(crate) fn say(rt: &HostRuntime, list: &[u8], k: usize) {
     let start = start_of(list, k);
-    let end = end_of(list.len(), one_more(find(list, start, b'\n')));
+    let end = behind_line(list, start).min(list.len());
     if start < end {
         complain(rt, &list[start..end]);
     }

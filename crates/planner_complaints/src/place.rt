@@ -1,5 +1,5 @@
 // Where a line stops being the line of a record, and what is wanted there.
-use crate::scan::{behind_digits, byte_at, find, first_difference, is_digit, one_more};
+use crate::scan::{behind_digits, byte_at, find, first_difference, is_digit};
 use sheet_line::{LINE, put_line};
 use sheet_record::{Record, is_pnet_stream};
 use sheet_said::guess;
@@ -37,9 +37,9 @@ pub(crate) fn cell_at(line: &[u8], at: usize) -> Cell {
 
 // In a line that is a record's own and still not of the form, the first cell with a number too big: of P-NET streams the second, if not the first.
 pub(crate) fn big_cell(line: &[u8], taken: Record) -> usize {
-    let first = one_more(find(line, 0, b','));
+    let first = find(line, 0, b',').saturating_add(1);
     if is_pnet_stream(taken.kind) & (taken.a <= 255) {
-        return one_more(find(line, first, b','));
+        return find(line, first, b',').saturating_add(1);
     }
     first
 }
@@ -56,7 +56,7 @@ pub(crate) fn behind_number(kind: u8, cell: usize) -> u8 {
 
 // A zero stands in front of another digit.
 pub(crate) fn is_zero_led(line: &[u8], start: usize) -> bool {
-    (byte_at(line, start) == b'0') & is_digit(byte_at(line, one_more(start)))
+    (byte_at(line, start) == b'0') & is_digit(byte_at(line, start.saturating_add(1)))
 }
 
 // Where the number of a cell is not the one that all its digits say: none stand in front, or a zero does, or they are too many, or something stands

@@ -3,16 +3,9 @@ ghost use Rattle.std.specs.Prelude.{◌≤◌, length};
 
 use sheet_record::known;
 
-pub(crate) fn one_more(n: usize) -> usize {
-    if n < 18_446_744_073_709_551_615 {
-        return n + 1;
-    }
-    n
-}
-
 // The byte at a place, 0 where there is none.
 pub(crate) fn byte_at(line: &[u8], at: usize) -> u8 {
-    if at < line.len() { line[at] } else { 0 }
+    line.get(at).copied().unwrap_or(0)
 }
 
 pub(crate) fn is_digit(byte: u8) -> bool {
@@ -37,40 +30,28 @@ pub(crate) fn is_sheet(line: &[u8]) -> bool {
 pub(crate) fn find(line: &[u8], from: usize, byte: u8) -> usize
     ensures { from ≤ result }
 {
-    let mut i = from;
-    while i < line.len() {
-        if line[i] == byte {
-            return i;
-        }
-        i += 1;
+    match line.iter().skip(from).position(|b| *b == byte) {
+        Some(n) => from + n,
+        None => from.max(line.len()),
     }
-    i
 }
 
 // The first place from one on where no comma stands.
 pub(crate) fn behind_commas(line: &[u8], from: usize) -> usize {
-    let mut i = from;
-    while i < line.len() {
-        if line[i] != b',' {
-            return i;
-        }
-        i += 1;
+    match line.iter().skip(from).position(|b| *b != b',') {
+        Some(n) => from + n,
+        None => from.max(line.len()),
     }
-    i
 }
 
 // The first place from one on where no digit stands.
 pub(crate) fn behind_digits(line: &[u8], from: usize) -> usize
     ensures { from ≤ result }
 {
-    let mut i = from;
-    while i < line.len() {
-        if !is_digit(line[i]) {
-            return i;
-        }
-        i += 1;
+    match line.iter().skip(from).position(|b| !is_digit(*b)) {
+        Some(n) => from + n,
+        None => from.max(line.len()),
     }
-    i
 }
 
 // There is nothing from a place on but commas.
@@ -81,15 +62,6 @@ pub(crate) fn is_padding(line: &[u8], from: usize) -> bool {
 
 // The first place where two lines differ, or the end of the one that the other goes on behind.
 pub(crate) fn first_difference(a: &[u8], b: &[u8]) -> usize {
-    let mut i: usize = 0;
-    while i < a.len() {
-        if b.len() <= i {
-            return i;
-        }
-        if a[i] != b[i] {
-            return i;
-        }
-        i += 1;
-    }
-    i
+    let shorter = a.len().min(b.len());
+    a.iter().zip(b).position(|(x, y)| x != y).unwrap_or(shorter)
 }

@@ -2,11 +2,10 @@
 // and the likeliest slip. It goes to standard error beside the report, which it does not change.
 use crate::advice::{advice_on_slip, advice_on_word, advise};
 use crate::place::{cell_at, greatest, slip_in};
-use crate::scan::{byte_at, find, is_blank, is_digit, is_sheet, one_more};
+use crate::scan::{byte_at, find, is_blank, is_digit, is_sheet};
 use crate::{blame, say, show};
-use planner_output::{complain, complain_number, end_of};
+use planner_output::{complain, complain_number};
 use sheet_line::LINE;
-use sheet_read::Reading;
 use sheet_record::record_at;
 use sheet_said::{begins, kind_in};
 
@@ -60,7 +59,7 @@ fn show_place(rt: &HostRuntime, name: &[u8], number: usize, line: &[u8], at: usi
     complain(rt, b"line ");
     complain_number(rt, number as u64);
     complain(rt, b", column ");
-    complain_number(rt, one_more(at) as u64);
+    complain_number(rt, at.saturating_add(1) as u64);
     if line.len() <= at {
         complain(rt, b" is the end of the text");
         return;
@@ -77,8 +76,8 @@ fn show_place(rt: &HostRuntime, name: &[u8], number: usize, line: &[u8], at: usi
 const FEW: usize = 24;
 
 fn show_cell(rt: &HostRuntime, line: &[u8], at: usize) {
-    let comma = find(line, one_more(at), b',');
-    let end = end_of(comma, find(line, at, b'\n'));
+    let comma = find(line, at.saturating_add(1), b',');
+    let end = comma.min(find(line, at, b'\n'));
     if at < end {
         if end - at > FEW {
             show(rt, line, at, at + FEW, 126);
@@ -191,7 +190,7 @@ fn line_of_byte(s: &[u8], place: usize) -> usize {
             return line;
         }
         at = next;
-        line = one_more(line);
+        line = line.saturating_add(1);
     }
     line
 }
@@ -214,13 +213,8 @@ fn tell_byte(rt: &HostRuntime, name: &[u8], s: &[u8], place: usize) {
 
 // Says of the sheet that a text stands for, if its reading is refused, which line that is.
 pub fn of_sheet(rt: &HostRuntime, name: &[u8], s: &[u8]) {
-    match sheet_read::read(s) {
-        Reading::Refused { no: _, place } => tell_byte(rt, name, s, place),
-        Reading::Accepted {
-            head: _,
-            streams: _,
-            first: _,
-        } => {}
+    if let Err(refusal) = sheet_read::read(s) {
+        tell_byte(rt, name, s, refusal.place);
     }
 }
 
@@ -232,14 +226,7 @@ fn is_shown(byte: u8) -> bool {
 }
 
 fn all_shown(line: &[u8]) -> bool {
-    let mut i: usize = 0;
-    while i < line.len() {
-        if !is_shown(line[i]) {
-            return false;
-        }
-        i += 1;
-    }
-    true
+    line.iter().all(|byte| is_shown(*byte))
 }
 
 // It begins as a word, a cell or a saved text does.
@@ -265,7 +252,6 @@ pub fn of_bytes(rt: &HostRuntime, name: &[u8], s: &[u8]) {
     if is_sheet(s) {
         return;
     }
-    let front = end_of(LINE, one_more(find(s, 0, b'\n')));
-    let end = end_of(s.len(), front);
-    tell_first(rt, name, &s[..end]);
+    let front = find(s, 0, b'\n').saturating_add(1).min(LINE);
+    tell_first(rt, name, &s[..front.min(s.len())]);
 }

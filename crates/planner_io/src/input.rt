@@ -5,8 +5,8 @@ ghost use Rattle.planner_io.specs.Made.{Took, Made, GivenAs};
 
 use crate::words::fail;
 use planner_complaints::slips;
-use planner_output::{complain, end_of};
-use sheet_pieces::{Ended, Taken};
+use planner_output::complain;
+use sheet_pieces::Taken;
 use std::fs::File;
 use std::io::{ErrorKind, Read};
 use std::rt::Stdin;
@@ -133,21 +133,21 @@ fn told(rt: &HostRuntime, name: &[u8], taken: Taken, front: &[u8], sheet: &[u8])
     ensures by_index { (first : List ℕ) → Took first (record { taken = taken; front = front.now; sheet = sheet.now }) → Made first sheet.now result }
 {
     match sheet_pieces::end(taken) {
-        Ended::Bad(line) => {
-            let held = end_of(front.len(), taken.held);
-            slips::of_line(rt, name, line, &front[..held]);
-            Given {
-                length: 0,
-                line,
-                failed: false,
-            }
-        }
-        Ended::Sheet(kept) => {
-            let length = end_of(sheet.len(), kept);
+        Ok(kept) => {
+            let length = kept.min(sheet.len());
             slips::of_sheet(rt, name, &sheet[..length]);
             Given {
                 length,
                 line: 0,
+                failed: false,
+            }
+        }
+        Err(refusal) => {
+            let held = taken.held.min(front.len());
+            slips::of_line(rt, name, refusal.place, &front[..held]);
+            Given {
+                length: 0,
+                line: refusal.place,
                 failed: false,
             }
         }
@@ -168,8 +168,7 @@ fn read_on(
     ensures by_index { (first : List ℕ) → Took first (record { taken = begun; front = front.old; sheet = sheet.old }) → Made first sheet.new result }
 {
     let mut taken = begun;
-    let mut left = PIECES;
-    while left > 0 {
+    for _ in 0..PIECES {
         if taken.bad {
             return told(rt, name, taken, front, sheet);
         }
@@ -183,7 +182,6 @@ fn read_on(
         if end < piece.len() {
             return told(rt, name, taken, front, sheet);
         }
-        left -= 1;
     }
     complain(rt, b"planner: the text is too long to be counted\n");
     failed()

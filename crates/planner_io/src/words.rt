@@ -138,26 +138,16 @@ fn next_line(list: &[u8], from: usize) -> usize
     requires { from < length list.now }
     ensures { (from < result) × (result ≤ length list.now) }
 {
-    let mut i = from;
-    while i < list.len() {
-        if list[i] == b'\n' {
-            return i + 1;
-        }
-        i += 1;
+    match list[from..].iter().position(|byte| *byte == b'\n') {
+        Some(n) => from + n + 1,
+        None => list.len(),
     }
-    i
 }
 
-// The line at a place begins with this word and a blank.
-fn begins(list: &[u8], at: usize, word: &[u8]) -> bool
-    requires { at ≤ length list.now }
-{
-    let n = word.len();
-    if list.len() - at <= n {
-        return false;
-    }
-    let end = at + n;
-    check::same(&list[at..end], word) & (list[end] == b' ')
+// What is left of a list begins with this word and a blank.
+fn begins(list: &[u8], word: &[u8]) -> bool {
+    list.strip_prefix(word)
+        .is_some_and(|behind| behind.starts_with(b" "))
 }
 
 // The number of the line that begins with a word, from 1; 0 if none does.
@@ -165,7 +155,7 @@ fn line_of(list: &[u8], word: &[u8]) -> usize {
     let mut number: usize = 1;
     let mut at: usize = 0;
     while at < list.len() {
-        if begins(list, at, word) {
+        if begins(&list[at..], word) {
             return number;
         }
         at = next_line(list, at);

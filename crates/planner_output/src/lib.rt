@@ -59,10 +59,10 @@ pub fn give_up(rt: &HostRuntime, words: &[u8]) -> u8
 }
 
 // How many bytes of a text are written, of which the first n are finished.
-pub fn end_of(length: usize, n: usize) -> usize
+fn end_of(length: usize, n: usize) -> usize
     ensures { result ≡ min n length }
 {
-    if n < length { n } else { length }
+    n.min(length)
 }
 
 // Writes the first n bytes of a text, or all where it has fewer, and answers whether all of them went out, or why not.

@@ -35,8 +35,7 @@ fn by_stream(
     ensures jitter_after { jitter.new ≡ filled (at_place (jitter_of (segment_in s.now))) n jitter.old }
 {
     let mut at = first;
-    let mut i: usize = 0;
-    while i < n {
+    for i in 0..n {
         let met = sheet_record::pnet_stream_at(s, at);
         let r = met.found;
         masters[i] = r.a as u8;
@@ -44,7 +43,6 @@ fn by_stream(
         spacing[i] = r.c;
         jitter[i] = r.e;
         at = met.next;
-        i += 1;
     }
 }
 

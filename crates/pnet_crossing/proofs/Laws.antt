@@ -10,34 +10,30 @@ use Rattle.pnet_crossing.specs.Cost.{segment_step, gateway_step}
 
 -- ---- The first number from 1, as a loop that counts from 1 finds it
 
--- i is reached, and the test holds at none before it
-pub record Searched (f : ℕ → Bool) (n i : ℕ) : Type 0 where
-  pub from : 1 ≤ i
-  pub to : i ≤ n + 1
+-- the test holds at none before i
+pub record Searched (f : ℕ → Bool) (i : ℕ) : Type 0 where
   pub fails : (j : ℕ) → j < i - 1 → f (j + 1) ≡ false
 
-module _ (f : ℕ → Bool) (n : ℕ) where
-  pub searched_none : Searched f n 1
-  searched_none = record { from = omega arith; to = omega arith; fails = λ j l. absurd (omega arith) }
+module _ (f : ℕ → Bool) where
+  pub searched_none : Searched f 1
+  searched_none = record { fails = λ j l. absurd (omega arith) }
 
-  module _ (i : ℕ) (h : Searched f n i) where
+  module _ (i : ℕ) (h : Searched f i) (from : 1 ≤ i) where
     at : i - 1 + 1 ≡ i
     at = omega arith
 
-    pub searched_more : i ≤ n → f i ≡ false → Searched f n (i + 1)
-    searched_more l e = record { from = omega arith; to = omega arith; fails = λ j k. last j k (ℕ_discrete (j + 1) i) }
+    pub searched_more : f i ≡ false → Searched f (i + 1)
+    searched_more e = record { fails = λ j k. last j k (ℕ_discrete (j + 1) i) }
       where
         last : (j : ℕ) → j < i + 1 - 1 → Dec (j + 1 ≡ i) → f (j + 1) ≡ false
         last j k (yes q) = ap f q ∙ e
         last j k (no q) = h.fails j (omega (arith, q))
 
-    pub searched_here : i ≤ n → f i ≡ true → i ≡ first_of f n 1
-    searched_here l e = sym at ∙ first_here f n (i - 1) h.fails (omega arith) (ap f at ∙ e)
+    pub searched_here : (n : ℕ) → i ≤ n → f i ≡ true → i ≡ first_of f n 1
+    searched_here n l e = sym at ∙ first_here f n (i - 1) h.fails (omega arith) (ap f at ∙ e)
 
-    pub searched_end : n < i → i ≡ first_of f n 1
-    searched_end l =
-        let e : i ≡ n + 1 = omega arith in
-        e ∙ first_nowhere f n (i - 1) h.fails (omega arith)
+    pub searched_end : (n : ℕ) → i ≡ n + 1 → n + 1 ≡ first_of f n 1
+    searched_end n e = first_nowhere f n (i - 1) h.fails (omega arith)
 
 -- ---- The steps of the cost
 

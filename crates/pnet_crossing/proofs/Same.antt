@@ -8,6 +8,7 @@ use lib.Dec.{ltb}
 use Rattle.common.specs.Checks.{Check, verdict, unless}
 use Rattle.common.proofs.Firsts.{first_same}
 use Rattle.common.proofs.Outside.{inside}
+use Rattle.units.specs.Units.{bp}
 use Rattle.pnet_crossing.specs.Cost.{segment_step, gateway_step, cost_over, is_too_long, path_checks, crossing_by}
 use Rattle.pnet_crossing.proofs.Checked.{too_many}
 
@@ -45,7 +46,7 @@ module _ {R R' F F' : ℕ → ℕ} {absent absent' : ℕ → Bool} {g : ℕ} (a 
   alike_crossing : crossing_by R F absent g D ≡ crossing_by R' F' absent' g D
   unfolding crossing_by
   alike_crossing =
-      ap (λ (cs : List Check). unless (verdict cs) (bp (cost_over R F g))) checks_same ∙ ap (cost_or (verdict (path_checks R' F' absent' g D))) cost_same
+      ap (λ (cs : List Check). unless (verdict cs) (bp (cost_over R F g))) checks_same ∙ ap (λ (c : ℕ). unless (verdict (path_checks R' F' absent' g D)) (bp c)) cost_same
 
 -- with none or more than ten gateways nothing else is looked at
 pub crossing_same : (R R' F F' : ℕ → ℕ) (absent absent' : ℕ → Bool) (g D : ℕ) → (1 ≤ g → g ≤ 10 → Alike R R' F F' absent absent' g)

@@ -48,15 +48,13 @@ fn first_too_long(times: [BitPeriods; 11], n: usize) -> usize
     requires { n ≤ 10 }
     ensures { result ≡ first_of (is_too_long (kept times)) n 1 }
 {
-    let mut i: usize = 1;
-    while i <= n {
+    for i in 1..n + 1 {
         let time = times[i];
         if time.0 > 1_000_000 {
             return i;
         }
-        i += 1;
     }
-    i
+    n + 1
 }
 
 // The first of n segments whose sender has no streams, and n + 1 where there is none.
@@ -64,15 +62,13 @@ fn first_without(bounds: [BitPeriods; 12], n: usize) -> usize
     requires { n ≤ 11 }
     ensures { result ≡ first_of (no_bound bounds) n 1 }
 {
-    let mut i: usize = 1;
-    while i <= n {
+    for i in 1..n + 1 {
         let bound = bounds[i];
         if bound.0 == 0 {
             return i;
         }
-        i += 1;
     }
-    i
+    n + 1
 }
 
 // What a path over 1 to 10 gateways costs.

@@ -23,8 +23,7 @@ fn first_late(s: &[u8], first: usize, n: usize, counts: &[u8; 33], turn: u32) ->
     ensures { result ≡ first_late (segment_in s.now) }
 {
     let mut at = first;
-    let mut i: usize = 0;
-    while i < n {
+    for i in 0..n {
         let met = sheet_record::pnet_stream_at(s, at);
         let r = met.found;
         let bound = counts[r.a as usize] as u32 * turn;
@@ -32,7 +31,6 @@ fn first_late(s: &[u8], first: usize, n: usize, counts: &[u8; 33], turn: u32) ->
             return i + 1;
         }
         at = met.next;
-        i += 1;
     }
     n + 1
 }

@@ -25,6 +25,7 @@ use Rattle.sheet_rules.specs.Whole.Outcome.{Read, Not}
 use Rattle.sheet_rules.proofs.Known.{both_fail}
 use Rattle.pnet_rules.specs.Segment.{Segment, segment_of, count}
 use Rattle.units.specs.Units.{bp}
+use Rattle.units.specs.declared.BitPeriods.{BitPeriods}
 use Rattle.pnet_crossing.specs.Cost.{is_too_long, path_checks, crossing_by}
 use Rattle.pnet_crossing.proofs.Laws.{Searched, searched_here, searched_end}
 use Rattle.pnet_path.specs.Path.{Path, gateways, sheet_at, bound_at, forwarding_at, absent_in, absent_from, absent_at, refused_or, crossed_from, crossed}
@@ -33,6 +34,7 @@ use Rattle.pnet_path.specs.Refusals.Absent.{not_there, no_streams}
 use Rattle.pnet_path.specs.Refusals.Given.{own, not_few, too_long, undated, no_sender, too_late}
 use Rattle.std.specs.declared.result.Result.TheVariants.{Ok, Err}
 use Rattle.common.specs.Checks.{refusal}
+use Rattle.common.proofs.Answered.{same_refusal}
 use Rattle.std.specs.declared.result.Result.{Result}
 use Rattle.common.specs.declared.Refusal.{Refusal}
 
@@ -353,5 +355,4 @@ module _ (P : Path) where
   -- so one number and place at most is given
   pub given_once : (n p m q : ℕ) → Given P n p → Given P m q → (n ≡ m) × (p ≡ q)
   given_once n p m q a b =
-      let e : Err (refusal n p) ≡ Err (refusal m q) = sym (given_if n p a) ∙ given_if m q b in
-      (cc, cc)
+      same_refusal (sym (given_if n p a) ∙ given_if m q b)

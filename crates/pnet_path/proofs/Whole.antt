@@ -35,6 +35,8 @@ use Rattle.pnet_path.proofs.Refusals.{behind, refused_own, Looked, looked}
 use Rattle.pnet_path.proofs.Refusals.Looked.{all, up_to}
 use Rattle.std.specs.declared.result.Result.TheVariants.{Ok, Err}
 use Rattle.common.specs.Checks.{refusal}
+use Rattle.std.specs.declared.option.Option.TheVariants.{Some, None}
+use Rattle.std.specs.Prelude.{is_some}
 
 -- ---- Absent is who has no bound
 
@@ -78,7 +80,7 @@ stored {A} {none} {f} {run} {m} {next} h x e =
 
 pub record Kept (P : Path) (n : ℕ) (w : Way) : Type 0 where
   pub segments : w.segments ≡ n
-  pub none_refused : w.refused ≡ false
+  pub none_refused : w.refused ≡ None
   pub masters : Holds 0 (sender_at P) w.masters 11 (suc n)
   pub bounds : Holds (bp 0) (λ i. bp (bound_at P i)) w.bounds 11 (suc n)
   pub times : Holds (bp 0) (λ i. bp (forwarding_at P i)) w.times 10 n
@@ -87,9 +89,7 @@ pub record Kept (P : Path) (n : ℕ) (w : Way) : Type 0 where
 
 pub record Ended (i n p : ℕ) (w : Way) : Type 0 where
   pub segments : w.segments ≡ i
-  pub refused : w.refused ≡ true
-  pub no : w.no ≡ n
-  pub place : w.place ≡ p
+  pub refused : w.refused ≡ Some (refusal n p)
 
 module _ (P : Path) where
   -- what is kept behind n segments
@@ -124,7 +124,7 @@ module _ (P : Path) where
       }
 
   -- the next segment, from what its sheet is
-  way_more : (n : ℕ) → (way n).refused ≡ false
+  way_more : (n : ℕ) → is_some (way n).refused ≡ false
       → way (suc n) ≡ over_by (way n) (P.hop (suc n)).forwarding (P.hop (suc n)).sender (sender_of (sheet_at P (suc n)) (P.hop (suc n)).sender)
   unfolding way_over sheet_at
   way_more n e = let h = P.hop (suc n) in over_goes (way n) h.forwarding h.sheet h.sender e
@@ -134,7 +134,7 @@ module _ (P : Path) where
   kept_more n H is few k =
       let h = P.hop (suc n) in
       let R = bound (segment_of H) h.sender in
-      let e : way (suc n) ≡ further (way n) h.forwarding h.sender R = rw is at (way_more n k.none_refused) in
+      let e : way (suc n) ≡ further (way n) h.forwarding h.sender R = rw is at (way_more n (ap is_some k.none_refused)) in
       let b : R ≡ bound_at P (suc n) = rw is in
       rw e (further_kept k few R b)
 
@@ -145,19 +145,19 @@ module _ (P : Path) where
       kept_more n last.sheet last.reads few (kept_all n (omega arith) (λ j lo hi. t j lo (omega arith)))
 
   -- behind a refused sheet nothing changes
-  way_still : (n : ℕ) → (way n).refused ≡ true → way (suc n) ≡ way n
+  way_still : (n : ℕ) → is_some (way n).refused ≡ true → way (suc n) ≡ way n
   unfolding way_over
   way_still n e = let h = P.hop (suc n) in over_stays (way n) h.forwarding h.sheet h.sender e
 
-  way_stays : (k n : ℕ) → n ≤ k → (way n).refused ≡ true → way k ≡ way n
+  way_stays : (k n : ℕ) → n ≤ k → is_some (way n).refused ≡ true → way k ≡ way n
   way_stays zero n le e = let z : n ≡ 0 = omega arith in rw z
   way_stays (suc k) n le e = last (ℕ_discrete n (suc k)) (way_stays k n)
     where
-      last : Dec (n ≡ suc k) → (n ≤ k → (way n).refused ≡ true → way k ≡ way n) → way (suc k) ≡ way n
+      last : Dec (n ≡ suc k) → (n ≤ k → is_some (way n).refused ≡ true → way k ≡ way n) → way (suc k) ≡ way n
       last (yes q) ih = rw q
       last (no q) ih =
           let same = ih (omega (arith, q)) e in
-          way_still k (ap (λ (w : Way). w.refused) same ∙ e) ∙ same
+          way_still k (ap (λ (w : Way). is_some w.refused) same ∙ e) ∙ same
 
   -- so it is all the same whether the segments behind it are handed over
   pub handed_over_alike : {n : ℕ} → HandedOver P n → way n ≡ way P.segments
@@ -170,9 +170,9 @@ module _ (P : Path) where
     ended {i = zero} b = absurd (omega (arith, b.from))
     ended {i = suc i} {n = n} {p = p} b =
         let k = kept_all i (omega (arith, b.to)) (λ j lo hi. b.before j lo (omega arith)) in
-        let stop : way (suc i) ≡ stopped (way i) n p = rw b.itself at (way_more i k.none_refused) in
-        let last = way_stays P.segments (suc i) b.to (ap (λ (w : Way). w.refused) stop) ∙ stop in
-        rw last (record { segments = omega (arith, k.segments, b.to); refused = refl; no = refl; place = refl })
+        let stop : way (suc i) ≡ stopped (way i) (refusal n p) = rw b.itself at (way_more i (ap is_some k.none_refused)) in
+        let last = way_stays P.segments (suc i) b.to (ap (λ (w : Way). is_some w.refused) stop) ∙ stop in
+        rw last (record { segments = omega (arith, k.segments, b.to); refused = refl })
 
 -- ---- The answers
 
@@ -195,7 +195,7 @@ answer_kept P w k =
 
 -- the sheet of segment i is refused
 answer_ended : {i n p : ℕ} (w : Way) (D : ℕ) → Ended i n p w → answer_of w D ≡ Err (refusal n p)
-answer_ended w D e = sym (answer_of_refused w D e.refused) ∙ rw (e.no, e.place) refl
+answer_ended w D e = sym (answer_of_refused w D e.refused)
 
 pub path_handed_over : (P : Path) → P.segments < 2 ^ 64 → answer_of (way_over P P.segments) P.deadline ≡ crossed P
 unfolding crossed_from

@@ -2,9 +2,9 @@
 // a list of forwarding times of another length cannot be said, and no run is lent. What is kept has a place for each of eleven segments.
 #![tactic(auto)]
 
-ghost use Rattle.std.specs.Prelude.{◌≡◌, ◌-◌};
+ghost use Rattle.std.specs.Prelude.{◌≡◌};
 ghost use Rattle.pnet_path.specs.Ways;
-ghost use Rattle.pnet_path.specs.Ways.{started, one_more_of, over_to, answer_of};
+ghost use Rattle.pnet_path.specs.Ways.{started, over_to, answer_of};
 
 use common::Refusal;
 use units::BitPeriods;
@@ -33,22 +33,13 @@ pub fn start() -> Way
     }
 }
 
-fn one_more(n: usize) -> usize
-    ensures { result ≡ one_more_of n }
-{
-    if n < 18_446_744_073_709_551_615 {
-        return n + 1;
-    }
-    n
-}
-
 // One segment more: its sender and R, and the forwarding time of the gateway before it.
 fn further(way: Way, time: BitPeriods, master: u8, bound: BitPeriods) -> Way
     ensures { result ≡ Ways.further way time.0 master bound.0 }
 {
     let n = way.segments;
     let mut next = way;
-    next.segments = one_more(n);
+    next.segments = n.saturating_add(1);
     if n < 11 {
         next.masters[n + 1] = master;
         next.bounds[n + 1] = bound;
@@ -63,7 +54,7 @@ pub fn stopped(way: Way, refusal: Refusal) -> Way
 {
     let n = way.segments;
     let mut next = way;
-    next.segments = one_more(n);
+    next.segments = n.saturating_add(1);
     next.refused = Some(refusal);
     next
 }
@@ -82,15 +73,6 @@ pub fn over(way: Way, forwarding: BitPeriods, s: &[u8], master: u8) -> Way
     }
 }
 
-fn gateways_of(segments: usize) -> usize
-    ensures { result ≡ segments - 1 }
-{
-    if segments == 0 {
-        return 0;
-    }
-    segments - 1
-}
-
 // What the path so far costs, with its deadline.
 pub fn answer(way: Way, deadline: BitPeriods) -> Result<BitPeriods, Refusal>
     ensures { result ≡ answer_of way deadline.0 }
@@ -98,7 +80,7 @@ pub fn answer(way: Way, deadline: BitPeriods) -> Result<BitPeriods, Refusal>
     if let Some(refusal) = way.refused {
         return Err(refusal);
     }
-    let gateways = gateways_of(way.segments);
+    let gateways = way.segments.saturating_sub(1);
     let bounds = way.bounds;
     let times = way.times;
     pnet_crossing::over_gateways(bounds, times, gateways, deadline)

@@ -45,9 +45,7 @@ fn set_out(
 {
     let floor = pnet_turn::floor_of(counts, longests, n, edition);
     let mut end: u32 = 0;
-    let mut y: usize = 0;
-    while y < n {
-        y += 1;
+    for y in 1..n + 1 {
         let count = counts[y];
         let charge = pnet_turn::charge_of(count, BitPeriods(longests[y]), floor);
         charges[y] = charge.0;
@@ -74,8 +72,7 @@ fn place(
     ensures { (result ≡ first_late (segment_in s.now)) × (streams < result → Grouped (segment_in s.now) streams ends.new slacks.new pairs.new) }
 {
     let mut at = first;
-    let mut i: usize = 0;
-    while i < streams {
+    for i in 0..streams {
         let met = sheet_record::pnet_stream_at(s, at);
         let r = met.found;
         let m = r.a as usize;
@@ -88,9 +85,8 @@ fn place(
         pairs[p] = r.c;
         pairs[p + 1] = r.e;
         ends[m] = end + 1;
-        slacks[m] = pnet_search::smaller(slacks[m], r.c - r.e);
+        slacks[m] = slacks[m].min(r.c - r.e);
         at = met.next;
-        i += 1;
     }
     streams + 1
 }

@@ -2,11 +2,10 @@
 use mathlib.Core.Path.{◌≡◌, refl, ap, ◌∙◌}
 use mathlib.Core.List.{List}
 use Prim.Native.Nat.{ℕ, ◌+◌, ◌-◌, ◌*◌, ◌≤◌, ◌<◌, min}
-use native.Mathlib.Nat.{div-mul-le_self, le-div_iff_mul-le}
+use native.Mathlib.Nat.{le-div_iff_mul-le}
 use native.Mathlib.Omega.{arith}
 use Rattle.common.specs.Sums.{upto, up}
 use Rattle.common.proofs.Sums.{upto_more, upto_part, upto_mono, upto_even, up_at_most, up_covers, up_rises}
-use Rattle.pnet_turn.specs.Turn.{at}
 use Rattle.pnet_search.specs.Arrays.{spacing_at, jitter_at, asked_in, Spaced}
 
 -- ---- A quotient rounded up
@@ -14,11 +13,6 @@ use Rattle.pnet_search.specs.Arrays.{spacing_at, jitter_at, asked_in, Spaced}
 -- it is the same until what it covers is passed
 up_same : (x y t : ℕ) → 0 < t → x ≤ y → y ≤ up x t * t → up y t ≡ up x t
 up_same x y t p l h = omega (arith, up_rises x y t l, up_at_most y t (up x t) p h)
-
--- which is less than one t more than x
-pub up_short : (x t : ℕ) → up x t * t ≤ x + (t - 1)
-unfolding up
-up_short x t = div-mul-le_self (x + (t - 1)) t
 
 -- at least 1 where there is something to cover
 up_some : (x t : ℕ) → 0 < t → 1 ≤ x → 1 ≤ up x t
@@ -107,7 +101,3 @@ module _ {pairs : List ℕ} {from window j s asked until : ℕ} (on : Looking pa
   looking_enough n h l v a =
       let b = on.same window (omega arith) on.longer in
       omega (arith, asked_more pairs from window j, asked_rises pairs from window v (j + 1) a, asked_part pairs from v (j + 1) n (omega arith))
-
-  -- no stream more
-  pub looking_done : (n : ℕ) → j ≡ n → (v : ℕ) → window ≤ v → v ≤ until → asked ≡ min s (asked_in pairs from v n)
-  looking_done n e v a b = omega (arith, on.few, on.same v a b, ap (asked_in pairs from v) e)

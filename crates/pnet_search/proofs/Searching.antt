@@ -16,26 +16,11 @@ use Rattle.pnet_search.proofs.Arrays.{saved_own, saved_other, left_same}
 
 -- ---- At W = 0
 
--- what the first m masters open with
+-- what the masters before m open with
 pub record Opened (counts charges slacks : List ℕ) (turn k m : ℕ) (saved until : List ℕ) : Type 0 where
   pub saved_long : length saved ≡ 33
   pub until_long : length until ≡ 33
-  pub each : (y : ℕ) → 1 ≤ y → y ≤ m → Opens counts charges slacks turn k y (at saved y) (at until y)
-
--- one master more
-pub opened_more : {counts charges slacks : List ℕ} {turn k m : ℕ} {saved until : List ℕ} → Opened counts charges slacks turn k m saved until → m < 32
-    → (x u : ℕ) → Opens counts charges slacks turn k (m + 1) x u → Opened counts charges slacks turn k (m + 1) (set saved (m + 1) x) (set until (m + 1) u)
-opened_more {counts} {charges} {slacks} {turn} {k} {m} {saved} {until} on few x u o =
-    record {
-      saved_long = length-set saved (m + 1) x ∙ on.saved_long;
-      until_long = length-set until (m + 1) u ∙ on.until_long;
-      each = λ y lo hi. by y lo hi (ℕ_discrete y (m + 1));
-    }
-  where
-    by : (y : ℕ) → 1 ≤ y → y ≤ m + 1 → Dec (y ≡ m + 1) → Opens counts charges slacks turn k y (at (set saved (m + 1) x) y) (at (set until (m + 1) u) y)
-    by y lo hi (yes q) =
-        rw (q, get_or-set_same saved (m + 1) x 0 (omega (arith, on.saved_long)), get_or-set_same until (m + 1) u 0 (omega (arith, on.until_long))) o
-    by y lo hi (no q) = rw (get_or-set_other saved (m + 1) y x 0 q, get_or-set_other until (m + 1) y u 0 q) (on.each y lo (omega (arith, q)))
+  pub each : (y : ℕ) → 1 ≤ y → y < m → Opens counts charges slacks turn k y (at saved y) (at until y)
 
 module _ {counts charges ends pairs : List ℕ} {N turn : ℕ} (kept : Kept N turn counts charges ends pairs) (y v : ℕ) (lo : 1 ≤ y) (hi : y ≤ N) where
   turn_some : 1 ≤ turn

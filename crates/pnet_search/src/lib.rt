@@ -32,13 +32,6 @@ struct Saving {
 // No W and no window is as long.
 const NEVER: u32 = 4294967295;
 
-// The lesser of two numbers.
-pub fn smaller(a: u32, b: u32) -> u32
-    ensures { result ≡ min a b }
-{
-    if a < b { a } else { b }
-}
-
 // A look at n streams from a place, in a window, to which each adds its J (page 02, Ask 7). More than s requests change nothing, whatever the
 // window; else the count is the same until the first of the streams asks once more.
 fn look(pairs: &[u32], from: usize, n: usize, window: u32, s: u32) -> Looked
@@ -47,8 +40,7 @@ fn look(pairs: &[u32], from: usize, n: usize, window: u32, s: u32) -> Looked
 {
     let mut asked: u32 = 0;
     let mut until = NEVER;
-    let mut j: usize = 0;
-    while j < n {
+    for j in 0..n {
         let p = 2 * (from + j);
         let t = pairs[p];
         let jitter = pairs[p + 1];
@@ -60,8 +52,7 @@ fn look(pairs: &[u32], from: usize, n: usize, window: u32, s: u32) -> Looked
                 until: NEVER,
             };
         }
-        until = smaller(until, times * t - jitter);
-        j += 1;
+        until = until.min(times * t - jitter);
     }
     Looked { asked, until }
 }
@@ -134,9 +125,7 @@ fn begin(
     requires by_index { (y : ℕ) → 1 ≤ y → y ≤ n → (at counts.now y ≤ 80) × (10 ≤ at charges.now y) × (at charges.now y ≤ 1595) × (at counts.now y * turn ≤ at slacks.now y) }
     ensures { (length saved.new ≡ 33) × (length until.new ≡ 33) × ((y : ℕ) → 1 ≤ y → y ≤ n → Opens counts.now charges.now slacks.now turn k y (at saved.new y) (at until.new y)) }
 {
-    let mut y: usize = 0;
-    while y < n {
-        y += 1;
+    for y in 1..n + 1 {
         let first = first_saving(counts, charges, slacks, turn, y, k);
         saved[y] = first.saved;
         until[y] = first.until;
@@ -164,9 +153,7 @@ fn right_of(
 {
     let s = counts[k] as u32;
     let mut all: u32 = 0;
-    let mut y: usize = 0;
-    while y < n {
-        y += 1;
+    for y in 1..n + 1 {
         if until[y] < w {
             let again = saving_at(counts, charges, ends, pairs, turn, y, s, w);
             saved[y] = again.saved;
@@ -228,14 +215,12 @@ pub fn fill(
     ensures refined_after { refined.new ≡ filled (λ i. refined_in counts.now charges.now ends.now pairs.now n (i + 1)) n refined.old }
     ensures rounds_after { rounds.new ≡ filled (λ i. rounds_in counts.now charges.now ends.now pairs.now n (i + 1)) n rounds.old }
 {
-    let mut i: usize = 0;
-    while i < n {
+    for i in 0..n {
         let k = i + 1;
         let r = counts[k] as u32 * turn.0;
         let found = search(counts, charges, ends, slacks, pairs, n, turn.0, k);
         bound[i] = r;
         refined[i] = found.refined;
         rounds[i] = found.rounds;
-        i += 1;
     }
 }

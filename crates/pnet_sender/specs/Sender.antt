@@ -3,6 +3,7 @@ use Rattle.std.specs.Prelude.{ℕ, List}
 use Rattle.sheet_rules.specs.Whole.{Outcome}
 use Rattle.sheet_rules.specs.Whole.Outcome.{Read, Not}
 use Rattle.units.specs.Units.{bp}
+use Rattle.units.specs.declared.BitPeriods.{BitPeriods}
 use Rattle.pnet_rules.specs.Segment.{segment_of, bound}
 use Rattle.pnet_bounds.specs.Bounded.{bounded}
 use Rattle.std.specs.declared.result.Result.TheVariants.{Ok, Err}

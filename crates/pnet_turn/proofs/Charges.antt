@@ -1,9 +1,9 @@
 -- Laws of the charge: H, but no less than the floor of an edition, is what a master is charged under it; and what is worked out from a segment's counts
 -- and longest cycles is the segment's charge and V. Assumes nothing.
-use mathlib.Core.Path.{◌≡◌, ap, ◌∙◌}
+use mathlib.Core.Path.{◌≡◌, refl, ap, ◌∙◌}
 use mathlib.Core.Bool.{Bool, true, false, cond}
 use mathlib.Core.List.{List}
-use Prim.Native.Nat.{ℕ, ◌+◌, ◌≤◌, min, max}
+use Prim.Native.Nat.{ℕ, zero, suc, ◌+◌, ◌-◌, ◌≤◌, min, max}
 use native.Mathlib.Omega.{arith}
 use lib.Dec.{eqb}
 use Rattle.common.specs.Sums.{when, upto, greatest}
@@ -14,6 +14,20 @@ use Rattle.pnet_rules.specs.Segment.{Segment, charge, count, longest, hold, larg
 use Rattle.pnet_rules.specs.Limits.{Declared}
 use Rattle.pnet_rules.proofs.Holds.{turn_at_most}
 use Rattle.pnet_turn.specs.Turn.{at, hold_in, largest_in, charged_in, turn_of, floor_of, charge_of}
+
+-- ---- A loop that counts from 1 has had y - 1 of them when it comes to y
+
+pub upto_next : (f : ℕ → ℕ) (y : ℕ) → 1 ≤ y → upto f (y + 1 - 1) ≡ upto f (y - 1) + f y
+unfolding upto
+upto_next f zero h = elim h [ ]
+upto_next f (suc y) h = let e : suc y + 1 - 1 ≡ suc y = omega arith in let d : suc y - 1 ≡ y = omega arith in rw (e, d) refl
+
+pub greatest_next : (f : ℕ → ℕ) (y : ℕ) → 1 ≤ y → greatest f (y + 1 - 1) ≡ max (greatest f (y - 1)) (f y)
+unfolding greatest
+greatest_next f zero h = elim h [ ]
+greatest_next f (suc y) h = let e : suc y + 1 - 1 ≡ suc y = omega arith in let d : suc y - 1 ≡ y = omega arith in rw (e, d) refl
+
+-- ---- Under an edition
 
 module _ (counts longests : List ℕ) (N edition : ℕ) where
   -- of a master 1..N no less than the largest H of them is that one

@@ -2,7 +2,7 @@
 // edition, page 02 'Ask 10'.
 #![tactic(auto)]
 
-ghost use Rattle.std.specs.Prelude.{◌≡◌, ◌≤◌, min, max, eqb};
+ghost use Rattle.std.specs.Prelude.{◌≡◌, ◌≤◌, eqb};
 ghost use Rattle.common.specs.Sums.{when};
 ghost use Rattle.units.specs.Units.{capped};
 ghost use Rattle.pnet_rules.specs.Segment.{charge};
@@ -14,10 +14,7 @@ use units::BitPeriods;
 fn narrow(n: u64) -> BitPeriods
     ensures { result ≡ capped n }
 {
-    if n < 4_294_967_296 {
-        return BitPeriods(n as u32);
-    }
-    BitPeriods(u32::MAX)
+    BitPeriods(n.min(u32::MAX as u64) as u32)
 }
 
 // H in 64 bits, to be added up.
@@ -27,20 +24,6 @@ fn hold_of(count: u8, longest: u32) -> u64
     if count == 0 { 10 } else { 47 + longest as u64 }
 }
 
-// The larger of two.
-fn larger(a: u64, b: u64) -> u64
-    ensures { result ≡ max a b }
-{
-    if a < b { b } else { a }
-}
-
-// Of n masters, the 32 at most that a sheet can have.
-fn masters_of(n: usize) -> usize
-    ensures { result ≡ min n 32 }
-{
-    if n < 32 { n } else { 32 }
-}
-
 // What no master is charged less than, in 64 bits: under edition 2 the largest H of masters 1..n, at most 32; else nothing.
 fn least_of(counts: &[u8; 33], longests: &[u32; 33], n: usize, edition: u32) -> u64
     ensures { (result ≡ when (eqb edition 2) (largest_in counts.now longests.now n)) × (result ≤ 4294967342) }
@@ -48,12 +31,10 @@ fn least_of(counts: &[u8; 33], longests: &[u32; 33], n: usize, edition: u32) -> 
     if edition != 2 {
         return 0;
     }
-    let last = masters_of(n);
+    let last = n.min(32);
     let mut least: u64 = 0;
-    let mut y: usize = 0;
-    while y < last {
-        y += 1;
-        least = larger(hold_of(counts[y], longests[y]), least);
+    for y in 1..last + 1 {
+        least = hold_of(counts[y], longests[y]).max(least);
     }
     least
 }
@@ -69,7 +50,7 @@ pub fn floor_of(counts: &[u8; 33], longests: &[u32; 33], n: usize, edition: u32)
 pub fn charge_of(count: u8, longest: BitPeriods, floor: BitPeriods) -> BitPeriods
     ensures { result ≡ charge_of count longest floor }
 {
-    narrow(larger(hold_of(count, longest.0), floor.0 as u64))
+    narrow(hold_of(count, longest.0).max(floor.0 as u64))
 }
 
 // V of masters 1..n, at most 32, under an edition.
@@ -77,12 +58,10 @@ pub fn turn_of(counts: &[u8; 33], longests: &[u32; 33], n: usize, edition: u32) 
     ensures { result ≡ turn_of counts.now longests.now n edition }
 {
     let least = least_of(counts, longests, n, edition);
-    let top = masters_of(n);
+    let top = n.min(32);
     let mut turn: u64 = 0;
-    let mut y: usize = 0;
-    while y < top {
-        y += 1;
-        turn += larger(hold_of(counts[y], longests[y]), least);
+    for y in 1..top + 1 {
+        turn += hold_of(counts[y], longests[y]).max(least);
     }
     narrow(turn)
 }

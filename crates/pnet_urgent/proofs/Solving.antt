@@ -1,5 +1,5 @@
 -- The planner's way from master to master, over the keys that the sheet's streams were put in order by. Assumes nothing.
-use mathlib.Core.Path.{◌≡◌, sym, ap, ◌∙◌, subst}
+use mathlib.Core.Path.{◌≡◌, ap, ◌∙◌, subst}
 use mathlib.Core.List.{List}
 use Prim.Native.Nat.{ℕ, suc, ◌+◌, ◌-◌, ◌≤◌, ◌<◌}
 use native.Mathlib.Numerals.{add-one}
@@ -55,44 +55,41 @@ lined {s} {first} {n} ready {ends} {keys} {spacings} {jitters} old older o es ej
       counts_are = counts_are;
     }
 
--- what keeps the next master's numbers inside the arrays
+-- what keeps a master's numbers inside the arrays
 pub record Next (own end y : ℕ) : Type 0 where
-  pub inside : y + 1 ≤ 32
+  pub inside : y ≤ 32
   pub few : own ≤ 80
   pub early : end ≤ 800
   pub fits : own ≤ end
 
--- the next master, as the code has it
-module _ {S : Segment} {ends keys spacings jitters counts : List ℕ} (h : Lined S ends keys spacings jitters counts) (y : ℕ) (l : y < S.masters) where
-  own_is : at counts (y + 1) ≡ count S (y + 1)
-  own_is = h.counts_are (y + 1) (omega (arith, h.declared.masters_to))
+-- master y, as the code has it
+module _ {S : Segment} {ends keys spacings jitters counts : List ℕ} (h : Lined S ends keys spacings jitters counts) (y : ℕ) (one : 1 ≤ y) (l : y ≤ S.masters) where
+  own_is : at counts y ≡ count S y
+  own_is = h.counts_are y (omega (arith, h.declared.masters_to))
 
-  end_is : at ends (y + 1) ≡ start_of S (y + 1) + count S (y + 1)
-  end_is = h.in_order.ends_are (y + 1) (omega arith) (omega arith)
+  end_is : at ends y ≡ start_of S y + count S y
+  end_is = h.in_order.ends_are y one l
 
-  pub next : Next (at counts (y + 1)) (at ends (y + 1)) y
+  pub next : Next (at counts y) (at ends y) y
   next =
       record {
         inside = omega (arith, h.declared.masters_to);
-        few = omega (arith, own_is, h.declared.counts (y + 1));
-        early = omega (arith, end_is, start_inside S h.declared (y + 1) (omega arith) (omega arith), h.declared.number_to);
+        few = omega (arith, own_is, h.declared.counts y);
+        early = omega (arith, end_is, start_inside S h.declared y one l, h.declared.number_to);
         fits = omega (arith, own_is, end_is);
       }
 
-  start_is : at ends (y + 1) - at counts (y + 1) ≡ start_of S (y + 1)
+  start_is : at ends y - at counts y ≡ start_of S y
   start_is = omega (arith, own_is, end_is)
 
-  pub serve_keyed : (room : ℕ) → S.number ≤ room → Keyed keys (at ends (y + 1) - at counts (y + 1)) (at counts (y + 1)) room
-  serve_keyed room fits = rw (start_is, own_is) (keyed h.declared h.in_order h.listed (y + 1) (omega arith) (omega arith) room fits)
+  pub serve_keyed : (room : ℕ) → S.number ≤ room → Keyed keys (at ends y - at counts y) (at counts y) room
+  serve_keyed room fits = rw (start_is, own_is) (keyed h.declared h.in_order h.listed y one l room fits)
 
   module _ (V' : ℕ) (v : V' ≡ turn S) where
-    pub serve_ranged : Ranged keys spacings jitters (at ends (y + 1) - at counts (y + 1)) (at counts (y + 1)) V'
-    serve_ranged = rw (start_is, own_is) (ranged h.declared h.in_order h.listed (y + 1) (omega arith) (omega arith) V' v)
+    pub serve_ranged : Ranged keys spacings jitters (at ends y - at counts y) (at counts y) V'
+    serve_ranged = rw (start_is, own_is) (ranged h.declared h.in_order h.listed y one l V' v)
 
     pub serve_solved : {places figures rounds newPlaces newFigures newRounds : List ℕ}
-        → Served keys spacings jitters (at ends (y + 1) - at counts (y + 1)) (at counts (y + 1)) V' places figures rounds newPlaces newFigures newRounds
-        → Solved S y places figures rounds → Solved S (y + 1) newPlaces newFigures newRounds
-    serve_solved {places} {figures} {rounds} e g =
-        let back : y ≡ y + 1 - 1 = omega arith in
-        solved_more h.declared h.in_order h.listed (y + 1) (omega arith) (omega arith) (rw (start_is, own_is, v) at e)
-        (subst (λ (k : ℕ). Solved S k places figures rounds) back g)
+        → Served keys spacings jitters (at ends y - at counts y) (at counts y) V' places figures rounds newPlaces newFigures newRounds
+        → Solved S (y - 1) places figures rounds → Solved S y newPlaces newFigures newRounds
+    serve_solved e g = solved_more h.declared h.in_order h.listed y one l (rw (start_is, own_is, v) at e) g

@@ -40,14 +40,12 @@ fn gather(
     requires n_in_bounds { (n ≤ length ts.old) × (n ≤ length js.old) × (n ≤ length ds.old) }
     ensures { Gathered keys.now spacings.now jitters.now start n ts.new js.new ds.new }
 {
-    let mut r: usize = 0;
-    while r < n {
+    for r in 0..n {
         let key = keys[start + r];
         let i = (key % PLACES) as usize;
         ts[r] = spacings[i];
         js[r] = jitters[i];
         ds[r] = (key / PLACES) as u32;
-        r += 1;
     }
 }
 
@@ -69,14 +67,12 @@ fn spread(
         × Spread keys.now start n (λ r. turn * at slots.now r) figures.old figures.new
         × Spread keys.now start n (at turns.now) rounds.old rounds.new }
 {
-    let mut r: usize = 0;
-    while r < n {
+    for r in 0..n {
         let key = keys[start + r];
         let i = (key % PLACES) as usize;
         places[i] = r as u32 + 1;
         figures[i] = turn * slots[r];
         rounds[i] = turns[r];
-        r += 1;
     }
 }
 
@@ -159,9 +155,7 @@ fn solve(
         &mut spacings,
         &mut jitters,
     );
-    let mut y: usize = 0;
-    while y < all {
-        y += 1;
+    for y in 1..=all {
         let own = counts[y] as usize;
         let start = ends[y] as usize - own;
         serve(
@@ -175,14 +169,8 @@ fn first_unmet(figures: &[u32], n: usize) -> usize
     requires { n ≤ length figures.now }
     ensures { result ≡ first_of (λ i. eqb (at figures.now (i - 1)) 0) n 1 }
 {
-    let mut i: usize = 0;
-    while i < n {
-        if figures[i] == 0 {
-            return i + 1;
-        }
-        i += 1;
-    }
-    n + 1
+    let unmet = figures[..n].iter().position(|x| *x == 0);
+    unmet.unwrap_or(n) + 1
 }
 
 // Copies the first n numbers of a run into another.
@@ -190,11 +178,7 @@ fn copy(from: &[u32], n: usize, to: &mut [u32])
     requires { (n ≤ length from.now) × (n ≤ length to.old) }
     ensures { to.new ≡ filled (at from.now) n to.old }
 {
-    let mut i: usize = 0;
-    while i < n {
-        to[i] = from[i];
-        i += 1;
-    }
+    to[..n].copy_from_slice(&from[..n]);
 }
 
 // The plan of a P-NET sheet of N masters and n streams, where the runs are long enough, unless 21 is given.

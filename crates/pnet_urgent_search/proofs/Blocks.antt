@@ -139,8 +139,3 @@ module _ {V' L K : ℕ} {Ts Js Ds : List ℕ} (u : Urgency V' Ts Js Ds L) (loade
               omega (arith, s.1.fits, most_small (at Ds i) V' s.0 u.turn_from);
           early = omega arith;
         }
-
-    -- once no walk is behind slot a, each is done
-    pub passing_done : {slots₀ rounds₀ nexts rests table slots rounds : List ℕ} {a base last : ℕ}
-        → Passing V' Ts Js Ds L K walks slots₀ rounds₀ a base last nexts rests table slots rounds → last ≤ a → Ended V' Ts Js Ds L walks slots rounds
-    passing_done on l = record { each = λ i h. walk_found (omega (arith, on.past_none i h)) (on.walking.each i h) }

@@ -9,7 +9,7 @@ use lib.ListN.{length, set, length-set}
 use lib.Seq.{get_or-set_same, get_or-set_other}
 use Rattle.pnet_turn.specs.Turn.{at}
 use Rattle.pnet_urgent_search.specs.Walks.{blocked_at}
-use Rattle.pnet_urgent_search.specs.Steps.{Shows, Walk, Starts, Sound, Apart, Started, Carried}
+use Rattle.pnet_urgent_search.specs.Steps.{Shows, Walk, Apart, Started, Carried}
 
 pub apart_none : (j : ℕ) (slots rounds : List ℕ) → Apart j slots rounds slots rounds
 apart_none j slots rounds = record { slots_long = refl; rounds_long = refl; slots_kept = λ i l. refl; rounds_kept = λ i l. refl }
@@ -33,22 +33,9 @@ module _ {j : ℕ} {slots rounds slots' rounds' : List ℕ} (x y : ℕ) (on : Ap
       by (yes q) = rw (q, get_or-set_same slots' j x 0 (omega (arith, on.slots_long)), get_or-set_same rounds' j y 0 (omega (arith, on.rounds_long))) new
       by (no q) = rw (get_or-set_other slots' j i x 0 q, get_or-set_other rounds' j i y 0 q) (each i (omega (arith, q)))
 
--- ---- The walks start
+-- ---- The walks have started
 
-pub started_none : (V' : ℕ) (Ds : List ℕ) (walks : ℕ) (slots rounds : List ℕ) → Started V' Ds walks 0 slots rounds slots rounds
-started_none V' Ds walks slots rounds =
-    record { apart = apart_none 0 slots rounds; starts = λ i l. absurd (omega arith); none = λ i l. absurd (omega arith) }
-
-pub started_more : {V' walks j : ℕ} {Ds slots rounds slots' rounds' : List ℕ} (x y : ℕ) → Started V' Ds walks j slots rounds slots' rounds'
-    → j < length slots → j < length rounds → Starts V' (at Ds j) walks j x → y ≡ 0 → Started V' Ds walks (j + 1) slots rounds (set slots' j x) (set rounds' j y)
-started_more {V'} {walks} {Ds = Ds} x y on s r new zero =
-    record {
-      apart = apart_more x y on.apart;
-      starts = each_more x y on.apart (λ i n m. Starts V' (at Ds i) walks i n) s r on.starts new;
-      none = each_more x y on.apart (λ i n m. m ≡ 0) s r on.none zero;
-    }
-
--- the loop's count is that of all
+-- of all
 pub started_all : {V' walks j : ℕ} {Ds slots rounds slots' rounds' : List ℕ} → Started V' Ds walks j slots rounds slots' rounds' → (n : ℕ) → j ≡ n
     → Started V' Ds walks n slots rounds slots' rounds'
 started_all on n e = rw e at on
@@ -61,24 +48,10 @@ most_small D V' d v =
     let l : D / V' < 20833334 = (div-lt_iff_lt-mul {k = V'} {x = D} {y = 20833334} (omega arith)).1 (omega arith) in
     omega arith
 
--- a walk that is not carried yet is as it was
-pub apart_sound : {j most a : ℕ} {slots rounds slots' rounds' : List ℕ} → Apart j slots rounds slots' rounds' → Sound most a (at slots j) (at rounds j)
-    → Sound most a (at slots' j) (at rounds' j)
-apart_sound {j} on sound = rw (on.slots_kept j (omega arith), on.rounds_kept j (omega arith)) sound
-
 module _ (V' : ℕ) (Ds : List ℕ) (L : ℕ) (table : List ℕ) (a : ℕ) where
   -- what is promised of the walk at place i, which was at n and m and is at x and y, for a constant
   abbrev Goes : ℕ → ℕ → ℕ → ℕ → ℕ → ℕ → Type 0
   Goes i c n m x y = (f : ℕ → ℕ) → Shows f table a c (at Ds i / V') → Walk f (at Ds i / V') a n m → Walk f (at Ds i / V') (a + 512) x y
-
-  pub carried_none : (slots rounds : List ℕ) → Carried V' Ds L table a 0 slots rounds slots rounds 0
-  carried_none slots rounds =
-      record {
-        apart = apart_none 0 slots rounds;
-        walked = λ i l. absurd (omega arith);
-        past_none = λ i l. absurd (omega arith);
-        early = omega arith;
-      }
 
   pub carried_more : {j last : ℕ} {slots rounds slots' rounds' : List ℕ} (c x y z : ℕ) → Carried V' Ds L table a j slots rounds slots' rounds' last
       → j < length slots → j < length rounds → c ≡ 1 + blocked_at L j + j → x ≤ 20833333 → z ≡ max last x → Goes j c (at slots' j) (at rounds' j) x y
@@ -91,10 +64,6 @@ module _ (V' : ℕ) (Ds : List ℕ) (L : ℕ) (table : List ℕ) (a : ℕ) where
         past_none = each_more x y on.apart (λ i n m. n ≤ z) s r (λ i l. omega (arith, on.past_none i l, e)) (omega (arith, e));
         early = omega (arith, e, on.early);
       }
-
-  pub carried_all : {j last : ℕ} {slots rounds slots' rounds' : List ℕ} → Carried V' Ds L table a j slots rounds slots' rounds' last → (n : ℕ) → j ≡ n
-      → Carried V' Ds L table a n slots rounds slots' rounds' last
-  carried_all on n e = rw e at on
 
 -- as many streams as there are D
 pub carried_of : {V' a j last : ℕ} {Ds table slots rounds slots' rounds' : List ℕ} → Carried V' Ds (length Ds) table a j slots rounds slots' rounds' last

@@ -21,11 +21,6 @@ module _ {f : ℕ → ℕ} {most a n m : ℕ} where
   walk_moves (onward _ _ v go) l = record { value = v; moved = go }
   walk_moves (done h _) l = absurd (omega arith)
 
-  -- one that is not stays as it is
-  pub walk_stays : n ≤ a → Walk f most a n m → Walk f most (a + 512) n m
-  walk_stays l (onward h _ _ _) = absurd (omega arith)
-  walk_stays l (done h found) = done (omega arith) found
-
   pub walk_found : n ≤ a → Walk f most a n m → Found f most n m
   walk_found l (onward h _ _ _) = absurd (omega arith)
   walk_found l (done h found) = found
@@ -96,13 +91,7 @@ pub record Carrying (table : List ℕ) (a c most n m k j : ℕ) : Type 0 where
   pub few : j < k
   pub goes : (f : ℕ → ℕ) → Shows f table a c most → Walk f most a n m → Moving 1 f j k
 
-pub carrying_none : {table : List ℕ} {a c most n m : ℕ} → Sound most a n m → a < n → Carrying table a c most n m n m
-carrying_none sound l = record { behind = l; fits = sound.fits; few = sound.few l; goes = λ f shows w. walk_moves w l }
-
 module _ {table : List ℕ} {a c most n m k j : ℕ} (on : Carrying table a c most n m k j) where
-  pub carrying_through : a + 512 < k → (f : ℕ → ℕ) → Shows f table a c most → Walk f most a n m → Walk f most (a + 512) k j
-  carrying_through l f shows w = walk_on l on.fits (on.goes f shows w)
-
   module _ (x : ℕ) (hi : k ≤ a + 512) (next : x ≡ c + at table (k - a - 1)) where
     pub carrying_more : k < x → x ≤ most → Carrying table a c most n m x (j + 1)
     carrying_more l h =

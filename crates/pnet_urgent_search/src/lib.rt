@@ -2,7 +2,7 @@
 // slots at a time.
 #![tactic(auto)]
 
-ghost use Rattle.std.specs.Prelude.{◌≡◌, ℕ, ◌+◌, ◌/◌, ◌≤◌, ◌<◌, min, max, length};
+ghost use Rattle.std.specs.Prelude.{◌≡◌, ℕ, ◌+◌, ◌/◌, ◌≤◌, ◌<◌, min, length};
 ghost use Rattle.pnet_turn.specs.Turn.{at};
 ghost use Rattle.pnet_urgent_search.specs.Walks.{blocked_at, slots_for, Urgency, Found};
 ghost use Rattle.pnet_urgent_search.specs.Steps.{Loaded, Shows, Walk, Starts, Block, Sound, Apart, Started, Carried, Walking, Ended};
@@ -22,36 +22,19 @@ struct Stood {
     rounds: u32,
 }
 
-// The larger of two numbers.
-fn larger(a: u32, b: u32) -> u32
-    ensures { result ≡ max a b }
-{
-    if a < b { b } else { a }
-}
-
 // How many of the most urgent streams do not take the whole bus. Behind more than these no search ends: what the streams ahead ask for grows at least as fast as the time.
 fn loaded(turn: u32, spacings: &[u32]) -> usize
     requires { (turn ≤ 51040) × ((j : ℕ) → j < length spacings.now → 1 ≤ at spacings.now j) }
     ensures { Loaded turn spacings.now (length spacings.now) result }
 {
     let mut taken: u64 = 0;
-    let mut j: usize = 0;
-    while j < spacings.len() {
-        let part = turn as u64 * WHOLE / spacings[j] as u64;
-        taken += part;
+    for (j, spacing) in spacings.iter().enumerate() {
+        taken += turn as u64 * WHOLE / *spacing as u64;
         if WHOLE <= taken {
             return j;
         }
-        j += 1;
     }
-    j
-}
-
-// How many streams of `count` have a walk: those with at most k ahead.
-fn walks_of(k: usize, count: usize) -> usize
-    ensures { result ≡ min (k + 1) count }
-{
-    if k < count { k + 1 } else { count }
+    spacings.len()
 }
 
 // The slot at which the walk of the stream at place i starts. One that is not among the first `walks` has no solution; nor has one into whose D no slot fits, since every
@@ -70,12 +53,9 @@ fn start(turn: u32, deadlines: &[u32], walks: usize, slots: &mut [u32], rounds: 
     requires { (length deadlines.now ≤ length slots.old) × (length deadlines.now ≤ length rounds.old) }
     ensures { Started turn deadlines.now walks (length deadlines.now) slots.old rounds.old slots.new rounds.new }
 {
-    let mut i: usize = 0;
-    while i < deadlines.len() {
-        let slot = first_slot(turn, deadlines[i], walks, i);
-        slots[i] = slot;
+    for (i, deadline) in deadlines.iter().enumerate() {
+        slots[i] = first_slot(turn, *deadline, walks, i);
         rounds[i] = 0;
-        i += 1;
     }
 }
 
@@ -131,14 +111,12 @@ fn carry_all(
 {
     let count = deadlines.len();
     let mut last: u32 = 0;
-    let mut i: usize = 0;
-    while i < walks {
+    for i in 0..walks {
         let c = own(i, count);
         let stood = carry(turn, deadlines[i], c, table, a, slots[i], rounds[i]);
         slots[i] = stood.slot;
         rounds[i] = stood.rounds;
-        last = larger(last, stood.slot);
-        i += 1;
+        last = last.max(stood.slot);
     }
     last
 }
@@ -190,7 +168,8 @@ pub fn search(
     ensures apart { Apart (length spacings.now) slots.old rounds.old slots.new rounds.new }
 {
     let k = loaded(turn, spacings);
-    let walks = walks_of(k, spacings.len());
+    // Those with at most k streams ahead have a walk.
+    let walks = (k + 1).min(spacings.len());
     start(turn, deadlines, walks, slots, rounds);
     walk(turn, spacings, jitters, deadlines, k, walks, slots, rounds);
 }

@@ -33,6 +33,7 @@ use Rattle.pnet_urgent_streams.specs.Listed.{deadline_of, late_bound, listed_of}
 use Rattle.pnet_urgent_streams.specs.declared.answer.Listed.{Listed}
 use Rattle.std.specs.declared.result.Result.TheVariants.{Ok, Err}
 use Rattle.common.specs.Checks.{refusal}
+use Rattle.common.proofs.Answered.{same_refusal}
 use Rattle.std.specs.declared.result.Result.{Result}
 use Rattle.common.specs.declared.Refusal.{Refusal}
 
@@ -40,10 +41,7 @@ use Rattle.common.specs.declared.Refusal.{Refusal}
 
 pub refused_not : (o : Outcome) {n p : ℕ} → plan_of o ≡ Err (refusal n p) → o ≡ Not n p
 refused_not (Read H) e = let z : ◌≡◌ {A = ℕ} 0 1 = cc in absurd (omega arith)
-refused_not (Not m q) {n} {p} e =
-    let a : m ≡ n = cc in
-    let b : q ≡ p = cc in
-    rw (a, b)
+refused_not (Not m q) e = let r = same_refusal e in rw (r.0, r.1)
 
 module _ {s : List ℕ} {first n : ℕ} (ready : Ready s pnet first n) where
   -- an accepted sheet is the one that was read

@@ -41,15 +41,13 @@ fn by_spacing(
     ensures jitter_after { jitter.new ≡ filled (at_place (jitter_of (segment_in s.now))) n jitter.old }
 {
     let mut at = first;
-    let mut i: usize = 0;
-    while i < n {
+    for i in 0..n {
         let met = sheet_record::pnet_stream_at(s, at);
         let r = met.found;
         masters[i] = r.a as u8;
         spacing[i] = r.c;
         jitter[i] = r.e;
         at = met.next;
-        i += 1;
     }
 }
 
@@ -117,14 +115,12 @@ fn by_deadline(s: &[u8], first: usize, n: usize, masters: &mut [u8], deadlines: 
     ensures deadlines_after { deadlines.new ≡ filled (at_place (deadline_of (segment_in s.now))) n deadlines.old }
 {
     let mut at = first;
-    let mut i: usize = 0;
-    while i < n {
+    for i in 0..n {
         let met = sheet_record::pnet_stream_at(s, at);
         let r = met.found;
         masters[i] = r.a as u8;
         deadlines[i] = r.d;
         at = met.next;
-        i += 1;
     }
 }
 

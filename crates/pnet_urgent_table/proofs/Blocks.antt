@@ -32,7 +32,7 @@ module _ {V' : ℕ} {Ts Js : List ℕ} {K a : ℕ} {nexts rests : List ℕ} wher
       }
 
 -- none yet
-pub due_none : (V' : ℕ) (Ts Js : List ℕ) (a : ℕ) (nexts rests : List ℕ) → Due V' Ts Js 0 a nexts rests
+due_none : (V' : ℕ) (Ts Js : List ℕ) (a : ℕ) (nexts rests : List ℕ) → Due V' Ts Js 0 a nexts rests
 due_none V' Ts Js a nexts rests = due_each zero-le zero-le (λ j l. absurd (omega arith))
 
 -- one more
@@ -44,10 +44,6 @@ due_more {V'} {Ts} {Js} {j} {a} {nexts} {rests} due n r x y on =
     by : (i : ℕ) → i < j + 1 → Dec (i ≡ j) → Asking V' (at Ts i) (at Js i) a (at (set nexts j x) i) (at (set rests j y) i)
     by i l (yes e) = rw (e, get_or-set_same nexts j x 0 n, get_or-set_same rests j y 0 r) on
     by i l (no e) = rw (get_or-set_other nexts j i x 0 e, get_or-set_other rests j i y 0 e) (due_at due i (omega (arith, e)))
-
--- all
-pub due_all : {V' : ℕ} {Ts Js : List ℕ} {j a : ℕ} {nexts rests : List ℕ} (k : ℕ) → Due V' Ts Js j a nexts rests → j ≡ k → Due V' Ts Js k a nexts rests
-due_all k due e = rw e at due
 
 -- ---- Sums
 
@@ -75,20 +71,10 @@ module _ {V' : ℕ} {Ts Js : List ℕ} {K : ℕ} (slow : Slow V' Ts Js K) (n : �
   pub queued_small : (j : ℕ) → j ≤ K → queued V' Ts Js j n < 4294967295
   queued_small j h = omega (arith, queued_most j h, slow.few)
 
--- ---- A block, cleared
-
-pub cleared_more : (table : List ℕ) (t x : ℕ) → ((i : ℕ) → i < t → at table i ≡ 0) → t < length table → x ≡ 0 → (i : ℕ) → i < t + 1 → at (set table t x) i ≡ 0
-cleared_more table t x done less e i l = by (ℕ_discrete i t)
-  where
-    by : Dec (i ≡ t) → at (set table t x) i ≡ 0
-    by (yes q) = rw q (get_or-set_same table t x 0 less ∙ e)
-    by (no q) = get_or-set_other table t i x 0 q ∙ done i (omega (arith, q))
-
 -- ---- A block, stream by stream
 
 -- the first j streams are counted; of the others is kept what was
 pub record Going (V' : ℕ) (Ts Js : List ℕ) (K a : ℕ) (firsts first-rests : List ℕ) (j : ℕ) (nexts rests table : List ℕ) : Type 0 where
-  pub inside : j ≤ K
   pub due : Due V' Ts Js j (a + 512) nexts rests
   pub nexts_long : length nexts ≡ length firsts
   pub rests_long : length rests ≡ length first-rests
@@ -101,7 +87,6 @@ pub going_none : (V' : ℕ) (Ts Js : List ℕ) (K a : ℕ) (nexts rests table : 
     → Going V' Ts Js K a nexts rests 0 nexts rests table
 going_none V' Ts Js K a nexts rests table long none =
     record {
-      inside = zero-le;
       due = due_none V' Ts Js (a + 512) nexts rests;
       nexts_long = refl;
       rests_long = refl;
@@ -128,7 +113,6 @@ module _ {V' : ℕ} {Ts Js : List ℕ} {K a : ℕ} {firsts first-rests : List �
       → Going V' Ts Js K a firsts first-rests (j + 1) (set nexts j x) (set rests j y) new
   going_more x y new asking tallied long =
       record {
-        inside = omega arith;
         due = due_more on.due next_inside rest_inside x y asking;
         nexts_long = length-set nexts j x ∙ on.nexts_long;
         rests_long = length-set rests j y ∙ on.rests_long;
@@ -142,15 +126,10 @@ module _ {V' : ℕ} {Ts Js : List ℕ} {K a : ℕ} {firsts first-rests : List �
   pub going_room : Slow V' Ts Js K → a ≤ 20833333 → (t : ℕ) → t < 512 → at table t < 4294967295
   going_room slow near t l = omega (arith, on.risen.by t l, queued_small slow (a + t + 1) (omega arith) j (omega arith))
 
--- all are counted
-pub risen_all : {V' : ℕ} {Ts Js : List ℕ} {j a : ℕ} {table : List ℕ} (k : ℕ) → Risen V' Ts Js j a table → j ≡ k → Risen V' Ts Js k a table
-risen_all k risen e = rw e at risen
-
 -- ---- A block, added up
 
 -- the first t places are: each has what is in front of the block and all up to itself
 pub record Adding (base : ℕ) (old : List ℕ) (total t : ℕ) (table : List ℕ) : Type 0 where
-  pub inside : t ≤ 512
   pub total_is : total ≡ base + sum (at old) t
   pub long : length table ≡ 512
   pub done : (i : ℕ) → i < t → at table i ≡ base + sum (at old) (i + 1)
@@ -158,7 +137,7 @@ pub record Adding (base : ℕ) (old : List ℕ) (total t : ℕ) (table : List �
 
 pub adding_none : (base total : ℕ) (old : List ℕ) → total ≡ base → length old ≡ 512 → Adding base old total 0 old
 unfolding sum
-adding_none base total old e long = record { inside = zero-le; total_is = omega arith; long = long; done = λ i l. absurd (omega arith); ahead = λ i h. refl }
+adding_none base total old e long = record { total_is = omega arith; long = long; done = λ i l. absurd (omega arith); ahead = λ i h. refl }
 
 module _ {base : ℕ} {old : List ℕ} {total t : ℕ} {table : List ℕ} (on : Adding base old total t table) where
   -- the total with the next place
@@ -168,7 +147,6 @@ module _ {base : ℕ} {old : List ℕ} {total t : ℕ} {table : List ℕ} (on : 
   pub adding_more : t < 512 → Adding base old (total + at table t) (t + 1) (set table t (total + at table t))
   adding_more less =
       record {
-        inside = omega arith;
         total_is = adding_next;
         long = length-set table t (total + at table t) ∙ on.long;
         done = λ i l. by i l (ℕ_discrete i t);

@@ -9,7 +9,7 @@ ghost use Rattle.pnet_urgent_table.specs.Table.{queued, Slow, Due, Laid};
 ghost use Rattle.pnet_urgent_table.specs.Tally.{Asking, Tallied, Risen};
 
 // The slots of a block.
-pub const BLOCK: usize = 512;
+const BLOCK: u32 = 512;
 
 // What is kept of one stream between two blocks.
 #[derive(Clone, Copy)]
@@ -30,25 +30,11 @@ pub fn set_out(
     requires { Slow turn spacings.now jitters.now k × (k ≤ length nexts.old) × (k ≤ length rests.old) }
     ensures { Due turn spacings.now jitters.now k 0 nexts.new rests.new }
 {
-    let mut j: usize = 0;
-    while j < k {
+    for j in 0..k {
         let jitter = jitters[j];
         let first = spacings[j] - jitter;
         nexts[j] = first / turn;
         rests[j] = first % turn;
-        j += 1;
-    }
-}
-
-// Begins a block, in which nothing is counted yet.
-fn clear(table: &mut [u32])
-    requires { length table.old ≡ 512 }
-    ensures { (t : ℕ) → t < 512 → at table.new t ≡ 0 }
-{
-    let mut t: usize = 0;
-    while t < BLOCK {
-        table[t] = 0;
-        t += 1;
     }
 }
 
@@ -63,7 +49,7 @@ fn tally(turn: u32, spacing: u32, a: u32, kept: Ahead, table: &mut [u32]) -> Ahe
 {
     let whole = spacing / turn;
     let part = spacing % turn;
-    let end = a + 512;
+    let end = a + BLOCK;
     let mut next = kept.next;
     let mut rest = kept.rest;
     while next < end {
@@ -95,14 +81,12 @@ fn tally_all(
     ensures due { Due turn spacings.now jitters.now k (a + 512) nexts.new rests.new }
     ensures risen { Risen turn spacings.now jitters.now k a table.new }
 {
-    let mut j: usize = 0;
-    while j < k {
+    for j in 0..k {
         let next = nexts[j];
         let rest = rests[j];
         let ahead = tally(turn, spacings[j], a, Ahead { next, rest }, table);
         nexts[j] = ahead.next;
         rests[j] = ahead.rest;
-        j += 1;
     }
 }
 
@@ -112,11 +96,9 @@ fn add_up(base: u32, table: &mut [u32])
     ensures { (t : ℕ) → t < 512 → at table.new t ≡ base + sum (at table.old) (t + 1) }
 {
     let mut total = base;
-    let mut t: usize = 0;
-    while t < BLOCK {
-        total += table[t];
-        table[t] = total;
-        t += 1;
+    for x in table.iter_mut() {
+        total += *x;
+        *x = total;
     }
 }
 
@@ -137,7 +119,7 @@ pub fn lay(
     ensures due_2 { Due turn spacings.now jitters.now k (a + 512) nexts.new rests.new }
     ensures laid { Laid turn spacings.now jitters.now k a table.new }
 {
-    clear(table);
+    table.fill(0);
     tally_all(turn, spacings, jitters, k, a, nexts, rests, table);
     add_up(base, table);
 }

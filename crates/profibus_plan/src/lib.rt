@@ -27,10 +27,8 @@ fn together(messages: &[u32; 33], n: u32) -> u64
 {
     let last = n as usize;
     let mut total: u64 = 0;
-    let mut y: usize = 0;
-    while y < last {
-        y += 1;
-        total += messages[y] as u64;
+    for m in &messages[1..last + 1] {
+        total += *m as u64;
     }
     total
 }
@@ -54,8 +52,7 @@ fn largest_target(
     let mut borne = LONGEST;
     let mut limiting: usize = 0;
     let mut at = first;
-    let mut i: usize = 0;
-    while i < streams {
+    for i in 0..streams {
         let met = sheet_record::ring_stream_at(s, at);
         let r = met.found;
         let master = r.a as usize;
@@ -63,13 +60,15 @@ fn largest_target(
         let c = r.b as u64;
         let d = r.c as u64;
         at = met.next;
-        i += 1;
         if d < h * borne + c {
             if d < h * shortest + c {
-                return Err(Refusal { no: 9, place: i });
+                return Err(Refusal {
+                    no: 9,
+                    place: i + 1,
+                });
             }
             borne = (d - c) / h;
-            limiting = i;
+            limiting = i + 1;
         }
     }
     let rotation = RingPeriods((borne - longest) as u32);

@@ -67,8 +67,7 @@ fn put_streams(
         Wrote out.old at lines out.new result × (length lines ≤ n * most_line) }
 {
     let mut next = at;
-    let mut i = 0;
-    while i < n {
+    for i in 0..n {
         next = put_stream(
             out,
             next,
@@ -80,7 +79,6 @@ fn put_streams(
             above[i],
             left[i],
         );
-        i += 1;
     }
     next
 }

@@ -14,7 +14,7 @@ use text::{put_counted, put_word};
 pub fn shown(streams: usize) -> usize
     ensures { result ≡ min streams 800 }
 {
-    if streams < MOST { streams } else { MOST }
+    streams.min(MOST)
 }
 
 // How many of the first n streams have a figure other than 0 in a run.
@@ -22,15 +22,7 @@ fn exceeding(run: &[u64; MOST], n: usize) -> u64
     requires { n ≤ 800 }
     ensures { result ≡ Faults.exceeding (item run.now) n }
 {
-    let mut count: u64 = 0;
-    let mut i = 0;
-    while i < n {
-        if run[i] > 0 {
-            count += 1;
-        }
-        i += 1;
-    }
-    count
+    run[..n].iter().filter(|figure| **figure != 0).count() as u64
 }
 
 // The index of the first of them.
@@ -38,14 +30,7 @@ fn first(run: &[u64; MOST], n: usize) -> u64
     requires { n ≤ 800 }
     ensures { result ≡ Faults.first (item run.now) n }
 {
-    let mut i = 0;
-    while i < n {
-        if run[i] != 0 {
-            return i as u64;
-        }
-        i += 1;
-    }
-    i as u64
+    run[..n].iter().position(|figure| *figure != 0).unwrap_or(n) as u64
 }
 
 // Behind the words, how many streams have a figure other than 0 in a run, and the first; nothing where none has.

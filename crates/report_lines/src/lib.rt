@@ -65,11 +65,9 @@ fn put_idents(out: &mut [u8], at: usize, row: u64, names: &[u16; 64]) -> usize
 {
     let mut next = at;
     let mut rest = row;
-    let mut r = 0;
-    while r < 64 {
-        next = put_ident(out, next, rest % 2, names[r]);
+    for name in names {
+        next = put_ident(out, next, rest % 2, *name);
         rest /= 2;
-        r += 1;
     }
     next
 }

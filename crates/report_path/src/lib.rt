@@ -44,11 +44,9 @@ fn put_hops(
     ensures { Wrote out.old at (texts (hop_lines (item masters) (count_at bounds) (count_at times)) n) out.new result }
 {
     let mut next = at;
-    let mut i: usize = 0;
-    while i < n {
+    for i in 0..n {
         let segment = put_gateway(out, next, i as u64 + 1, times[i + 1]);
         next = put_segment(out, segment, i as u64 + 2, masters[i + 2], bounds[i + 2]);
-        i += 1;
     }
     next
 }

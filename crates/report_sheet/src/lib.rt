@@ -50,8 +50,7 @@ fn put_masters(
     ensures { Wrote out.old at (texts (master_at (item bound.now) (item refined.now) (item rounds.now)) n) out.new result }
 {
     let mut next = at;
-    let mut i = 0;
-    while i < n {
+    for i in 0..n {
         next = put_master(
             out,
             next,
@@ -60,7 +59,6 @@ fn put_masters(
             BitPeriods(refined[i]),
             rounds[i],
         );
-        i += 1;
     }
     next
 }
@@ -108,10 +106,8 @@ fn put_rows(out: &mut [u8], at: usize, rows: &[u64], count: usize, names: &[u16;
     ensures { Wrote out.old at (texts (row_at (item rows.now) (item names.now)) count) out.new result }
 {
     let mut next = at;
-    let mut m = 0;
-    while m < count {
-        next = put_row(out, next, m as u64, rows[m], names);
-        m += 1;
+    for (m, row) in rows[..count].iter().enumerate() {
+        next = put_row(out, next, m as u64, *row, names);
     }
     next
 }

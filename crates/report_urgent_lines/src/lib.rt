@@ -74,8 +74,7 @@ fn put_streams(
         Wrote out.old at lines out.new result × (length lines ≤ n * most_line) }
 {
     let mut next = at;
-    let mut i = 0;
-    while i < n {
+    for i in 0..n {
         next = put_stream(
             out,
             next,
@@ -86,7 +85,6 @@ fn put_streams(
             rounds[i],
             BitPeriods(deadlines[i]),
         );
-        i += 1;
     }
     next
 }
@@ -110,16 +108,6 @@ fn put_late(
     put_deadline(out, end, deadline)
 }
 
-// The index of a stream, whose numbers are counted from 1.
-fn index_of(number: usize) -> usize
-    ensures { result ≡ number - 1 }
-{
-    if number == 0 {
-        return 0;
-    }
-    number - 1
-}
-
 // The first of n streams that first-come queues refuse, and its bound there; nothing where its number is past the last.
 fn put_first_late(
     out: &mut [u8],
@@ -137,7 +125,7 @@ fn put_first_late(
     if n < late {
         return at;
     }
-    let i = index_of(late);
+    let i = late.saturating_sub(1);
     put_late(
         out,
         at,

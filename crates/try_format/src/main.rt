@@ -6,8 +6,8 @@
 
 ghost use Rattle.std.specs.Prelude.{◌≤◌, length};
 
+use common::Refusal;
 use sheet_record::Record;
-use sheet_write::Put;
 use std::io::Read;
 
 fn say(rt: &HostRuntime, text: &[u8]) {
@@ -56,13 +56,13 @@ fn say_next(rt: &HostRuntime, next: usize, s: &[u8], at: usize, r: Record) {
     }
 }
 
-fn say_answer(rt: &HostRuntime, p: Put, s: &[u8], at: usize, r: Record) {
-    match p {
-        Put::Refused { no, place } => {
-            say_with(rt, b"refused ", no as u64);
-            say_with(rt, b" at ", place as u64);
+fn say_answer(rt: &HostRuntime, answer: Result<usize, Refusal>, s: &[u8], at: usize, r: Record) {
+    match answer {
+        Ok(next) => say_next(rt, next, s, at, r),
+        Err(refusal) => {
+            say_with(rt, b"refused ", refusal.no as u64);
+            say_with(rt, b" at ", refusal.place as u64);
         }
-        Put::Next(next) => say_next(rt, next, s, at, r),
     }
 }
 
@@ -72,16 +72,14 @@ fn say_byte(rt: &HostRuntime, b: u8) {
 
 fn say_bytes(rt: &HostRuntime, s: &[u8]) {
     say(rt, b": ");
-    let mut i: usize = 0;
-    while i < s.len() {
-        say_byte(rt, s[i]);
-        i += 1;
+    for byte in s {
+        say_byte(rt, *byte);
     }
 }
 
 fn put(rt: &HostRuntime, lent: &mut [u8], at: usize, r: Record) {
-    let p = sheet_write::put_record(lent, at, r);
-    say_answer(rt, p, lent, at, r);
+    let answer = sheet_write::put_record(lent, at, r);
+    say_answer(rt, answer, lent, at, r);
     say_bytes(rt, lent);
 }
 
@@ -101,7 +99,7 @@ fn number(c: [u8; 30], at: usize) -> u32 {
 fn room_of(asked: u8) -> usize
     ensures { result ≤ 24 }
 {
-    if asked < 24 { asked as usize } else { 24 }
+    asked.min(24) as usize
 }
 
 fn record_of(c: [u8; 30]) -> Record {
@@ -137,14 +135,12 @@ fn try_line(rt: &HostRuntime, line: &[u8]) {
 }
 
 fn try_lines(rt: &HostRuntime, text: &[u8]) {
-    let mut start: usize = 0;
-    let mut i: usize = 0;
-    while i < text.len() {
-        if text[i] == b'\n' {
+    let mut start = 0;
+    for (i, byte) in text.iter().enumerate() {
+        if *byte == b'\n' {
             try_line(rt, &text[start..i]);
             start = i + 1;
         }
-        i += 1;
     }
 }
 

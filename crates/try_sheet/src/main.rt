@@ -4,9 +4,9 @@
 
 ghost use Rattle.std.specs.Prelude.{◌≤◌, length};
 
-use sheet_read::Reading;
+use common::Refusal;
+use sheet_read::Accepted;
 use sheet_record::Record;
-use sheet_write::Put;
 use std::io::Read;
 
 fn say(rt: &HostRuntime, text: &[u8]) {
@@ -22,27 +22,23 @@ fn say_with(rt: &HostRuntime, text: &[u8], n: u64) {
     say_number(rt, n);
 }
 
-fn say_accepted(rt: &HostRuntime, kind: u8, streams: usize, first: usize) {
-    say_with(rt, b": accepted, kind ", kind as u64);
-    say_with(rt, b", ", streams as u64);
-    say_with(rt, b" streams from ", first as u64);
+fn say_accepted(rt: &HostRuntime, sheet: Accepted) {
+    say_with(rt, b": accepted, kind ", sheet.head.kind as u64);
+    say_with(rt, b", ", sheet.streams as u64);
+    say_with(rt, b" streams from ", sheet.first as u64);
     say(rt, b"\n");
 }
 
-fn say_refused(rt: &HostRuntime, no: u8, place: usize) {
-    say_with(rt, b": refused ", no as u64);
-    say_with(rt, b" at ", place as u64);
+fn say_refused(rt: &HostRuntime, refusal: Refusal) {
+    say_with(rt, b": refused ", refusal.no as u64);
+    say_with(rt, b" at ", refusal.place as u64);
     say(rt, b"\n");
 }
 
-fn say_answer(rt: &HostRuntime, r: Reading) {
-    match r {
-        Reading::Accepted {
-            head,
-            streams,
-            first,
-        } => say_accepted(rt, head.kind, streams, first),
-        Reading::Refused { no, place } => say_refused(rt, no, place),
+fn say_answer(rt: &HostRuntime, answer: Result<Accepted, Refusal>) {
+    match answer {
+        Ok(sheet) => say_accepted(rt, sheet),
+        Err(refusal) => say_refused(rt, refusal),
     }
 }
 
@@ -105,11 +101,15 @@ fn put_all(buf: &mut [u8], from: usize, each: Record, least: u32, most: u32, n: 
     let mut a = least;
     let mut i: usize = 0;
     while i < n {
-        let p = sheet_write::put_record(buf, at, record_of(each.kind, a, each.b, each.c, each.d));
-        let Put::Next(e) = p else {
+        let answer = sheet_write::put_record(
+            buf,
+            at,
+            record_of(each.kind, a, each.b, each.c, each.d),
+        );
+        let Ok(next) = answer else {
             return at;
         };
-        at = e;
+        at = next;
         if a < most {
             a += 1;
         } else {

@@ -71,14 +71,12 @@ fn gather(s: &[u8], first: usize, n: usize) -> Variables
     let mut names: [u16; 64] = [0u16; 64];
     let mut periods: [u32; 64] = [0u32; 64];
     let mut at = first;
-    let mut i: usize = 0;
-    while i < n {
+    for i in 0..n {
         let met = sheet_record::variable_at(s, at);
         let r = met.found;
         names[i] = r.a as u16;
         periods[i] = r.b;
         at = met.next;
-        i += 1;
     }
     Variables { names, periods }
 }

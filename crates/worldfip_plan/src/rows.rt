@@ -2,7 +2,6 @@
 ghost use Rattle.std.specs.Prelude.{◌≡◌, ℕ, ◌%◌, ◌≤◌, ◌<◌, eqb, length, get_or};
 ghost use Rattle.std.specs.Int.Bits.{bit_or};
 ghost use Rattle.common.specs.Sums.{when};
-ghost use Rattle.common.specs.Runs.{filled};
 ghost use Rattle.worldfip_rules.specs.Build.{by_rank, row};
 ghost use Rattle.worldfip_plan.specs.Held.{Usable, Cleared, requests, given, missing};
 
@@ -15,10 +14,8 @@ fn mark(p: usize, rows: usize, x: u64, t: &mut [u64])
     requires { (0 < p) × (p < 4294967296) × (rows < length t.old) × (rows ≤ 4096) }
     ensures { (m : ℕ) → m ≤ rows → get_or t.new m 0 ≡ bit_or (get_or t.old m 0) (when (eqb (m % p) 0) x) }
 {
-    let mut at: usize = 0;
-    while at <= rows {
+    for at in (0..rows + 1).step_by(p) {
         t[at] = t[at] | x;
-        at += p;
     }
 }
 
@@ -30,12 +27,10 @@ fn mark_all(q: &[u32], n: usize, rows: usize, t: &mut [u64])
     ensures { (m : ℕ) → m ≤ rows → get_or t.new m 0 ≡ requests q.now n m }
 {
     let mut group: u64 = 0;
-    let mut r: usize = 0;
-    while r < n {
+    for r in 0..n {
         let p = q[r];
         group = group | single(r as u32);
-        r += 1;
-        if q[r] != p {
+        if q[r + 1] != p {
             mark(p as usize, rows, group, t);
             group = 0;
         }
@@ -53,8 +48,7 @@ pub(crate) fn build(q: &[u32], n: usize, s: u32, rows: usize, t: &mut [u64]) -> 
 {
     mark_all(q, n, rows, t);
     let mut pending: u64 = 0;
-    let mut m: usize = 0;
-    while m <= rows {
+    for m in 0..rows + 1 {
         let new = t[m];
         let late = pending & new;
         if late != 0 {
@@ -64,19 +58,6 @@ pub(crate) fn build(q: &[u32], n: usize, s: u32, rows: usize, t: &mut [u64]) -> 
         let served = row_of(ready, s);
         t[m] = served;
         pending = ready ^ served;
-        m += 1;
     }
     0
-}
-
-// Puts the first n numbers of t in the first places of a lent run.
-pub(crate) fn copy(t: &[u64], n: usize, out: &mut [u64])
-    requires { (n ≤ length t.now) × (n ≤ length out.old) }
-    ensures { out.new ≡ filled (λ m. get_or t.now m 0) n out.old }
-{
-    let mut m: usize = 0;
-    while m < n {
-        out[m] = t[m];
-        m += 1;
-    }
 }

@@ -46,12 +46,9 @@ unfolding left
 left_more best s x h = simp (ne_eqb x 0 (λ e. omega arith))
 
 -- one turn of the loop that takes the best out
-pub left_turn : (best : ℕ → ℕ) (k p t y z : ℕ) → 0 < k → 0 < p → t ≡ best p → y ≡ 2 ^ t → left best k p ≡ z
-    → left best (k - 1) (bit_xor p y) ≡ z
-left_turn best zero p t y z hk hp et ey e = omega arith
-left_turn best (suc k) p t y z hk hp et ey e =
-    let a : suc k - 1 ≡ k = omega arith in
-    rw (a, ey, et) (sym (left_more best k p hp) ∙ e)
+pub left_turn : (best : ℕ → ℕ) (j k p t y z : ℕ) → k ≡ suc j → 0 < p → t ≡ best p → y ≡ 2 ^ t → left best k p ≡ z
+    → left best j (bit_xor p y) ≡ z
+left_turn best j k p t y z ek hp et ey e = rw (ey, et) (sym (left_more best j p hp) ∙ (rw ek at e))
 
 -- ---- For any choice of a member
 

@@ -16,7 +16,7 @@ fn shifted(r: u32) -> u64
 pub fn single(r: u32) -> u64
     ensures { result ≡ alone r }
 {
-    if r < 64 { shifted(r) } else { 0 }
+    1u64.checked_shl(r).unwrap_or(0)
 }
 
 // The lowest member of x, and 64 if there is none.
@@ -31,13 +31,11 @@ fn leave(x: u64, s: u32) -> u64
     ensures { result ≡ left lowest s x }
 {
     let mut p = x;
-    let mut k = s;
-    while 0 < k {
+    for _ in 0..s {
         if p == 0 {
             return 0;
         }
         p = p ^ shifted(first_of(p));
-        k -= 1;
     }
     p
 }

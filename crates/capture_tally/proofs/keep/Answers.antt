@@ -18,9 +18,9 @@ returns c =
     record {
       left_after = rw k refl;
       since_after = rw k refl;
-      answers_after = rw k (ap (set a.answers.now (spot a.e)) c.wrapping_add_u64.ensures.value);
-      largest_after = rw k (ap (set a.largest.now (spot a.e)) (c.larger.ensures ∙ ap (max (get_or a.largest.now (spot a.e) 0)) shown));
+      answers_after = rw k refl;
+      largest_after = rw k (ap (set a.largest.now (spot a.e)) (c.max.ensures ∙ ap (max (get_or a.largest.now (spot a.e) 0)) shown));
       above_after =
-          rw k (ap (set a.above.now (spot a.e)) (c.wrapping_add_u64-2.ensures.value
-          ∙ ap (λ (x : ℕ). (get_or a.above.now (spot a.e) 0 + x) % 2 ^ 64) (c.exceeds.ensures ∙ ap (λ (x : ℕ). when (ltb (get_or a.bound.now (spot a.e) 0) x) 1) shown)));
+          rw k (ap (set a.above.now (spot a.e))
+          (ap (λ (x : ℕ). (get_or a.above.now (spot a.e) 0 + x) % 2 ^ 64) (c.exceeds.ensures ∙ ap (λ (x : ℕ). when (ltb (get_or a.bound.now (spot a.e) 0) x) 1) shown)));
     }

@@ -1,7 +1,8 @@
 -- `capture_tally::on_sheet` meets its contract.
-use Rattle.capture_tally.proofs.Judged.{within_min}
-use Rattle.capture_tally.specs.Pieces.{most}
+use Rattle.std.proofs.Common.{refl}
+use Rattle.sheet_record.specs.Kinds.{within}
 use Rattle.capture_tally.proofs.on_sheet.Goals as goal
 
 pub returns : goal.returns
-returns c = within_min _ _ most
+unfolding within
+returns c = rw c.min.ensures refl

@@ -1,11 +1,7 @@
 -- `capture_watch::overdue_each` meets its contract. The invariant: the run is filled up to stream i.
-use Prim.Native.Nat.{◌-◌, ◌≤◌}
 use Rattle.common.proofs.Runs.{Filling}
-use Rattle.capture_watch.specs.Follow.{most, overdue_at}
+use Rattle.capture_watch.specs.Follow.{overdue_at}
 use Rattle.capture_watch.proofs.overdue_each.Given as goal
 
 abbrev pub invariant-loop-i : goal.invariant-loop-i
-invariant-loop-i l = (l.i ≤ most) × Filling (overdue_at l.clock l.bound l.left l.asked) l.i l.initial.late l.late
-
-abbrev pub decreases-loop-i : goal.decreases-loop-i
-decreases-loop-i l = most - l.i
+invariant-loop-i l = Filling (overdue_at l.clock l.bound l.left l.asked) l.i l.initial.late l.late

@@ -1,8 +1,5 @@
-use mathlib.Core.Path.{◌≡◌}
-use Prim.Native.Nat.{◌-◌}
 use native.Mathlib.Omega.{arith}
-use borrow.Author.Rules.{rules}
-use Rattle.common.proofs.Runs.{filling_none, filling_more, filling_done}
+use Rattle.common.proofs.Runs.{filling_none, filling_more}
 use Rattle.pnet_plan.proofs.Bytes.{Here, here}
 use Rattle.pnet_late.proofs.Small.{Small, stays_small}
 use Rattle.pnet_bounds.proofs.Bounded.{Placed, placed}
@@ -10,14 +7,21 @@ use Rattle.pnet_bounds.proofs.by_stream.Goals as goal
 use Rattle.pnet_bounds.proofs.by_stream.Goals.{After-pnet_stream_at-met}
 
 pub loop-i-init : goal.loop-i-init
-loop-i-init c = (search rules, c.requires.ready.0.starts, filling_none _ _, filling_none _ _, filling_none _ _, filling_none _ _)
+loop-i-init c =
+    record {
+      stands = c.requires.ready.0.starts;
+      masters = filling_none _ _;
+      bound = filling_none _ _;
+      spacing = filling_none _ _;
+      jitter = filling_none _ _;
+    }
 
 -- what is met is stream i + 1
 its : (c : After-pnet_stream_at-met)
     → Here c.args.s.now c.loop-i.i c.pnet_stream_at-met.result
 its c =
     let l = c.loop-i in
-    here c.requires.ready.0 l.i l.at c.pnet_stream_at-met.result (omega arith) l.invariant.1
+    here c.requires.ready.0 l.i l.at c.pnet_stream_at-met.result (omega arith) l.invariant.stands
     c.pnet_stream_at-met.ensures
 
 -- its master and what is multiplied for its bound are small
@@ -39,26 +43,11 @@ stream c =
 pub overflow_cast-masters : goal.overflow_cast-masters
 overflow_cast-masters c = omega (arith, small (goal.at.overflow_cast-masters c).After-pnet_stream_at-met)
 
-pub overflow_cast-bound : goal.overflow_cast-bound
-overflow_cast-bound c = omega (arith, small (goal.at.overflow_cast-bound c).After-pnet_stream_at-met)
-
 pub bounds-counts-r : goal.bounds-counts-r
 bounds-counts-r c = omega (arith, small (goal.at.bounds-counts-r c).After-pnet_stream_at-met)
 
-pub overflow_cast-bound-in-loop-i : goal.overflow_cast-bound-in-loop-i
-overflow_cast-bound-in-loop-i c = omega (arith, small (goal.at.overflow_cast-bound-in-loop-i c).After-pnet_stream_at-met)
-
 pub overflow_mul-bound : goal.overflow_mul-bound
 overflow_mul-bound c = omega (arith, small (goal.at.overflow_mul-bound c).After-pnet_stream_at-met)
-
-pub offset_bounds-bound-i : goal.offset_bounds-bound-i
-offset_bounds-bound-i c = omega (arith, small (goal.at.offset_bounds-bound-i c).After-pnet_stream_at-met)
-
-pub offset_bounds-spacing-i : goal.offset_bounds-spacing-i
-offset_bounds-spacing-i c = omega (arith, small (goal.at.offset_bounds-spacing-i c).After-pnet_stream_at-met)
-
-pub offset_bounds-jitter-i : goal.offset_bounds-jitter-i
-offset_bounds-jitter-i c = omega (arith, small (goal.at.offset_bounds-jitter-i c).After-pnet_stream_at-met)
 
 pub loop-i-preserved : goal.loop-i-preserved
 loop-i-preserved c =
@@ -66,28 +55,10 @@ loop-i-preserved c =
     let l = x.loop-i in
     let w = stream (goal.at.loop-i-preserved x).After-pnet_stream_at-met in
     let fits = x.requires.ready in
-    (search rules, (its (goal.at.loop-i-preserved x).After-pnet_stream_at-met).next, filling_more _ l.invariant.2 (omega (arith, fits.1)) w.master, filling_more _ l.invariant.3 (omega (arith, fits.2)) w.bounds, filling_more _ l.invariant.4 (omega (arith, fits.3)) w.spaced, filling_more _ l.invariant.5 (omega (arith, fits.4)) w.jittered)
-
-pub shape_of-masters : goal.shape_of-masters
-shape_of-masters c = c.loop-i.invariant.2.long
-
-pub shape_of-bound : goal.shape_of-bound
-shape_of-bound c = c.loop-i.invariant.3.long
-
-pub shape_of-spacing : goal.shape_of-spacing
-shape_of-spacing c = c.loop-i.invariant.4.long
-
-pub shape_of-jitter : goal.shape_of-jitter
-shape_of-jitter c = c.loop-i.invariant.5.long
-
-pub returns : goal.returns
-returns c =
-    let n = c.args.n in
-    let l = c.loop-i in
-    let e : l.i ≡ n = omega arith in
     record {
-      masters_after = filling_done n l.invariant.2 e;
-      bound_after = filling_done n l.invariant.3 e;
-      spacing_after = filling_done n l.invariant.4 e;
-      jitter_after = filling_done n l.invariant.5 e;
+      stands = (its (goal.at.loop-i-preserved x).After-pnet_stream_at-met).next;
+      masters = filling_more _ l.invariant.masters (omega (arith, fits.1)) w.master;
+      bound = filling_more _ l.invariant.bound (omega (arith, fits.2)) w.bounds;
+      spacing = filling_more _ l.invariant.spacing (omega (arith, fits.3)) w.spaced;
+      jitter = filling_more _ l.invariant.jitter (omega (arith, fits.4)) w.jittered;
     }

@@ -1,11 +1,7 @@
--- `pnet_crossing::first_without` meets its contract. The invariant: i is reached, and no segment before it is without a sender.
-use Prim.Native.Nat.{◌+◌, ◌-◌}
+-- `pnet_crossing::first_without` meets its contract. The invariant: no segment before it is without a sender.
 use Rattle.pnet_crossing.specs.Cost.{no_bound}
 use Rattle.pnet_crossing.proofs.Laws.{Searched}
 use Rattle.pnet_crossing.proofs.first_without.Given as goal
 
 abbrev pub invariant-loop-i : goal.invariant-loop-i
-invariant-loop-i l = Searched (no_bound l.bounds) l.n l.i
-
-abbrev pub decreases-loop-i : goal.decreases-loop-i
-decreases-loop-i l = l.n + 1 - l.i
+invariant-loop-i l = Searched (no_bound l.bounds) l.i

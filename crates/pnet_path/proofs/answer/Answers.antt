@@ -2,10 +2,8 @@
 use Rattle.pnet_path.proofs.Laws.{answer_of_refused, answer_of_others}
 use Rattle.pnet_path.proofs.answer.Goals as goal
 
-pub returns-then-way : goal.returns-then-way
-returns-then-way c = answer_of_refused c.args.way _ c.if-way.true
+pub returns-in-Some : goal.returns-in-Some
+returns-in-Some c = answer_of_refused c.args.way _ c.in-Some.is
 
 pub returns : goal.returns
-returns c =
-    let g = c in
-    answer_of_others g.args.way _ g.if-way.false _ g.gateways_of-gateways.ensures c.over_gateways.result c.over_gateways.ensures
+returns c = answer_of_others c.args.way _ c.in_default.is _ c.saturating_sub-gateways.ensures c.over_gateways.result c.over_gateways.ensures

@@ -3,21 +3,19 @@ use mathlib.Core.Path.{sym, ◌∙◌}
 use Rattle.pnet_path.proofs.Laws.{over_stays, over_told}
 use Rattle.pnet_path.proofs.over.Goals as goal
 
-pub returns-then-way : goal.returns-then-way
-returns-then-way c =
+pub returns-then-is_some : goal.returns-then-is_some
+returns-then-is_some c =
     let a = c.args in
-    sym (over_stays a.way a.forwarding.0 a.s.now a.master c.if-way.true)
+    sym (over_stays a.way a.forwarding.0 a.s.now a.master (sym c.is_some.ensures ∙ c.if-is_some.true))
 
-pub returns-in-Bound : goal.returns-in-Bound
-returns-in-Bound c =
-    let b = c in
-    let a = b.args in
-    over_told a.way a.forwarding.0 a.s.now a.master b.if-way.false _ (sym c.in-Bound.is ∙ b.bound_of-sender.ensures)
+pub returns-in-Ok : goal.returns-in-Ok
+returns-in-Ok c =
+    let a = c.args in
+    over_told a.way a.forwarding.0 a.s.now a.master (sym c.is_some.ensures ∙ c.if-is_some.false) _ (sym c.in-Ok.is ∙ c.bound_of.ensures)
     c.further.result c.further.ensures
 
-pub returns-in-Refused : goal.returns-in-Refused
-returns-in-Refused c =
-    let b = c in
-    let a = b.args in
-    over_told a.way a.forwarding.0 a.s.now a.master b.if-way.false _ (sym c.in-Refused.is ∙ b.bound_of-sender.ensures)
+pub returns-in-Err : goal.returns-in-Err
+returns-in-Err c =
+    let a = c.args in
+    over_told a.way a.forwarding.0 a.s.now a.master (sym c.is_some.ensures ∙ c.if-is_some.false) _ (sym c.in-Err.is ∙ c.bound_of.ensures)
     c.stopped.result c.stopped.ensures

@@ -1,10 +1,8 @@
 use mathlib.Core.Path.{◌≡◌, ap, ◌∙◌, subst}
-use mathlib.Core.Bool.{false}
-use Prim.Native.Nat.{ℕ, ◌+◌, ◌-◌, ◌*◌, ◌≤◌}
+use Prim.Native.Nat.{ℕ, ◌+◌, ◌*◌, ◌≤◌}
 use native.Mathlib.Nat.{mul-le-mul}
 use native.Mathlib.Omega.{arith}
-use borrow.Author.Count.{below_none, below_more}
-use borrow.Author.Rules.{rules}
+use borrow.Author.Count.{below_more}
 use lib.ListN.{length, set, length-set}
 use Rattle.common.specs.Sums.{first_of}
 use Rattle.common.proofs.Firsts.{first_here, first_nowhere}
@@ -17,15 +15,12 @@ use Rattle.pnet_plan.proofs.Bytes.{Here, Small, declares, number_is, here, its_m
 use Rattle.pnet_plan.proofs.place.Goals as goal
 use Rattle.pnet_plan.proofs.place.Goals.{After-pnet_stream_at-met}
 
-pub loop-i-init : goal.loop-i-init
-loop-i-init c = let p = c.requires in (search rules, p.ready.0.starts, p.grouped, below_none _, search rules)
-
 -- what is met is stream i + 1
 its : (c : After-pnet_stream_at-met)
     → Here c.args.s.now c.loop-i.i c.pnet_stream_at-met.result
 its c =
     let l = c.loop-i in
-    here c.requires.ready.0 l.i l.at c.pnet_stream_at-met.result (omega arith) l.invariant.1 c.pnet_stream_at-met.ensures
+    here c.requires.ready.0 l.i l.at c.pnet_stream_at-met.result (omega arith) l.invariant.stands c.pnet_stream_at-met.ensures
 
 -- of one of the masters
 master : (c : After-pnet_stream_at-met) → c.pnet_stream_at-met.result.found.a ≤ 32
@@ -34,10 +29,7 @@ master c = its_master c.requires.ready.0 (omega arith) c.pnet_stream_at-met.resu
 -- and there is a place for it
 few : (c : After-pnet_stream_at-met)
     → Small c.pnet_stream_at-met.result.found.a (at c.loop-i.ends c.pnet_stream_at-met.result.found.a) (length c.loop-i.pairs)
-few c = small c.requires.ready.0 (omega arith) c.pnet_stream_at-met.result (its c) c.loop-i.invariant.2
-
-pub overflow_cast-m : goal.overflow_cast-m
-overflow_cast-m c = omega (arith, master (goal.at.overflow_cast-m c).After-pnet_stream_at-met)
+few c = small c.requires.ready.0 (omega arith) c.pnet_stream_at-met.result (its c) c.loop-i.invariant.grouped
 
 pub bounds-counts-m : goal.bounds-counts-m
 bounds-counts-m c = omega (arith, master (goal.at.bounds-counts-m c).After-pnet_stream_at-met)
@@ -54,9 +46,6 @@ v-small c =
     let p = c.requires in
     omega (arith, p.turn_value.0, turn_at_most (segment_in a.s.now) (declares p.ready.0))
 
-pub overflow_cast-bound : goal.overflow_cast-bound
-overflow_cast-bound c = omega (arith, count_small (goal.at.overflow_cast-bound c).After-pnet_stream_at-met)
-
 pub overflow_mul-bound : goal.overflow_mul-bound
 overflow_mul-bound c =
     let r = c in
@@ -72,31 +61,13 @@ returns-then-r-bound c =
     let p = r.requires in
     let S = segment_in a.s.now in
     let hit = its_late p.ready.0 (omega arith) r.pnet_stream_at-met.result (its (goal.at.returns-then-r-bound r).After-pnet_stream_at-met) a.counts.now a.turn p.turn_value.1 p.turn_value.0 c.if-r-bound.true in
-    (first_here (late S) S.number l.i l.invariant.3 (omega (arith, number_is p.ready.0)) hit, λ over. absurd (omega arith))
-
-pub offset_bounds-ends-m : goal.offset_bounds-ends-m
-offset_bounds-ends-m c = omega (arith, master (goal.at.offset_bounds-ends-m c).After-pnet_stream_at-met)
+    (first_here (late S) S.number l.i l.invariant.in_time (omega (arith, number_is p.ready.0)) hit, λ over. absurd (omega arith))
 
 pub bounds-ends-m : goal.bounds-ends-m
 bounds-ends-m c = omega (arith, master (goal.at.bounds-ends-m c).After-pnet_stream_at-met)
 
-pub overflow_cast-p : goal.overflow_cast-p
-overflow_cast-p c = omega (arith, few (goal.at.overflow_cast-p c).After-pnet_stream_at-met)
-
-pub overflow_mul-p : goal.overflow_mul-p
-overflow_mul-p c = omega (arith, few (goal.at.overflow_mul-p c).After-pnet_stream_at-met)
-
-pub offset_bounds-pairs-p : goal.offset_bounds-pairs-p
-offset_bounds-pairs-p c = omega (arith, few (goal.at.offset_bounds-pairs-p c).After-pnet_stream_at-met)
-
 pub bounds-pairs-p : goal.bounds-pairs-p
 bounds-pairs-p c = omega (arith, few (goal.at.bounds-pairs-p c).After-pnet_stream_at-met)
-
-pub overflow_add-pairs : goal.overflow_add-pairs
-overflow_add-pairs c = omega (arith, few (goal.at.overflow_add-pairs c).After-pnet_stream_at-met)
-
-pub offset_bounds-pairs-p-in-loop-i : goal.offset_bounds-pairs-p-in-loop-i
-offset_bounds-pairs-p-in-loop-i c = omega (arith, few (goal.at.offset_bounds-pairs-p-in-loop-i c).After-pnet_stream_at-met)
 
 pub bounds-pairs-p-in-loop-i : goal.bounds-pairs-p-in-loop-i
 bounds-pairs-p-in-loop-i c =
@@ -108,14 +79,8 @@ bounds-pairs-p-in-loop-i c =
 pub overflow_add-ends : goal.overflow_add-ends
 overflow_add-ends c = omega (arith, few (goal.at.overflow_add-ends c).After-pnet_stream_at-met)
 
-pub offset_bounds-ends-m-in-loop-i : goal.offset_bounds-ends-m-in-loop-i
-offset_bounds-ends-m-in-loop-i c = omega (arith, few (goal.at.offset_bounds-ends-m-in-loop-i c).After-pnet_stream_at-met)
-
 pub bounds-ends-m-in-loop-i : goal.bounds-ends-m-in-loop-i
 bounds-ends-m-in-loop-i c = omega (arith, few (goal.at.bounds-ends-m-in-loop-i c).After-pnet_stream_at-met)
-
-pub offset_bounds-slacks-m : goal.offset_bounds-slacks-m
-offset_bounds-slacks-m c = omega (arith, few (goal.at.offset_bounds-slacks-m c).After-pnet_stream_at-met)
 
 pub bounds-slacks-m : goal.bounds-slacks-m
 bounds-slacks-m c = omega (arith, few (goal.at.bounds-slacks-m c).After-pnet_stream_at-met)
@@ -125,9 +90,6 @@ pub overflow_sub-r : goal.overflow_sub-r
 overflow_sub-r c =
     let r = c in
     omega (arith, its_jitter r.requires.ready.0 (omega arith) r.pnet_stream_at-met.result (its (goal.at.overflow_sub-r r).After-pnet_stream_at-met))
-
-pub offset_bounds-slacks-m-in-loop-i : goal.offset_bounds-slacks-m-in-loop-i
-offset_bounds-slacks-m-in-loop-i c = omega (arith, few (goal.at.offset_bounds-slacks-m-in-loop-i c).After-pnet_stream_at-met)
 
 pub bounds-slacks-m-in-loop-i : goal.bounds-slacks-m-in-loop-i
 bounds-slacks-m-in-loop-i c = omega (arith, few (goal.at.bounds-slacks-m-in-loop-i c).After-pnet_stream_at-met)
@@ -139,14 +101,14 @@ loop-i-preserved c =
     let a = r.args in
     let p = r.requires in
     let f = r.pnet_stream_at-met.result.found in
-    let place = 2 * at l.ends f.a in (
-      search rules,
-      (its (goal.at.loop-i-preserved r).After-pnet_stream_at-met).next,
-      grouped_next p.ready.0 (omega arith) r.pnet_stream_at-met.result (its (goal.at.loop-i-preserved r).After-pnet_stream_at-met) l.invariant.2 c.smaller.result (omega (arith, c.smaller.ensures)),
-      below_more _ _ l.invariant.3
-          (its_not_late p.ready.0 (omega arith) r.pnet_stream_at-met.result (its (goal.at.loop-i-preserved r).After-pnet_stream_at-met) a.counts.now a.turn p.turn_value.1 p.turn_value.0 (omega (arith, c.if-r-bound.false))),
-      length-set (set l.pairs place f.c) (place + 1) f.e ∙ (length-set l.pairs place f.c ∙ l.invariant.4),
-    )
+    let place = 2 * at l.ends f.a in
+    let its_here = its (goal.at.loop-i-preserved r).After-pnet_stream_at-met in
+    record {
+      stands = its_here.next;
+      grouped = grouped_next p.ready.0 (omega arith) r.pnet_stream_at-met.result its_here l.invariant.grouped c.min.result (omega arith);
+      in_time = below_more _ _ l.invariant.in_time (its_not_late p.ready.0 (omega arith) r.pnet_stream_at-met.result its_here a.counts.now a.turn p.turn_value.1 p.turn_value.0 (omega (arith, c.if-r-bound.false)));
+      long = length-set (set l.pairs place f.c) (place + 1) f.e ∙ (length-set l.pairs place f.c ∙ l.invariant.long);
+    }
 
 pub returns : goal.returns
 unfolding first_late
@@ -156,4 +118,4 @@ returns c =
     let p = c.requires in
     let S = segment_in a.s.now in
     let e : l.i ≡ a.streams = omega arith in
-    (first_nowhere (late S) a.streams l.i l.invariant.3 e ∙ ap (λ (k : ℕ). first_of (late S) k 1) (number_is p.ready.0), λ over. subst (λ (k : ℕ). Grouped S k l.ends l.slacks l.pairs) e l.invariant.2)
+    (first_nowhere (late S) a.streams l.i l.invariant.in_time e ∙ ap (λ (k : ℕ). first_of (late S) k 1) (number_is p.ready.0), λ over. subst (λ (k : ℕ). Grouped S k l.ends l.slacks l.pairs) e l.invariant.grouped)

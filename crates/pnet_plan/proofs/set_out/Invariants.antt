@@ -1,4 +1,4 @@
--- `set_out` meets its contract. The invariant: the first y masters are set out, and `end` is behind their pairs.
+-- `set_out` meets its contract. The invariant: the masters before y are set out, and `end` is behind their pairs.
 use mathlib.Core.Path.{◌≡◌}
 use Prim.Native.Nat.{◌-◌, ◌*◌, ◌≤◌}
 use Rattle.common.specs.Sums.{upto}
@@ -8,7 +8,8 @@ use Rattle.pnet_plan.proofs.set_out.Given as goal
 
 abbrev pub invariant-loop-y : goal.invariant-loop-y
 invariant-loop-y l =
-    (l.y ≤ l.n) × (l.end ≤ 80 * l.y) × (l.end ≡ upto (at l.counts) l.y) × SetOut l.counts (charged_in l.counts l.longests l.n l.edition) l.y l.charges l.ends
-
-abbrev pub decreases-loop-y : goal.decreases-loop-y
-decreases-loop-y l = l.n - l.y
+    record {
+      small : l.end ≤ 80 * (l.y - 1);
+      behind : l.end ≡ upto (at l.counts) (l.y - 1);
+      set_out : SetOut l.counts (charged_in l.counts l.longests l.n l.edition) (l.y - 1) l.charges l.ends;
+    }

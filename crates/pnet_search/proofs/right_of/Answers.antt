@@ -1,67 +1,39 @@
 use mathlib.Core.Path.{◌≡◌, ap, ◌∙◌}
-use Prim.Native.Nat.{ℕ, ◌+◌, ◌-◌, ◌*◌, ◌≤◌}
+use Prim.Native.Nat.{ℕ, ◌-◌, ◌*◌, ◌≤◌}
 use native.Mathlib.Omega.{arith}
-use borrow.Author.Rules.{rules}
 use Rattle.common.specs.Sums.{upto}
-use Rattle.common.proofs.Sums.{upto_none, upto_more}
+use Rattle.common.proofs.Sums.{upto_none}
 use Rattle.pnet_turn.specs.Turn.{at}
+use Rattle.pnet_turn.proofs.Charges.{upto_next}
 use Rattle.pnet_search.specs.Arrays.{turn_in, bound_in, saved_in, right_in}
 use Rattle.pnet_search.proofs.Arrays.{turn_small, saved_in_small, saved_at_most, bound_is, bound_small}
 use Rattle.pnet_search.proofs.Searching.{Renewed, renewed_still, renewed_anew}
 use Rattle.pnet_search.proofs.right_of.Goals as goal
 use Rattle.pnet_search.proofs.right_of.Goals.{After-loop-y, In-loop-y, Joined-until-y, Start, else-until-y, then-until-y}
 
-pub bounds-counts-k : goal.bounds-counts-k
-bounds-counts-k c = omega (arith, c.requires.le_k.3.few)
-
 -- s is small
 few : (c : Start) → at c.args.counts.now c.args.k ≤ 80
 few c = (c.requires.le_k.3.each c.args.k c.requires.le_k.0 c.requires.le_k.1).count_to
 
-pub overflow_cast-s : goal.overflow_cast-s
-overflow_cast-s c = omega (arith, few (goal.at.overflow_cast-s c).Start)
-
 pub loop-y-init : goal.loop-y-init
 loop-y-init c =
     let a = c.args in
-    (search rules, upto_none (saved_in a.counts.now a.charges.now a.ends.now a.pairs.now a.turn a.k a.w), search rules, c.requires.fresh)
+    record { sum = upto_none (saved_in a.counts.now a.charges.now a.ends.now a.pairs.now a.turn a.k a.w); small = omega arith; fresh = c.requires.fresh }
 
--- the next master
-inside : (c : In-loop-y) → c.loop-y.y + 1 ≤ 32
+inside : (c : In-loop-y) → c.loop-y.y ≤ 32
 inside c = omega (arith, c.requires.le_k.3.few)
-
-pub overflow_add-y : goal.overflow_add-y
-overflow_add-y c = omega (arith, inside (goal.at.overflow_add-y c).In-loop-y)
-
-pub offset_bounds-until-y : goal.offset_bounds-until-y
-offset_bounds-until-y c = omega (arith, inside (goal.at.offset_bounds-until-y c).In-loop-y)
-
-pub bounds-until-y : goal.bounds-until-y
-bounds-until-y c = omega (arith, inside (goal.at.bounds-until-y c).In-loop-y)
 
 pub saving_at-again-requires : goal.saving_at-again-requires
 saving_at-again-requires c =
     let p = c.requires.le_k in
-    (turn_small p.3, few (goal.at.saving_at-again-requires c).Start, p.2, p.3.each (c.loop-y.y + 1) (omega arith) (omega arith))
-
-pub offset_bounds-saved-y : goal.offset_bounds-saved-y
-offset_bounds-saved-y c = omega (arith, inside (goal.at.offset_bounds-saved-y c).In-loop-y)
-
-pub bounds-saved-y : goal.bounds-saved-y
-bounds-saved-y c = omega (arith, inside (goal.at.bounds-saved-y c).In-loop-y)
-
-pub offset_bounds-until-y-then-until-y : goal.offset_bounds-until-y-then-until-y
-offset_bounds-until-y-then-until-y c = omega (arith, inside (goal.at.offset_bounds-until-y-then-until-y c).In-loop-y)
-
-pub bounds-until-y-then-until-y : goal.bounds-until-y-then-until-y
-bounds-until-y-then-until-y c = omega (arith, inside (goal.at.bounds-until-y-then-until-y c).In-loop-y)
+    (turn_small p.3, few (goal.at.saving_at-again-requires c).Start, p.2, p.3.each c.loop-y.y (omega arith) (omega arith))
 
 -- where the two ways meet
 renewed : (c : Joined-until-y)
-    → Renewed c.args.counts.now c.args.charges.now c.args.ends.now c.args.pairs.now c.args.n c.args.turn c.args.k c.args.w (c.loop-y.y + 1) c.if-until-y.saved c.if-until-y.until
+    → Renewed c.args.counts.now c.args.charges.now c.args.ends.now c.args.pairs.now c.args.n c.args.turn c.args.k c.args.w c.loop-y.y c.if-until-y.saved c.if-until-y.until
 renewed c =
-    let fresh = c.loop-y.invariant.3 in
-    let y = c.loop-y.y + 1 in
+    let fresh = c.loop-y.invariant.fresh in
+    let y = c.loop-y.y in
     let m = c.if-until-y in
     let few = c.requires.le_k.3.few in
     elim c.if-until-y.branch [
@@ -71,24 +43,18 @@ renewed c =
 
 -- so what is added is what is saved there, and small
 added : (c : Joined-until-y)
-    → at c.if-until-y.saved (c.loop-y.y + 1) ≡ saved_in c.args.counts.now c.args.charges.now c.args.ends.now c.args.pairs.now c.args.turn c.args.k c.args.w (c.loop-y.y + 1)
+    → at c.if-until-y.saved c.loop-y.y ≡ saved_in c.args.counts.now c.args.charges.now c.args.ends.now c.args.pairs.now c.args.turn c.args.k c.args.w c.loop-y.y
 added c =
     let r = renewed c in
-    r.fresh.right (c.loop-y.y + 1) c.args.w (omega arith) (omega arith) (omega arith) r.reaches
+    r.fresh.right c.loop-y.y c.args.w (omega arith) (omega arith) (omega arith) r.reaches
 
-added-small : (c : Joined-until-y) → at c.if-until-y.saved (c.loop-y.y + 1) ≤ 126800
+added-small : (c : Joined-until-y) → at c.if-until-y.saved c.loop-y.y ≤ 126800
 added-small c =
     let a = c.args in
     let p = c.requires.le_k in
-    let y = c.loop-y.y + 1 in
+    let y = c.loop-y.y in
     let small = saved_in_small a.counts.now a.charges.now a.ends.now a.pairs.now a.turn a.k a.w y (p.3.each a.k p.0 p.1).count_to (p.3.each y (omega arith) (omega arith)).charge_to in
     omega (arith, added c)
-
-pub offset_bounds-saved-y-in-loop-y : goal.offset_bounds-saved-y-in-loop-y
-offset_bounds-saved-y-in-loop-y c = omega (arith, inside (goal.at.offset_bounds-saved-y-in-loop-y c).In-loop-y)
-
-pub bounds-saved-y-in-loop-y : goal.bounds-saved-y-in-loop-y
-bounds-saved-y-in-loop-y c = omega (arith, inside (goal.at.bounds-saved-y-in-loop-y c).In-loop-y)
 
 pub overflow_add-all : goal.overflow_add-all
 overflow_add-all c = omega (arith, added-small (goal.at.overflow_add-all c).Joined-until-y, inside (goal.at.overflow_add-all c).In-loop-y)
@@ -97,8 +63,8 @@ pub loop-y-preserved : goal.loop-y-preserved
 loop-y-preserved c =
     let a = c.args in
     let j = (goal.at.loop-y-preserved c).Joined-until-y in
-    let more = upto_more (saved_in a.counts.now a.charges.now a.ends.now a.pairs.now a.turn a.k a.w) c.loop-y.y in
-    (search rules, omega (arith, added j, more), omega (arith, added-small j), (renewed j).fresh)
+    let next = upto_next (saved_in a.counts.now a.charges.now a.ends.now a.pairs.now a.turn a.k a.w) c.loop-y.y (omega arith) in
+    record { sum = omega (arith, added j, next); small = omega (arith, added-small j); fresh = (renewed j).fresh }
 
 pub overflow_mul-result : goal.overflow_mul-result
 overflow_mul-result c =
@@ -110,8 +76,8 @@ done : (c : After-loop-y)
     → c.loop-y.all ≡ upto (saved_in c.args.counts.now c.args.charges.now c.args.ends.now c.args.pairs.now (turn_in c.args.charges.now c.args.n) c.args.k c.args.w) c.args.n
 done c =
     let a = c.args in
-    let e : c.loop-y.y ≡ a.n = omega arith in
-    c.loop-y.invariant.1
+    let e : c.loop-y.y - 1 ≡ a.n = omega arith in
+    c.loop-y.invariant.sum
     ∙ (ap (upto (saved_in a.counts.now a.charges.now a.ends.now a.pairs.now a.turn a.k a.w)) e
     ∙ ap (λ (v : ℕ). upto (saved_in a.counts.now a.charges.now a.ends.now a.pairs.now v a.k a.w) a.n) c.requires.le_k.3.turn_is)
 
@@ -125,10 +91,6 @@ overflow_sub-result c =
     let g = goal.at.overflow_sub-result c in
     omega (arith, done g.After-loop-y, bound g.Start, saved_at_most c.requires.le_k.3 c.args.k c.args.w)
 
-pub returns : goal.returns
+pub returns-clause-value : goal.returns-clause-value
 unfolding right_in
-returns c =
-    record {
-      value = omega (arith, done (goal.at.returns c).After-loop-y, bound (goal.at.returns c).Start);
-      fresh_2 = c.loop-y.invariant.3;
-    }
+returns-clause-value c = omega (arith, done (goal.at.returns-clause-value c).After-loop-y, bound (goal.at.returns-clause-value c).Start)

@@ -7,4 +7,4 @@ use Rattle.pnet_turn.proofs.charge_of.Goals as goal
 
 pub returns : goal.returns
 unfolding charge_of
-returns c = c.narrow.ensures ∙ ap capped (omega (arith, c.larger.ensures, c.hold_of.ensures.0))
+returns c = c.narrow.ensures ∙ ap capped (omega (arith, c.max.ensures, c.hold_of.ensures.0))

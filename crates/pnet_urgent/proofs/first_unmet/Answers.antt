@@ -1,22 +1,16 @@
+-- `first_unmet` meets its contract.
+use mathlib.Core.Path.{◌≡◌, ap, ◌∙◌}
+use Prim.Native.Nat.{ℕ, ◌+◌}
 use native.Mathlib.Omega.{arith}
-use borrow.Author.Count.{below_more}
-use borrow.Author.Rules.{rules}
-use Rattle.pnet_urgent.proofs.Spreads.{zero_here, zero_nowhere}
+use lib.ListN.{take}
+use Rattle.std.proofs.Common.{rules, tests}
+use Rattle.std.proofs.lemmas.Iterator.{IsFirst-from_position, YieldsList-from_slice}
+use Rattle.pnet_urgent.proofs.Spreads.{first_zero}
 use Rattle.pnet_urgent.proofs.first_unmet.Goals as goal
-
-pub loop-i-init : goal.loop-i-init
-loop-i-init c = (search rules, λ j l. absurd (omega arith))
-
-pub returns-then-figures-i-eq0 : goal.returns-then-figures-i-eq0
-returns-then-figures-i-eq0 c =
-    let l = c.loop-i in
-    let a = c.args in
-    zero_here a.figures.now a.n l.i l.invariant.1 (omega arith) c.if-figures-i-eq0.true
-
-pub loop-i-preserved : goal.loop-i-preserved
-loop-i-preserved c = (search rules, below_more _ _ c.loop-i.invariant.1 c.if-figures-i-eq0.false)
 
 pub returns : goal.returns
 returns c =
-    let l = c.loop-i in
-    zero_nowhere c.args.figures.now c.args.n l.i l.invariant.1 (omega arith)
+    let a = c.args in
+    ap (λ (x : ℕ). x + 1) c.unwrap_or.ensures
+    ∙ first_zero a.figures.now a.n (omega arith) c.position-unmet.result
+    (IsFirst-from_position _ _ c.position-unmet.result (λ x. x ≡ 0) (λ x. x ≡ 0 → ⊥) c.position-unmet.ensures.ran (YieldsList-from_slice (take a.n a.figures.now) cc) (λ x q k. search (rules, tests)) (λ x q k. search (rules, tests)))

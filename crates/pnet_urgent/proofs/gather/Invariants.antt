@@ -1,5 +1,5 @@
 -- `pnet_urgent::gather` meets its contract. The invariant: the first r places of the three runs are filled by the first r keys.
-use Prim.Native.Nat.{◌+◌, ◌-◌, ◌≤◌}
+use Prim.Native.Nat.{◌+◌}
 use Rattle.common.proofs.Runs.{Filling}
 use Rattle.pnet_turn.specs.Turn.{at}
 use Rattle.pnet_urgent.specs.Masters.{index_at, deadline_at}
@@ -7,10 +7,6 @@ use Rattle.pnet_urgent.proofs.gather.Given as goal
 
 abbrev pub invariant-loop-r : goal.invariant-loop-r
 invariant-loop-r l =
-    (l.r ≤ l.n)
-    × Filling (λ k. at l.spacings (index_at l.keys (l.start + k))) l.r l.initial.ts l.ts
+    Filling (λ k. at l.spacings (index_at l.keys (l.start + k))) l.r l.initial.ts l.ts
     × Filling (λ k. at l.jitters (index_at l.keys (l.start + k))) l.r l.initial.js l.js
     × Filling (λ k. deadline_at l.keys (l.start + k)) l.r l.initial.ds l.ds
-
-abbrev pub decreases-loop-r : goal.decreases-loop-r
-decreases-loop-r l = l.n - l.r

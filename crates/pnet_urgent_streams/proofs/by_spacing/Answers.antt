@@ -1,58 +1,30 @@
-use mathlib.Core.Path.{◌≡◌, ap}
+use mathlib.Core.Path.{ap}
 use native.Mathlib.Omega.{arith}
-use borrow.Author.Rules.{rules}
-use Rattle.common.proofs.Runs.{filling_none, filling_more, filling_done}
+use Rattle.common.proofs.Runs.{filling_none, filling_more}
 use Rattle.pnet_rules.specs.Segment.{Stream}
-use Rattle.pnet_plan.proofs.Bytes.{Here, here, its_master, streams_few}
+use Rattle.pnet_plan.proofs.Bytes.{Here, here, its_master}
 use Rattle.pnet_urgent_streams.proofs.by_spacing.Goals as goal
 use Rattle.pnet_urgent_streams.proofs.by_spacing.Goals.{After-pnet_stream_at-met}
 
 pub loop-i-init : goal.loop-i-init
-loop-i-init c = (search rules, c.requires.0.starts, filling_none _ _, filling_none _ _, filling_none _ _)
+loop-i-init c = (c.requires.0.starts, filling_none _ _, filling_none _ _, filling_none _ _)
 
 -- what is met is stream i + 1
 its : (c : After-pnet_stream_at-met) → Here c.args.s.now c.loop-i.i c.pnet_stream_at-met.result
 its c =
     let l = c.loop-i in
-    here c.requires.0 l.i l.at c.pnet_stream_at-met.result (omega arith) l.invariant.1 c.pnet_stream_at-met.ensures
+    here c.requires.0 l.i l.at c.pnet_stream_at-met.result (omega arith) l.invariant.0 c.pnet_stream_at-met.ensures
 
 pub overflow_cast-masters : goal.overflow_cast-masters
 overflow_cast-masters c = omega (arith, its_master c.requires.0 (omega arith) c.pnet_stream_at-met.result (its (goal.at.overflow_cast-masters c).After-pnet_stream_at-met))
 
-pub offset_bounds-spacing-i : goal.offset_bounds-spacing-i
-offset_bounds-spacing-i c = omega (arith, streams_few c.requires.0)
-
-pub offset_bounds-jitter-i : goal.offset_bounds-jitter-i
-offset_bounds-jitter-i c = omega (arith, streams_few c.requires.0)
-
 pub loop-i-preserved : goal.loop-i-preserved
 loop-i-preserved c =
     let l = c.loop-i in
-    let h = (its (goal.at.loop-i-preserved c).After-pnet_stream_at-met).stream in
+    let met = its (goal.at.loop-i-preserved c).After-pnet_stream_at-met in
     let fits = c.requires in (
-      search rules,
-      (its (goal.at.loop-i-preserved c).After-pnet_stream_at-met).next,
-      filling_more _ l.invariant.2 (omega (arith, fits.1)) (ap (λ (z : Stream). z.master) h),
-      filling_more _ l.invariant.3 (omega (arith, fits.2)) (ap (λ (z : Stream). z.spacing) h),
-      filling_more _ l.invariant.4 (omega (arith, fits.3)) (ap (λ (z : Stream). z.jitter) h),
+      met.next,
+      filling_more _ l.invariant.1 (omega (arith, fits.1)) (ap (λ (z : Stream). z.master) met.stream),
+      filling_more _ l.invariant.2 (omega (arith, fits.2)) (ap (λ (z : Stream). z.spacing) met.stream),
+      filling_more _ l.invariant.3 (omega (arith, fits.3)) (ap (λ (z : Stream). z.jitter) met.stream),
     )
-
-pub shape_of-masters : goal.shape_of-masters
-shape_of-masters c = c.loop-i.invariant.2.long
-
-pub shape_of-spacing : goal.shape_of-spacing
-shape_of-spacing c = c.loop-i.invariant.3.long
-
-pub shape_of-jitter : goal.shape_of-jitter
-shape_of-jitter c = c.loop-i.invariant.4.long
-
-pub returns : goal.returns
-returns c =
-    let n = c.args.n in
-    let l = c.loop-i in
-    let e : l.i ≡ n = omega arith in
-    record {
-      masters_after = filling_done n l.invariant.2 e;
-      spacing_after = filling_done n l.invariant.3 e;
-      jitter_after = filling_done n l.invariant.4 e;
-    }

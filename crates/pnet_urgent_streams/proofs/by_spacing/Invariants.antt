@@ -1,6 +1,5 @@
 -- `pnet_urgent_streams::by_spacing` meets its contract. The invariant: the three runs have their first i places filled, and `at` is the place of the next stream.
 use mathlib.Core.Path.{◌≡◌}
-use Prim.Native.Nat.{◌-◌, ◌≤◌}
 use Rattle.common.proofs.Runs.{Filling}
 use Rattle.sheet_rules.specs.Ready.{stream_place}
 use Rattle.pnet_plan.specs.Planned.{at_place}
@@ -10,12 +9,7 @@ use Rattle.pnet_urgent_streams.proofs.by_spacing.Given as goal
 
 abbrev pub invariant-loop-i : goal.invariant-loop-i
 invariant-loop-i l =
-    (l.i ≤ l.n)
-    × (l.at ≡ stream_place l.s l.i)
+    (l.at ≡ stream_place l.s l.i)
     × Filling (at_place (master_of (segment_in l.s))) l.i l.initial.masters l.masters
     × Filling (at_place (spacing_of (segment_in l.s))) l.i l.initial.spacing l.spacing
     × Filling (at_place (jitter_of (segment_in l.s))) l.i l.initial.jitter l.jitter
-
-abbrev pub decreases-loop-i : goal.decreases-loop-i
-decreases-loop-i l =
-    l.n - l.i

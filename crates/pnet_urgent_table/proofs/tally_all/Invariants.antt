@@ -1,10 +1,6 @@
 -- `tally_all` meets its contract. The invariant: the first j streams are counted.
-use Prim.Native.Nat.{◌-◌}
 use Rattle.pnet_urgent_table.proofs.Blocks.{Going}
 use Rattle.pnet_urgent_table.proofs.tally_all.Given as goal
 
 abbrev pub invariant-loop-j : goal.invariant-loop-j
 invariant-loop-j l = Going l.turn l.spacings l.jitters l.k l.a l.initial.nexts l.initial.rests l.j l.nexts l.rests l.table
-
-abbrev pub decreases-loop-j : goal.decreases-loop-j
-decreases-loop-j l = l.k - l.j

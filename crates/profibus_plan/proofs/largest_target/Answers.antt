@@ -5,14 +5,14 @@ use native.Mathlib.Omega.{arith}
 use lib.ListN.{get_or}
 use Rattle.common.proofs.Runs.{get_d_tab}
 use Rattle.sheet_rules.specs.Ready.{sheet_in}
-use Rattle.profibus_rules.specs.Ring.{Ring, ring_of, count, rotation, messages, Declared}
+use Rattle.profibus_rules.specs.Ring.{Ring, ring_of, count, rotation, Declared}
 use Rattle.profibus_plan.proofs.Passing.{Stepped, ready_declared, ready_number, stepped}
 use Rattle.profibus_rules.specs.Target.{Limited}
 use Rattle.profibus_rules.proofs.Sizes.{messages_most}
 use Rattle.profibus_plan.proofs.Answers.{plan_fails, plan_limited}
 use Rattle.profibus_plan.proofs.Tight.{Tight, Next, some, fits, tight_none, tight_kept, tight_new, tight_fails, tight_limited}
 use Rattle.profibus_plan.proofs.largest_target.Goals as goal
-use Rattle.profibus_plan.proofs.largest_target.Goals.{After-struct_known-1, Start}
+use Rattle.profibus_plan.proofs.largest_target.Goals.{After-struct_known-1, Start, then-d-h+else-d-h-2, else-d-h}
 
 -- the ring, from the entry
 abbrev ring : List ℕ → Ring
@@ -35,7 +35,7 @@ step : (c : After-struct_known-1) → Stepped c.args.s.now (ring c.args.s.now) (
 step c =
     let l = c.loop-i in
     stepped c.args.s.now c.args.first c.args.streams c.requires.ready l.i l.at c.ring_stream_at-met.result
-    c.loop-i-test.true l.invariant.1 c.ring_stream_at-met.ensures
+    c.loop-i-test.true l.invariant.0 c.ring_stream_at-met.ensures
 
 -- its master's count is the ring's h
 share : (c : After-struct_known-1)
@@ -56,7 +56,7 @@ next : (c : After-struct_known-1)
 next c =
     let s = step c in
     record {
-      tight = c.loop-i.invariant.2;
+      tight = c.loop-i.invariant.1;
       on = s.on;
       share = share c;
       cycle = s.cycle;
@@ -71,7 +71,7 @@ loop-i-init c =
     let start = (goal.at.loop-i-init c).Start in
     let R = ring c.args.s.now in
     let l : rotation R R.latency ≤ 1000000000 = omega (arith, at_latency start, at_latency_most start) in
-    (omega arith, c.requires.ready.starts, tight_none R l)
+    (c.requires.ready.starts, tight_none R l)
 
 pub overflow_cast-master : goal.overflow_cast-master
 overflow_cast-master c = omega (arith, (step (goal.at.overflow_cast-master c).After-struct_known-1).small)
@@ -120,21 +120,20 @@ nonzero_div-borne c =
     let at = goal.at.nonzero_div-borne c in
     some (within at.Start) (next at.After-struct_known-1)
 
-pub loop-i-preserved-then-d-h : goal.loop-i-preserved-then-d-h
-loop-i-preserved-then-d-h c =
-    let at = goal.at.loop-i-preserved-then-d-h c in
-    (omega arith, (step at.After-struct_known-1).next, tight_new (within at.Start) (next at.After-struct_known-1) c.if-d-h.true (rw (← (at_latency at.Start)) c.if-d-h-2.false))
-
 pub loop-i-preserved : goal.loop-i-preserved
 loop-i-preserved c =
     let at = goal.at.loop-i-preserved c in
-    (omega arith, (step at.After-struct_known-1).next, tight_kept (within at.Start) (next at.After-struct_known-1) c.if-d-h.false)
+    let n = next at.After-struct_known-1 in
+    elim c.if-d-h.branch [
+      | then-d-h+else-d-h-2 w ↦ ((step at.After-struct_known-1).next, rw (w.borne-is, w.limiting-is) (tight_new (within at.Start) n w.if-d-h.true (rw (← (at_latency at.Start)) w.if-d-h-2.false)))
+      | else-d-h w ↦ ((step at.After-struct_known-1).next, rw (w.borne-is, w.limiting-is) (tight_kept (within at.Start) n w.if-d-h.false))
+    ]
 
 pub overflow_sub-rotation : goal.overflow_sub-rotation
-overflow_sub-rotation c = omega (arith, at_latency (goal.at.overflow_sub-rotation c).Start, c.loop-i.invariant.2.enough)
+overflow_sub-rotation c = omega (arith, at_latency (goal.at.overflow_sub-rotation c).Start, c.loop-i.invariant.1.enough)
 
 pub overflow_cast-rotation : goal.overflow_cast-rotation
-overflow_cast-rotation c = omega (arith, c.loop-i.invariant.2.most)
+overflow_cast-rotation c = omega (arith, c.loop-i.invariant.1.most)
 
 pub returns : goal.returns
 returns c =
@@ -142,6 +141,6 @@ returns c =
     let R = ring c.args.s.now in
     let l = c.loop-i in
     let e : l.i ≡ R.number = omega (arith, ready_number c.args.s.now c.args.first c.args.streams c.requires.ready) in
-    let t : Tight R R.number l.borne l.limiting = rw e at l.invariant.2 in
+    let t : Tight R R.number l.borne l.limiting = rw e at l.invariant.1 in
     let a : Limited R (l.borne - c.args.longest) l.limiting = rw c.requires.latency_value.1 (tight_limited R declared l.borne l.limiting t) in
     sym (plan_limited (sheet_in c.args.s.now) c.requires.ready.on_bus declared (l.borne - c.args.longest) l.limiting a)

@@ -1,6 +1,5 @@
 -- `profibus_plan::largest_target` meets its contract. After i streams, `borne` is the longest rotation that streams 1..i bear, and `limiting`
 -- the first of them that bears no longer one.
-use Prim.Native.Nat.{◌-◌, ◌≤◌}
 use mathlib.Core.Path.{◌≡◌}
 use Rattle.sheet_rules.specs.Ready.{sheet_in, stream_place}
 use Rattle.profibus_rules.specs.Ring.{ring_of}
@@ -9,8 +8,4 @@ use Rattle.profibus_plan.proofs.largest_target.Given as goal
 
 abbrev pub invariant-loop-i : goal.invariant-loop-i
 invariant-loop-i l =
-    (l.i ≤ l.streams) × (l.at ≡ stream_place l.s l.i) × Tight (ring_of (sheet_in l.s)) l.i l.borne l.limiting
-
-abbrev pub decreases-loop-i : goal.decreases-loop-i
-decreases-loop-i l =
-    l.streams - l.i
+    (l.at ≡ stream_place l.s l.i) × Tight (ring_of (sheet_in l.s)) l.i l.borne l.limiting

@@ -1,35 +1,44 @@
-use Prim.Native.Nat.{ℕ, ◌+◌, ◌-◌, ◌≤◌, ◌<◌}
-use mathlib.Core.List.{List}
-use mathlib.Core.Path.{sym, ap, ◌∙◌}
-use native.Mathlib.Omega.{arith}
-use lib.ListN.{get_or}
+use Rattle.std.proofs.Common.{◌≡◌, ℕ, ◌+◌, ◌-◌, ◌*◌, ◌≤◌, ◌<◌, List, length, get_or, drop, arith, ap, ◌∙◌}
+use borrow.Rule.Slice.PartMut.{mid_of, mid_len}
+use native.Mathlib.Nat.{add_comm}
+use Rattle.std.proofs.lemmas.List.{get_or-take, get_or-drop}
 use Rattle.common.specs.Sums.{upto}
 use Rattle.common.proofs.Sums.{upto_none, upto_more}
 use Rattle.profibus_plan.proofs.together.Goals as goal
 
--- the next master's
-short : (messages : List ℕ) {n : ℕ} → ((y : ℕ) → 1 ≤ y → y ≤ n → get_or messages y 0 ≤ 100000) → (y : ℕ) → y < n → get_or messages (y + 1) 0 ≤ 100000
-short messages within y l = within (y + 1) (omega arith) (omega arith)
+-- masters 1..n of an array that counts from 0
+module _ (messages : List ℕ) (n : ℕ) (room : n + 1 ≤ length messages) where
+  masters_long : length (mid_of 1 (n + 1 - 1) messages) ≡ n
+  masters_long = mid_len 1 (n + 1) messages room ∙ omega arith
 
-pub loop-y-init : goal.loop-y-init
-loop-y-init c = (omega arith, upto_none _, omega arith)
+  master_at : (i : ℕ) → i < n → get_or (mid_of 1 (n + 1 - 1) messages) i 0 ≡ get_or messages (i + 1) 0
+  master_at i l =
+      let e : n + 1 - 1 ≡ n = omega arith in
+      rw e (get_or-take n (drop 1 messages) i 0 l ∙ get_or-drop 1 messages i 0 ∙ ap (λ (k : ℕ). get_or messages k 0) (add_comm 1 i))
 
-pub bounds-messages-y : goal.bounds-messages-y
-bounds-messages-y c = omega (arith, c.requires.0)
+  module _ (within : (y : ℕ) → 1 ≤ y → y ≤ n → get_or messages y 0 ≤ 100000) (total i : ℕ)
+      (so_far : (total ≡ upto (λ y. get_or messages y 0) i) × (total ≤ i * 100000)) (more : i < length (mid_of 1 (n + 1 - 1) messages)) where
+    next_at : (get_or (mid_of 1 (n + 1 - 1) messages) i 0 ≡ get_or messages (i + 1) 0) × (get_or messages (i + 1) 0 ≤ 100000)
+    next_at = (master_at i (omega (arith, masters_long)), within (i + 1) (omega arith) (omega (arith, masters_long)))
 
-pub overflow_cast-total : goal.overflow_cast-total
-overflow_cast-total c = omega (arith, short _ c.requires.1 c.loop-y.y c.loop-y-test.true)
+    one_more : (total + get_or (mid_of 1 (n + 1 - 1) messages) i 0 ≡ upto (λ y. get_or messages y 0) (i + 1)) × (total + get_or (mid_of 1 (n + 1 - 1) messages) i 0 ≤ (i + 1) * 100000)
+    one_more = (omega (arith, next_at, upto_more (λ y. get_or messages y 0) i), omega (arith, next_at))
+
+pub loop-m-init : goal.loop-m-init
+loop-m-init c = (upto_none _, omega arith)
+
+pub loop-m-preserved : goal.loop-m-preserved
+loop-m-preserved c =
+    let a = c.args in
+    one_more a.messages.now a.n (omega arith) c.requires.1 c.loop-m.total c.loop-m.m-index c.loop-m.invariant c.loop-m-test.true
 
 pub overflow_add-total : goal.overflow_add-total
-overflow_add-total c = omega (arith, short _ c.requires.1 c.loop-y.y c.loop-y-test.true, c.requires.0)
-
-pub loop-y-preserved : goal.loop-y-preserved
-loop-y-preserved c =
-    let l = c.loop-y in
-    let messages = c.args.messages.now in
-    (omega arith, ap (λ (x : ℕ). x + get_or messages (l.y + 1) 0) l.invariant.1 ∙ sym (upto_more (λ k. get_or messages k 0) l.y), omega (arith, short _ c.requires.1 c.loop-y.y c.loop-y-test.true))
+overflow_add-total c =
+    let a = c.args in
+    let m = next_at a.messages.now a.n (omega arith) c.requires.1 c.loop-m.total c.loop-m.m-index c.loop-m.invariant c.loop-m-test.true in
+    omega (arith, masters_long a.messages.now a.n (omega arith))
 
 pub returns : goal.returns
 returns c =
-    let l = c.loop-y in
-    l.invariant.1 ∙ ap (upto (λ k. get_or c.args.messages.now k 0)) (omega arith)
+    let a = c.args in
+    c.loop-m.invariant.0 ∙ ap (upto (λ y. get_or a.messages.now y 0)) (omega (arith, masters_long a.messages.now a.n (omega arith)))

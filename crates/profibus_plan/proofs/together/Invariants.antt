@@ -1,12 +1,7 @@
--- `profibus_plan::together` meets its contract. The loop's invariant: the total is that of masters 1..y, and fits.
-use Prim.Native.Nat.{◌-◌, ◌*◌, ◌≤◌}
-use mathlib.Core.Path.{◌≡◌}
-use lib.ListN.{get_or}
+-- `profibus_plan::together` meets its contract. The loop's invariant: the total is that of as many masters, and fits.
+use Rattle.std.proofs.Common.{◌≡◌, ◌*◌, ◌≤◌, get_or}
 use Rattle.common.specs.Sums.{upto}
 use Rattle.profibus_plan.proofs.together.Given as goal
 
-abbrev pub invariant-loop-y : goal.invariant-loop-y
-invariant-loop-y l = (l.y ≤ l.n) × (l.total ≡ upto (λ k. get_or l.messages k 0) l.y) × (l.total ≤ l.y * 100000)
-
-abbrev pub decreases-loop-y : goal.decreases-loop-y
-decreases-loop-y l = l.n - l.y
+abbrev pub invariant-loop-m : goal.invariant-loop-m
+invariant-loop-m l = (l.total ≡ upto (λ y. get_or l.fn.messages y 0) l.m-index) × (l.total ≤ l.m-index * 100000)

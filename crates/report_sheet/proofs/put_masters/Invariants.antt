@@ -1,11 +1,7 @@
 -- `report_sheet::put_masters` stores the lines of n masters. The loop's invariant: the first i lines are stored.
-use Prim.Native.Nat.{◌-◌, ◌≤◌}
 use Rattle.text.specs.Text.{item, texts, Wrote}
 use Rattle.report_sheet.specs.Arrays.{master_at}
 use Rattle.report_sheet.proofs.put_masters.Given as goal
 
 abbrev pub invariant-loop-i : goal.invariant-loop-i
-invariant-loop-i l = (l.i ≤ l.n) × Wrote l.initial.out l.at (texts (master_at (item l.bound) (item l.refined) (item l.rounds)) l.i) l.out l.next
-
-abbrev pub decreases-loop-i : goal.decreases-loop-i
-decreases-loop-i l = l.n - l.i
+invariant-loop-i l = Wrote l.initial.out l.at (texts (master_at (item l.bound) (item l.refined) (item l.rounds)) l.i) l.out l.next

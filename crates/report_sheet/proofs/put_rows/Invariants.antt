@@ -1,11 +1,7 @@
 -- `report_sheet::put_rows` stores the rows. The loop's invariant: the first m are stored.
-use Prim.Native.Nat.{◌-◌, ◌≤◌}
 use Rattle.text.specs.Text.{item, texts, Wrote}
 use Rattle.report_sheet.specs.Whole.{row_at}
 use Rattle.report_sheet.proofs.put_rows.Given as goal
 
 abbrev pub invariant-loop-m : goal.invariant-loop-m
-invariant-loop-m l = (l.m ≤ l.count) × Wrote l.initial.out l.at (texts (row_at (item l.rows) (item l.names)) l.m) l.out l.next
-
-abbrev pub decreases-loop-m : goal.decreases-loop-m
-decreases-loop-m l = l.count - l.m
+invariant-loop-m l = Wrote l.initial.out l.at (texts (row_at (item l.rows) (item l.names)) l.m) l.out l.next

@@ -28,4 +28,4 @@ returns-then-n-late c =
 pub returns : goal.returns
 returns c =
     let a = c.args in
-    rw (some _ _ a.late _ a.n (omega (arith, c.if-n-late.false)), ← c.index_of-i.ensures) c.put_late.ensures
+    rw (some _ _ a.late _ a.n (omega (arith, c.if-n-late.false)), ← c.saturating_sub-i.ensures) c.put_late.ensures

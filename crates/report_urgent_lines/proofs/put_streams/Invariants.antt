@@ -1,5 +1,5 @@
 -- `report_urgent_lines::put_streams` stores the lines of n streams. The loop's invariant: the first i are stored.
-use Prim.Native.Nat.{◌-◌, ◌*◌, ◌≤◌}
+use Prim.Native.Nat.{◌*◌, ◌≤◌}
 use lib.ListN.{length}
 use Rattle.text.specs.Text.{item, texts, Wrote}
 use Rattle.report_urgent_lines.specs.Lines.{most_line, stream_at}
@@ -8,7 +8,4 @@ use Rattle.report_urgent_lines.proofs.put_streams.Given as goal
 abbrev pub invariant-loop-i : goal.invariant-loop-i
 invariant-loop-i l =
     let lines = texts (stream_at (item l.masters) (item l.places) (item l.figures) (item l.rounds) (item l.deadlines)) l.i in
-    (l.i ≤ l.n) × (Wrote l.initial.out l.at lines l.out l.next × (length lines ≤ l.i * most_line))
-
-abbrev pub decreases-loop-i : goal.decreases-loop-i
-decreases-loop-i l = l.n - l.i
+    Wrote l.initial.out l.at lines l.out l.next × (length lines ≤ l.i * most_line)

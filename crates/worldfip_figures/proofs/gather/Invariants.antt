@@ -1,7 +1,7 @@
 -- `worldfip_figures::gather` meets its contract. The invariant: the first i variables are kept, with 0 behind them, and the next stands at
 -- `at`.
 use mathlib.Core.Path.{◌≡◌}
-use Prim.Native.Nat.{ℕ, ◌+◌, ◌-◌, ◌≤◌}
+use Prim.Native.Nat.{ℕ, ◌+◌}
 use lib.Dec.{ltb}
 use lib.ListN.{length, get_or}
 use Rattle.common.specs.Sums.{when}
@@ -11,12 +11,8 @@ use Rattle.worldfip_figures.proofs.gather.Given as goal
 
 abbrev pub invariant-loop-i : goal.invariant-loop-i
 invariant-loop-i l =
-    (l.i ≤ l.n)
-    × (length l.names ≡ 64)
+    (length l.names ≡ 64)
     × (length l.periods ≡ 64)
     × (l.at ≡ stream_place l.s l.i)
     × ((j : ℕ) → get_or l.names j 0 ≡ when (ltb j l.i) ((traffic_of (sheet_in l.s)).variable (j + 1)).identifier)
     × ((j : ℕ) → get_or l.periods j 0 ≡ when (ltb j l.i) ((traffic_of (sheet_in l.s)).variable (j + 1)).period)
-
-abbrev pub decreases-loop-i : goal.decreases-loop-i
-decreases-loop-i l = l.n - l.i

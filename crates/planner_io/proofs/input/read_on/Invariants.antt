@@ -4,9 +4,6 @@ use Rattle.sheet_pieces.proofs.Stepped.{state}
 use Rattle.planner_io.proofs.Made.{Further}
 use Rattle.planner_io.proofs.input.read_on.Given as goal
 
-abbrev pub invariant-loop-left : goal.invariant-loop-left
-invariant-loop-left l =
+abbrev pub invariant-loop : goal.invariant-loop
+invariant-loop l =
     (length l.piece ≡ length l.initial.piece) × (length l.front ≡ length l.initial.front) × (length l.sheet ≡ length l.initial.sheet) × Further (state l.initial.taken l.initial.front l.initial.sheet) (state l.taken l.front l.sheet)
-
-abbrev pub decreases-loop-left : goal.decreases-loop-left
-decreases-loop-left l = l.left

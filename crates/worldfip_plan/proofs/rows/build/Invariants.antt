@@ -2,7 +2,7 @@
 -- requests of the others stand.
 use mathlib.Core.Path.{◌≡◌}
 use mathlib.Core.Bool.{false}
-use Prim.Native.Nat.{ℕ, ◌+◌, ◌-◌, ◌≤◌, ◌<◌}
+use Prim.Native.Nat.{ℕ, ◌≤◌, ◌<◌}
 use lib.ListN.{length, get_or}
 use Rattle.worldfip_rules.specs.Build as build
 use Rattle.worldfip_rules.specs.Build.{by_rank, row, miss_at}
@@ -11,12 +11,8 @@ use Rattle.worldfip_plan.proofs.rows.build.Given as goal
 
 abbrev pub invariant-loop-m : goal.invariant-loop-m
 invariant-loop-m l =
-    (l.m ≤ l.rows + 1)
-    × (length l.t ≡ length l.initial.t)
+    (length l.t ≡ length l.initial.t)
     × (l.pending ≡ build.pending (given l.q l.n l.s l.rows) by_rank l.m)
     × ((j : ℕ) → j < l.m → miss_at (given l.q l.n l.s l.rows) by_rank j ≡ false)
     × ((j : ℕ) → j < l.m → get_or l.t j 0 ≡ row (given l.q l.n l.s l.rows) by_rank j)
     × ((j : ℕ) → l.m ≤ j → j ≤ l.rows → get_or l.t j 0 ≡ requests l.q l.n j)
-
-abbrev pub decreases-loop-m : goal.decreases-loop-m
-decreases-loop-m l = l.rows + 1 - l.m
