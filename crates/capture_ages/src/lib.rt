@@ -2,7 +2,7 @@
 // where the tester's counter runs over: what one record does to it.
 #![tactic(auto)]
 
-ghost use Rattle.std.specs.Prelude.{◌≡◌, ◌+◌, ◌%◌, ◌^◌, not, ◌&&◌, if◌then◌else◌, ◌==◌, nat_eq, nat_lt};
+ghost use Rattle.std.specs.Prelude.{◌≡◌, not, ◌&&◌, if◌then◌else◌, ◌==◌, nat_eq, nat_lt};
 ghost use Rattle.common.specs.Sums.{when};
 ghost use Rattle.capture_ages.specs.Ages.{lead_behind, kept_lead};
 ghost use Rattle.capture_ages.specs.Clock.{began, ago, step_of, tick, lead_of, watch_with};
@@ -48,14 +48,7 @@ pub fn clock_at(w: Watch, stamp: u32) -> u64
     ensures { result ≡ tick w stamp }
 {
     let s = step(w, stamp);
-    std::num::wrapping_add_u64(w.clock, s as u64)
-}
-
-// From an earlier reading of the clock to a later one.
-fn since(later: u64, earlier: u64) -> u64
-    ensures { result ≡ ago later earlier }
-{
-    std::num::wrapping_sub_u64(later, earlier)
+    w.clock.wrapping_add(s as u64)
 }
 
 // The lead of a request that comes `gap` behind the previous one; before a first request stands no other.
@@ -66,17 +59,14 @@ fn lead_behind(spacing: u32, previous: u64, lead: u32, gap: u64) -> u64
         return 0;
     }
     let due = lead as u64 + spacing as u64;
-    if due < gap {
-        return 0;
-    }
-    due - gap
+    due.saturating_sub(gap)
 }
 
 // The lead of a request at the next record.
 pub fn lead_of(w: Watch, e: Event, spacing: u32, previous: u64, lead: u32) -> u64
     ensures { result ≡ lead_of w e spacing previous lead }
 {
-    let gap = since(clock_at(w, e.stamp), previous);
+    let gap = clock_at(w, e.stamp).wrapping_sub(previous);
     lead_behind(spacing, previous, lead, gap)
 }
 
@@ -95,16 +85,6 @@ pub fn kept_lead(jitter: u32, lead: u64) -> u32
         return 0;
     }
     lead as u32
-}
-
-// One more where it came too soon.
-fn count(soon: u64, early: bool) -> u64
-    ensures { result ≡ (soon + when early 1) % 2 ^ 64 }
-{
-    if early {
-        return std::num::wrapping_add_u64(soon, 1);
-    }
-    soon
 }
 
 // The stream of the first request that came too soon, 0 for none.
@@ -129,7 +109,7 @@ pub fn behind(w: Watch, e: Event, early: bool) -> Watch
         clock: clock_at(w, e.stamp),
         stamp: e.stamp,
         broken: w.broken | far,
-        soon: count(w.soon, early),
+        soon: w.soon.wrapping_add(early as u64),
         whose: first(w.whose, early, e.stream),
     }
 }
@@ -138,7 +118,7 @@ pub fn behind(w: Watch, e: Event, early: bool) -> Watch
 pub fn open_too_long(clock: u64, bound: u32, left: u8, asked: u64) -> u64
     ensures { result ≡ when (not (left == 0) && nat_lt bound (ago clock asked)) 1 }
 {
-    if (left != 0) & ((bound as u64) < since(clock, asked)) {
+    if (left != 0) & ((bound as u64) < clock.wrapping_sub(asked)) {
         return 1;
     }
     0

@@ -113,15 +113,13 @@ fn take_each(
         × (result ≡ Ok tt → largest.new ≡ largest_after p b largest.old)
         × (result ≡ Ok tt → above.new ≡ above_after p b bound.now above.old) }
 {
-    let mut at: usize = 0;
-    while at < piece.len() {
+    for at in (0..piece.len()).step_by(capture_log::SIZE) {
         let no = refusal(piece, at, streams, left);
         if no != 0 {
             return Err(Refusal { no, place: at });
         }
         let e = capture_log::event_at(piece, at);
         keep(e, bound, left, since, answers, largest, above);
-        at += capture_log::SIZE;
     }
     Ok(())
 }

@@ -16,7 +16,6 @@ use Rattle.profibus_plan.specs.declared.answer.Plan.{Plan}
 use Rattle.worldfip_plan.specs.Answer as fip
 use Rattle.worldfip_plan.specs.declared.answer.Plan as fipPlan
 use Rattle.std.specs.declared.result.Result.TheVariants.{Ok, Err}
-use Rattle.common.specs.Checks.{refusal}
 use Rattle.std.specs.declared.result.Result.{Result}
 use Rattle.common.specs.declared.Refusal.{Refusal}
 
@@ -44,7 +43,7 @@ unfolding reading bytes_of
 profibus rs = ring_figures (ring.plan_of (reading (bytes_of rs)))
 
 -- slots, then the rows
-abbrev pub table_figures : fipPlan.Plan → List ℕ → List ℕ
+abbrev pub table_figures : Result fipPlan.Plan Refusal → List ℕ → List ℕ
 table_figures (Ok x) run = x.slots ∷ run
 table_figures (Err r) run = r.no ∷ r.place ∷ []
 

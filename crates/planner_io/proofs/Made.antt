@@ -7,11 +7,13 @@ use native.Mathlib.Omega.{arith}
 use lib.Dec.{eqb}
 use lib.ListN.{length, take, drop}
 use lib.Seq.{take-append_seam}
+use Rattle.std.specs.declared.result.Result.TheVariants.{Ok, Err}
+use Rattle.common.specs.declared.Refusal.{Refusal}
+use Rattle.common.proofs.Answered.{refuses_alike}
 use Rattle.text.specs.Text.{Zeros, Wrote}
 use Rattle.text.proofs.Writing.{wrote_front}
 use Rattle.sheet_said.specs.Said.{kind_in}
 use Rattle.sheet_pieces.specs.Texts.{Meaning, meaning}
-use Rattle.sheet_pieces.specs.Texts.Meaning.{Stands, Bad}
 use Rattle.sheet_pieces.specs.Steps.{State, started, room, steps, ended_as}
 use Rattle.sheet_pieces.specs.Comes.{Comes}
 use Rattle.sheet_pieces.specs.Comes.Comes.{stands, bad}
@@ -21,8 +23,6 @@ use Rattle.sheet_pieces.proofs.Whole.{steps_append, comes_to}
 use Rattle.planner_io.specs.declared.input.Given.{Given}
 use Rattle.planner_io.specs.Made.{Took, Made}
 use Rattle.planner_io.specs.Made.Made.{no_text, a_sheet}
-use Rattle.std.specs.declared.result.Result.TheVariants.{Ok, Err}
-use Rattle.common.specs.Checks.{refusal}
 
 -- ---- Pieces
 
@@ -81,12 +81,12 @@ module _ {first : List ℕ} {st : State} (k : Took first st) where
   comes = rw k.state_is (comes_to (first ++ k.rest) k.front k.sheet k.wide k.roomy)
 
   -- a line is not of the form
-  pub took_bad : (r : Given) → ended_as st.taken ≡ Err (refusal 23 r.line) → Made first st.sheet r
-  took_bad r ended = by (meaning (first ++ k.rest)) refl comes
+  pub took_bad : (r : Given) {f : Refusal} → ended_as st.taken ≡ Err f → r.line ≡ f.place → Made first st.sheet r
+  took_bad r {f} ended line = by (meaning (first ++ k.rest)) refl comes
     where
       by : (m : Meaning) → meaning (first ++ k.rest) ≡ m → Comes st m → Made first st.sheet r
       by m e (stands w) = let z : ◌≡◌ {A = ℕ} 0 1 = cc w.ended in absurd (omega arith)
-      by m e (bad {n = n} q) = no_text k.rest n e cc
+      by m e (bad {n = n} q) = no_text k.rest n e (line ∙ ap (λ (x : Refusal). x.place) (refuses_alike (sym ended ∙ q)))
 
   -- a sheet, of which l bytes are kept
   pub took_sheet : (r : Given) (l : ℕ) → ended_as st.taken ≡ Ok l → r.line ≡ 0 → r.length ≡ min l (length st.sheet) → Made first st.sheet r

@@ -6,7 +6,7 @@ ghost use Rattle.planner_io.specs.Made.{Took, Made, GivenAs};
 use crate::words::fail;
 use planner_complaints::slips;
 use planner_output::complain;
-use sheet_pieces::{Ended, Taken};
+use sheet_pieces::Taken;
 use std::fs::File;
 use std::io::{ErrorKind, Read};
 use std::rt::Stdin;
@@ -133,21 +133,21 @@ fn told(rt: &HostRuntime, name: &[u8], taken: Taken, front: &[u8], sheet: &[u8])
     ensures by_index { (first : List ℕ) → Took first (record { taken = taken; front = front.now; sheet = sheet.now }) → Made first sheet.now result }
 {
     match sheet_pieces::end(taken) {
-        Ended::Bad(line) => {
-            let held = taken.held.min(front.len());
-            slips::of_line(rt, name, line, &front[..held]);
-            Given {
-                length: 0,
-                line,
-                failed: false,
-            }
-        }
-        Ended::Sheet(kept) => {
+        Ok(kept) => {
             let length = kept.min(sheet.len());
             slips::of_sheet(rt, name, &sheet[..length]);
             Given {
                 length,
                 line: 0,
+                failed: false,
+            }
+        }
+        Err(refusal) => {
+            let held = taken.held.min(front.len());
+            slips::of_line(rt, name, refusal.place, &front[..held]);
+            Given {
+                length: 0,
+                line: refusal.place,
                 failed: false,
             }
         }

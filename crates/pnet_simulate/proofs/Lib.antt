@@ -3,3 +3,4 @@ pub mod Visits
 pub mod Sound
 pub mod Runs
 pub mod Responses
+pub mod Zeros

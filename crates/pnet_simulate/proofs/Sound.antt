@@ -1,20 +1,37 @@
 -- What the tests of the simulator come to. Assumes nothing.
 use Prim.Native.Nat.{ℕ, ◌≤◌, ◌<◌}
-use mathlib.Core.Path.{◌≡◌}
-use mathlib.Core.Bool.{true}
+use Rattle.std.specs.Prelude.{◌↔◌, IsTrue}
+use mathlib.Core.Path.{◌≡◌, refl, sym}
+use mathlib.Core.Bool.{Bool, true, false}
+use mathlib.Core.Logic.{◌≢◌}
 use mathlib.Core.List.{List}
+use native.Mathlib.Decide.{dec_le}
 use native.Mathlib.Omega.{arith}
 use lib.Dec.{eqb, leb}
 use lib.ListN.{length, get_or}
-use borrow.Author.Tests.{le-leb, leb-true, eqb-false}
+use borrow.Author.Tests.{le-leb, lt-leb, leb-true, ne_eqb, eqb-false}
 use Rattle.common.specs.Sums.{first_of}
-use Rattle.common.proofs.Firsts.{first_is}
+use Rattle.common.proofs.Firsts.{First, first_is, found_none}
 use Rattle.pnet_simulate.specs.Simulated.{sound}
 use Rattle.pnet_simulate.proofs.Waits.{both}
 
 -- the place of the first C that is 0
 abbrev pub empty : List ℕ → ℕ → ℕ
 empty cycle n = first_of (λ p. eqb (get_or cycle p 0) 0) n 0
+
+-- there is none among the first n exactly if each of them has a C that isn't 0
+pub cycles_law : (cycle : List ℕ) (n : ℕ) (b : Bool) → (IsTrue b ↔ ((p : ℕ) → p < n → get_or cycle p 0 ≢ 0)) → b ≡ leb n (empty cycle n)
+cycles_law cycle n true e =
+    let all : n ≡ empty cycle n = found_none (λ p. eqb (get_or cycle p 0) 0) n n (λ p h. ne_eqb (get_or cycle p 0) 0 (e.0 refl p h)) refl in
+    sym (le-leb n (empty cycle n) (omega arith))
+cycles_law cycle n false e = split (dec_le n (empty cycle n))
+  where
+    f : First (λ p. eqb (get_or cycle p 0) 0) n 0 (empty cycle n)
+    f = first_is (λ p. eqb (get_or cycle p 0) 0) n 0
+
+    split : Dec (n ≤ empty cycle n) → false ≡ leb n (empty cycle n)
+    split (yes l) = let z : false ≡ true = e.1 (λ p h. eqb-false (get_or cycle p 0) 0 (f.fails p (omega arith) (omega arith))) in absurd (let y : ◌≡◌ {A = ℕ} 0 1 = cc in omega arith)
+    split (no l) = sym (lt-leb n (empty cycle n) (omega (arith, l)))
 
 module _ (n : ℕ) (owner cycle : List ℕ) (k room : ℕ) where
   -- the last test decides, the others having passed

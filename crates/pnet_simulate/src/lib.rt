@@ -2,9 +2,8 @@
 // each reaction takes 7 bp and each message all of its C.
 #![tactic(auto)]
 
-ghost use Rattle.std.specs.Prelude.{◌≡◌, true, ◌+◌, ◌≤◌, ◌<◌, ◌^◌, max, length, eqb, get_or};
+ghost use Rattle.std.specs.Prelude.{◌≡◌, ◌≢◌, ◌↔◌, ℕ, IsTrue, true, ◌+◌, ◌≤◌, ◌<◌, ◌^◌, length, get_or};
 ghost use Rattle.common.specs.Runs.{filled};
-ghost use Rattle.common.specs.Sums.{first_of};
 ghost use Rattle.pnet_run.specs.Run.{next};
 ghost use Rattle.pnet_simulate.specs.Simulated.{oldest_of, bus_of, visited, visited_times, sound, simulated, response_of, largest_of};
 ghost use Rattle.pnet_simulate.specs.Told.{segment_by, Told};
@@ -32,16 +31,12 @@ fn oldest(owner: &[u8], answered: &[u64], m: u8) -> usize
     requires { length owner.now ≤ length answered.now }
     ensures { result ≡ oldest_of owner.now answered.now m }
 {
-    let mut p: usize = 0;
-    while p < owner.len() {
-        if owner[p] == m {
-            if answered[p] == 0 {
-                return p;
-            }
+    for p in 0..owner.len() {
+        if owner[p] == m && answered[p] == 0 {
+            return p;
         }
-        p += 1;
     }
-    p
+    owner.len()
 }
 
 fn wide(x: u16) -> u64
@@ -72,19 +67,12 @@ fn visit(n: u8, owner: &[u8], cycle: &[u16], stage: Stage, answered: &mut [u64])
     }
 }
 
-// The place of the first of n streams whose C is 0, and n where there is none.
-fn first_empty(cycle: &[u16], n: usize) -> usize
+// Each of the first n streams has a C that isn't 0.
+fn have_cycles(cycle: &[u16], n: usize) -> bool
     requires { n ≤ length cycle.now }
-    ensures { result ≡ first_of (λ p. eqb (get_or cycle.now p 0) 0) n 0 }
+    ensures { IsTrue result ↔ ((p : ℕ) → p < n → get_or cycle.now p 0 ≢ 0) }
 {
-    let mut p: usize = 0;
-    while p < n {
-        if cycle[p] == 0 {
-            return p;
-        }
-        p += 1;
-    }
-    p
+    cycle[..n].iter().all(|c| *c != 0)
 }
 
 // There is a run to simulate.
@@ -103,7 +91,7 @@ fn is_sound(n: u8, owner: &[u8], cycle: &[u16], k: u8, room: usize) -> bool
     if room < owner.len() {
         return false;
     }
-    owner.len() <= first_empty(cycle, owner.len())
+    have_cycles(cycle, owner.len())
 }
 
 // Every one of n requests waits.
@@ -111,11 +99,7 @@ fn clear(answered: &mut [u64], n: usize)
     requires { n ≤ length answered.old }
     ensures { answered.new ≡ filled (λ p. 0) n answered.old }
 {
-    let mut p: usize = 0;
-    while p < n {
-        answered[p] = 0;
-        p += 1;
-    }
+    answered[..n].fill(0);
 }
 
 // So many visits, one after the other.
@@ -131,10 +115,8 @@ fn go_on(
     ensures { bus_of result answered.new ≡ visited_times n owner.now cycle.now (bus_of from answered.old) visits }
 {
     let mut stage = from;
-    let mut v: u32 = 0;
-    while v < visits {
+    for _ in 0..visits {
         stage = visit(n, owner, cycle, stage, answered);
-        v += 1;
     }
     stage
 }
@@ -177,24 +159,13 @@ fn response(owner: &[u8], answered: &[u64], k: u8, p: usize) -> u64
     0
 }
 
-fn larger(a: u64, b: u64) -> u64
-    ensures { result ≡ max a b }
-{
-    if a < b {
-        return b;
-    }
-    a
-}
-
 // Master k's largest response, of those that answered holds.
 pub fn largest(owner: &[u8], answered: &[u64], k: u8) -> u64
     ensures { result ≡ largest_of owner.now answered.now k }
 {
     let mut longest: u64 = 0;
-    let mut p: usize = 0;
-    while p < owner.len() {
-        longest = larger(longest, response(owner, answered, k, p));
-        p += 1;
+    for p in 0..owner.len() {
+        longest = longest.max(response(owner, answered, k, p));
     }
     longest
 }

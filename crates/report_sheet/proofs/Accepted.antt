@@ -56,11 +56,11 @@ or_none true = refl
 or_none false = refl
 
 -- the planner picked by k, which is the sheet's own bus wherever reading does not refuse
-unless : tt (k : ℕ) (o : Outcome) → ((S : Sheet) → o ≡ Read S → k ≡ bus_in S)
+taken_by : (k : ℕ) (o : Outcome) → ((S : Sheet) → o ≡ Read S → k ≡ bus_in S)
     → cond (eqb k 3) (ring_takes o) (cond (eqb k 5) (table_takes o) (segment_takes o)) ≡ (ring_takes o || (table_takes o || segment_takes o))
 unfolding ring_accepts table_accepts segment_accepts profibus.plan_of fip.plan_of
-unless k tt (Not n p) own = picks (eqb k 3) (eqb k 5) false
-unless k tt (Read S) own = split (eqb k 3) refl (eqb k 5) refl
+taken_by k (Not n p) own = picks (eqb k 3) (eqb k 5) false
+taken_by k (Read S) own = split (eqb k 3) refl (eqb k 5) refl
   where
     bus : k ≡ bus_in S
     bus = own S refl
@@ -74,7 +74,7 @@ unless k tt (Read S) own = split (eqb k 3) refl (eqb k 5) refl
 pub accepted_exactly : (s : List ℕ)
     → accepts s ≡ (ring_accepts (profibus.plan_of (reading s)) || (table_accepts (fip.plan_of (reading s) 4096) || segment_accepts (pnet.plan_of (pnet.planned s 32 32 32))))
 unfolding accepts pnet.planned
-accepted_exactly s = unless (first_bus s) tt (reading s) (own_bus s)
+accepted_exactly s = taken_by (first_bus s) (reading s) (own_bus s)
 
 -- ---- The report says the same
 

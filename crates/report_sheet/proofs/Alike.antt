@@ -35,6 +35,7 @@ use Rattle.report_phrases.specs.Phrases.{refusal_text}
 use Rattle.report_sheet.specs.Whole.{segment_report, segment_accepts, ring_report, ring_accepts, table_report, table_accepts, first_bus, report_of, accepts, answer_of}
 use Rattle.std.specs.declared.result.Result.TheVariants.{Ok, Err}
 use Rattle.common.specs.Checks.{refusal}
+use Rattle.common.proofs.Answered.{same_refusal}
 
 -- the report is made from that bus and the reading
 report_by : ℕ → Outcome → List ℕ
@@ -187,10 +188,10 @@ no_13_table s p e = by (reading s) refl e
 
     refused : (T : Traffic) (v : Verdict) → fip.plan_by v T ≡ Err (refusal 13 p) → v ≡ Refused 13 p
     refused T Passed f = let z : ◌≡◌ {A = ℕ} 0 1 = cc in absurd (omega arith)
-    refused T (Refused n q) f = cc
+    refused T (Refused n q) f = let e = same_refusal f in rw (e.0, e.1)
 
     by : (o : Outcome) → reading s ≡ o → fip.plan_of o 4096 ≡ Err (refusal 13 p) → ⊥
-    by (Not n q) r f = let k : n ≡ 13 = cc in ⊎_elim (λ (l : n ≤ 7). omega arith) (λ (e : n ≡ 20). omega arith) (numbers_given s (given_then s n q r)).1
+    by (Not n q) r f = let k : n ≡ 13 = (same_refusal f).0 in ⊎_elim (λ (l : n ≤ 7). omega arith) (λ (e : n ≡ 20). omega arith) (numbers_given s (given_then s n q r)).1
     by (Read S) r f =
         let T = traffic_of S in
         checks (not (eqb (bus_in S) 5)) (eqb (slots T) 0) (ltb 4096 (rows T)) (leb (miss_of T) (rows T)) (rows T) (missing_of T)

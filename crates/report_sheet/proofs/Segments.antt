@@ -26,6 +26,8 @@ use Rattle.report_sheet.specs.Arrays.{master_at, segment_text}
 use Rattle.report_sheet.specs.Whole.{master_of, masters_of, segment_report}
 use Rattle.std.specs.declared.result.Result.TheVariants.{Ok, Err}
 use Rattle.common.specs.Checks.{refusal}
+use Rattle.common.proofs.Answered.{accepts_alike, same_refusal}
+use Rattle.pnet_plan.specs.declared.answer.Plan.{Plan}
 
 -- ---- From the runs to the segment
 
@@ -83,11 +85,11 @@ segment_of_runs s n m R W M r w k e er ew em = by (planned s 32 32 32) refl e er
   where
     by : (o : Outcome) → planned s 32 32 32 ≡ o → Ok (record { masters = n; streams = m }) ≡ plan_of o → R ≡ run_of o bound r → W ≡ run_of o refined w → M ≡ run_of o rounds k
         → (n ≤ 32) × (segment_text (item R) (item W) (item M) n ≡ segment_report o)
-    by (Read H) q a rr ww mm = let same : n ≡ H.head.a = cc in (omega (arith, masters_few s H q), rw same (segment_lines H R W M r w k rr ww mm))
+    by (Read H) q a rr ww mm = let same : n ≡ H.head.a = ap (λ (x : Plan). x.masters) (accepts_alike a) in (omega (arith, masters_few s H q), rw same (segment_lines H R W M r w k rr ww mm))
     by (Not x p) q a rr ww mm = let z : ◌≡◌ {A = ℕ} 0 1 = cc in absurd (omega arith)
 
 -- and of a refused one
 pub segment_refused : (o : Outcome) (n p : ℕ) → Err (refusal n p) ≡ plan_of o → segment_report o ≡ refusal_text n p
 unfolding segment_report
 segment_refused (Read H) n p e = let z : ◌≡◌ {A = ℕ} 0 1 = cc in absurd (omega arith)
-segment_refused (Not x y) n p e = cc
+segment_refused (Not x y) n p e = let q = same_refusal e in rw (q.0, q.1)

@@ -28,6 +28,8 @@ use Rattle.report_sheet.specs.Whole.{table_of, table_by, table_report, row_at, t
 use Rattle.text.proofs.Writing.{texts_same}
 use Rattle.std.specs.declared.result.Result.TheVariants.{Ok, Err}
 use Rattle.common.specs.Checks.{refusal}
+use Rattle.common.proofs.Answered.{accepts_alike, same_refusal}
+use Rattle.worldfip_plan.specs.declared.answer.Plan.{Plan}
 
 -- identifiers that agree at the 64 ranks name a row alike
 row_same : (m row : ℕ) (f g : ℕ → ℕ) → ((r : ℕ) → r < 64 → f r ≡ g r) → row_line m row f ≡ row_line m row g
@@ -65,9 +67,10 @@ table_of_run (Read S) c s n R N old l a er en = by (verdict (plan_checks S 4096)
     by : (v : Verdict) → verdict (plan_checks S 4096) ≡ v → Ok (record { microcycle = c; slots = s; rows = n }) ≡ plan_by v (traffic_of S) → R ≡ run_by v (traffic_of S) old
         → (n ≤ 4096) × (table_text c s n (item R) (item N) ≡ table_by v (traffic_of S))
     by Passed q b r =
-        let ec : c ≡ us (microcycle (traffic_of S)) = cc in
-        let es : s ≡ slots (traffic_of S) = cc in
-        let em : n ≡ rows (traffic_of S) = cc in
+        let f = accepts_alike b in
+        let ec = ap (λ (x : Plan). x.microcycle) f in
+        let es = ap (λ (x : Plan). x.slots) f in
+        let em = ap (λ (x : Plan). x.rows) f in
         let p = table_passed S q in
         (omega (arith, em, p.1), rw (ec, es, em) (table_lines S R N old p.0 r en))
     by (Refused x p) q b r = let z : ◌≡◌ {A = ℕ} 0 1 = cc in absurd (omega arith)
@@ -75,9 +78,9 @@ table_of_run (Read S) c s n R N old l a er en = by (verdict (plan_checks S 4096)
 -- and of a refused one
 pub table_refused : (o : Outcome) (n p : ℕ) → Err (refusal n p) ≡ plan_of o 4096 → table_report o ≡ refusal_text n p
 unfolding plan_of table_report
-table_refused (Not x y) n p e = cc
+table_refused (Not x y) n p e = let q = same_refusal e in rw (q.0, q.1)
 table_refused (Read S) n p e = by (verdict (plan_checks S 4096)) e
   where
     by : (v : Verdict) → Err (refusal n p) ≡ plan_by v (traffic_of S) → table_by v (traffic_of S) ≡ refusal_text n p
     by Passed b = let z : ◌≡◌ {A = ℕ} 0 1 = cc in absurd (omega arith)
-    by (Refused x y) b = cc
+    by (Refused x y) b = let q = same_refusal b in rw (q.0, q.1)

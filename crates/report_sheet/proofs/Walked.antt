@@ -57,7 +57,7 @@ module _ (s : List ℕ) where
     accepted_steps i h = steps_lead_on i (upto_front s (suc r.m) i (omega (arith, how_many)) r.upto)
 
     -- they are found one after the other
-    pub accepted_finds : (i : ℕ) → i < length (records_in S) → found_of s (place_after s i) ≡ found.One (get_or (records_in S) i nothing) (place_after s (suc i))
+    pub accepted_finds : (i : ℕ) → i < length (records_in S) → found_of s (place_after s i) ≡ found.One (record { found = get_or (records_in S) i nothing; next = place_after s (suc i) })
     unfolding place_of
     accepted_finds i h =
         let l : i ≤ r.m = omega (arith, how_many) in
@@ -65,7 +65,7 @@ module _ (s : List ℕ) where
         let next = accepted_steps (suc i) (omega arith) in
         let there = finds_whole s (place_of s i) (passes_whole i (r.upto.passed i (omega arith))) in
         let is = record_is i l in
-        ap (found_of s) here ∙ (there ∙ (λ k. found.One (sym is k) (sym next k)))
+        ap (found_of s) here ∙ (there ∙ (λ k. found.One (record { found = sym is k; next = sym next k })))
 
     -- the step behind the last record stays
     accepted_end : stays_after s (length (records_in S)) ≡ true

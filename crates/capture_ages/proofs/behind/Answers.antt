@@ -1,5 +1,6 @@
 -- `capture_ages::behind` meets its contract.
-use Rattle.std.proofs.Common.{◌≡◌, ℕ, ◌+◌, ◌%◌, ◌^◌, Bool, cond, ◌||◌, eqb, leb, refl}
+use Rattle.std.proofs.Common.{◌≡◌, ℕ, ◌+◌, ◌%◌, ◌^◌, Bool, true, false, cond, ◌||◌, eqb, leb, refl, ap}
+use mir.Val.{bool_byte}
 use Rattle.common.specs.Sums.{when}
 use Rattle.capture_log.specs.declared.Event.{Event}
 use Rattle.capture_ages.specs.declared.Watch.{Watch}
@@ -13,5 +14,10 @@ watch-is : (w : Watch) (e : Event) (early : Bool) (step clock soon whose : ℕ) 
 unfolding watch_with far_of
 watch-is w e early step clock soon whose p q r s = rw (p, q, r, s) refl
 
+-- a bool counts 1
+one-if : (b : Bool) → bool_byte b ≡ when b 1
+one-if true = refl
+one-if false = refl
+
 pub returns : goal.returns
-returns c = watch-is _ _ _ _ _ _ _ c.step-far.ensures c.clock_at.ensures c.count.ensures c.first.ensures
+returns c = watch-is _ _ _ _ _ _ _ c.step-far.ensures c.clock_at.ensures (ap (λ (x : ℕ). (c.args.w.soon + x) % 2 ^ 64) (one-if c.args.early)) c.first.ensures

@@ -5,8 +5,8 @@ use Rattle.capture_ages.specs.Clock.{ago, lead_of}
 use Rattle.capture_ages.proofs.lead_of.Goals as goal
 
 pub returns : goal.returns
-unfolding lead_of
+unfolding lead_of ago
 returns c =
     let a = c.args in
     c.lead_behind.ensures
-    ∙ ap (lead_behind a.spacing a.previous a.lead) (c.since-gap.ensures ∙ ap (λ (x : ℕ). ago x a.previous) c.clock_at.ensures)
+    ∙ ap (lead_behind a.spacing a.previous a.lead) (ap (λ (x : ℕ). ago x a.previous) c.clock_at.ensures)

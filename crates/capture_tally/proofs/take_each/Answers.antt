@@ -1,4 +1,4 @@
-use Rattle.std.proofs.Common.{◌≡◌, ◌-◌, ◌≤◌, min, sym, refl, ◌∙◌, arith}
+use Rattle.std.proofs.Common.{◌≡◌, ◌≤◌, min, sym, refl, ◌∙◌, arith}
 use Rattle.capture_log.specs.Records.{judge}
 use Rattle.capture_tally.specs.Pieces.{most, before, answer_to}
 use Rattle.capture_tally.specs.Steps.{no_of}
@@ -22,21 +22,6 @@ loop-at-init c =
 
 pub refusal-no-requires : goal.refusal-no-requires
 refusal-no-requires c = (omega arith, c.loop-at.invariant.keeps.left_is.long)
-
-pub shape_of-left-then-no-ne0 : goal.shape_of-left-then-no-ne0
-shape_of-left-then-no-ne0 c = c.loop-at.invariant.keeps.left_is.long ∙ sym c.requires.left_long
-
-pub shape_of-since-then-no-ne0 : goal.shape_of-since-then-no-ne0
-shape_of-since-then-no-ne0 c = c.loop-at.invariant.keeps.since_is.long ∙ sym c.requires.since_long
-
-pub shape_of-answers-then-no-ne0 : goal.shape_of-answers-then-no-ne0
-shape_of-answers-then-no-ne0 c = c.loop-at.invariant.keeps.answers_is.long ∙ sym c.requires.answers_long
-
-pub shape_of-largest-then-no-ne0 : goal.shape_of-largest-then-no-ne0
-shape_of-largest-then-no-ne0 c = c.loop-at.invariant.keeps.largest_is.long ∙ sym c.requires.largest_long
-
-pub shape_of-above-then-no-ne0 : goal.shape_of-above-then-no-ne0
-shape_of-above-then-no-ne0 c = c.loop-at.invariant.keeps.above_is.long ∙ sym c.requires.above_long
 
 pub returns-then-no-ne0 : goal.returns-then-no-ne0
 unfolding answer_to
@@ -75,30 +60,10 @@ keep-requires c =
       };
     }
 
-pub overflow_add-at : goal.overflow_add-at
-overflow_add-at c =
-    let x = next_is c.loop-at.invariant (omega arith) (none (goal.at.overflow_add-at c).After-event_at-e) in
-    omega (arith, x.ends)
-
 pub loop-at-preserved : goal.loop-at-preserved
 loop-at-preserved c =
     let k = c.keep.ensures in
     hearing_next c.loop-at.invariant (omega arith) (none (goal.at.loop-at-preserved c).After-event_at-e) _ c.event_at-e.ensures _ _ _ _ _ k.left_after k.since_after k.answers_after k.largest_after k.above_after
-
-pub shape_of-left : goal.shape_of-left
-shape_of-left c = c.loop-at.invariant.keeps.left_is.long ∙ sym c.requires.left_long
-
-pub shape_of-since : goal.shape_of-since
-shape_of-since c = c.loop-at.invariant.keeps.since_is.long ∙ sym c.requires.since_long
-
-pub shape_of-answers : goal.shape_of-answers
-shape_of-answers c = c.loop-at.invariant.keeps.answers_is.long ∙ sym c.requires.answers_long
-
-pub shape_of-largest : goal.shape_of-largest
-shape_of-largest c = c.loop-at.invariant.keeps.largest_is.long ∙ sym c.requires.largest_long
-
-pub shape_of-above : goal.shape_of-above
-shape_of-above c = c.loop-at.invariant.keeps.above_is.long ∙ sym c.requires.above_long
 
 pub returns : goal.returns
 unfolding answer_to
@@ -106,3 +71,13 @@ returns c =
     let h = c.loop-at.invariant in
     let k = hearing_kept h (omega arith) (omega arith) in
     (rw (hearing_all h (omega arith) (omega arith)) refl, λ e. k.0, λ e. k.1.0, λ e. k.1.1.0, λ e. k.1.1.1.0, λ e. k.1.1.1.1)
+
+-- the step that ends the walk
+pub returns-else-no-ne0 : goal.returns-else-no-ne0
+unfolding answer_to
+returns-else-no-ne0 c =
+    let x = next_is c.loop-at.invariant (omega arith) (none (goal.at.returns-else-no-ne0 c).After-event_at-e) in
+    let k = c.keep.ensures in
+    let h = hearing_next c.loop-at.invariant (omega arith) (none (goal.at.returns-else-no-ne0 c).After-event_at-e) _ c.event_at-e.ensures _ _ _ _ _ k.left_after k.since_after k.answers_after k.largest_after k.above_after in
+    let g = hearing_kept h (omega arith) (omega (arith, x.ends)) in
+    (rw (hearing_all h (omega arith) (omega (arith, x.ends))) refl, λ e. g.0, λ e. g.1.0, λ e. g.1.1.0, λ e. g.1.1.1.0, λ e. g.1.1.1.1)

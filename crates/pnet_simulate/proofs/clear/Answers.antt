@@ -1,19 +1,11 @@
-use Prim.Native.Nat.{◌-◌}
-use mathlib.Core.Path.{refl}
-use native.Mathlib.Omega.{arith}
-use Rattle.common.proofs.Runs.{filling_none, filling_more, filling_done}
+-- `pnet_simulate::clear` meets its contract.
+use mathlib.Core.Path.{◌≡◌}
+use lib.ListN.{replicate}
+use borrow.Author.Rules.{rules}
+use Rattle.pnet_simulate.proofs.Zeros.{zeros_filled}
 use Rattle.pnet_simulate.proofs.clear.Goals as goal
-
-pub loop-p-init : goal.loop-p-init
-loop-p-init c = (omega arith, filling_none (λ q. 0) _)
-
-pub loop-p-preserved : goal.loop-p-preserved
-loop-p-preserved c =
-    (omega arith, filling_more 0 c.loop-p.invariant.1 (omega arith) refl)
-
-pub shape_of-answered : goal.shape_of-answered
-shape_of-answered c = c.loop-p.invariant.1.long
 
 pub returns : goal.returns
 returns c =
-    filling_done c.args.n c.loop-p.invariant.1 (omega arith)
+    let zeros : c.fill.new.self ≡ replicate c.args.n 0 = search rules in
+    zeros_filled c.args.n c.args.answered.now c.fill.new.self zeros

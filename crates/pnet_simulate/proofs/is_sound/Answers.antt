@@ -1,11 +1,10 @@
 -- `pnet_simulate::is_sound` meets its contract: the tests of `sound`, in its order.
-use mathlib.Core.Path.{ap, sym, ◌∙◌}
+use mathlib.Core.Path.{sym, ◌∙◌}
 use native.Mathlib.Omega.{arith}
-use lib.Dec.{leb}
 use lib.ListN.{length}
 use borrow.Author.Tests.{le-leb, lt-leb}
 use Rattle.pnet_simulate.specs.Simulated.{sound}
-use Rattle.pnet_simulate.proofs.Sound.{sound_last}
+use Rattle.pnet_simulate.proofs.Sound.{cycles_law, sound_last}
 use Rattle.pnet_simulate.proofs.is_sound.Goals as goal
 
 pub returns-then-k-lt1 : goal.returns-then-k-lt1
@@ -28,5 +27,5 @@ returns-then-room-owner c =
 pub returns : goal.returns
 returns c =
     let a = c.args in
-    ap (leb (length a.owner.now)) c.first_empty.ensures
+    cycles_law a.cycle.now (length a.owner.now) c.have_cycles.result c.have_cycles.ensures
     ∙ sym (sound_last a.n a.owner.now a.cycle.now a.k a.room (omega arith) (omega arith) (omega arith) (omega arith))

@@ -1,13 +1,9 @@
 -- `pnet_simulate::largest` meets its contract. The loop's invariant: the largest response of the streams before p.
-use Prim.Native.Nat.{◌-◌, ◌≤◌}
+use Prim.Native.Nat.{◌-◌}
 use mathlib.Core.Path.{◌≡◌}
-use lib.ListN.{length}
 use Rattle.common.specs.Sums.{greatest}
 use Rattle.pnet_simulate.specs.Simulated.{response_of}
 use Rattle.pnet_simulate.proofs.largest.Given as goal
 
 abbrev pub invariant-loop-p : goal.invariant-loop-p
-invariant-loop-p l = (l.p ≤ length l.owner) × (l.longest ≡ greatest (λ i. response_of l.owner l.answered l.k (i - 1)) l.p)
-
-abbrev pub decreases-loop-p : goal.decreases-loop-p
-decreases-loop-p l = length l.owner - l.p
+invariant-loop-p l = l.longest ≡ greatest (λ i. response_of l.owner l.answered l.k (i - 1)) l.p

@@ -5,10 +5,10 @@ use Rattle.report_sheet.specs.Whole.{ring_report, ring_accepts}
 use Rattle.report_sheet.proofs.Stored.{reports}
 use Rattle.report_sheet.proofs.ring_report.Goals as goal
 
-pub returns-in-Target : goal.returns-in-Target
+pub returns-in-Ok : goal.returns-in-Ok
 unfolding ring_report ring_accepts
-returns-in-Target c = rw (← c.plan.ensures, c.in-Target.is) (reports true refl refl c.put_ring.ensures)
+returns-in-Ok c = rw (← c.plan.ensures, c.in-Ok.is) (reports true refl refl c.put_ring.ensures)
 
-pub returns-in-Refused : goal.returns-in-Refused
+pub returns-in-Err : goal.returns-in-Err
 unfolding ring_report ring_accepts
-returns-in-Refused c = rw (← c.plan.ensures, c.in-Refused.is) c.refuse.ensures
+returns-in-Err c = rw (← c.plan.ensures, c.in-Err.is) c.refuse.ensures

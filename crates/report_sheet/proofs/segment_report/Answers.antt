@@ -16,19 +16,19 @@ zeros = replicate 32 0
 
 pub put_segment-requires : goal.put_segment-requires
 put_segment-requires c =
-    let f = segment_of_runs c.args.s.now _ _ _ _ _ zeros zeros zeros (sym c.in-Accepted.is ∙ c.plan.ensures.0) c.plan.ensures.1 c.plan.ensures.2 c.plan.ensures.3 in
+    let f = segment_of_runs c.args.s.now _ _ _ _ _ zeros zeros zeros (sym c.in-Ok.is ∙ c.plan.ensures.0) c.plan.ensures.1 c.plan.ensures.2 c.plan.ensures.3 in
     let a = c.plan.auto in
     (omega (arith, f.0, a.bound), omega (arith, f.0, a.refined), omega (arith, f.0, a.rounds))
 
-pub returns-in-Accepted : goal.returns-in-Accepted
+pub returns-in-Ok : goal.returns-in-Ok
 unfolding segment_accepts
-returns-in-Accepted c =
-    let e = sym c.in-Accepted.is ∙ c.plan.ensures.0 in
+returns-in-Ok c =
+    let e = sym c.in-Ok.is ∙ c.plan.ensures.0 in
     let f = segment_of_runs c.args.s.now _ _ _ _ _ zeros zeros zeros e c.plan.ensures.1 c.plan.ensures.2 c.plan.ensures.3 in
     reports true (ap segment_accepts e) f.1 c.put_segment.ensures
 
-pub returns-in-Refused : goal.returns-in-Refused
+pub returns-in-Err : goal.returns-in-Err
 unfolding segment_accepts
-returns-in-Refused c =
-    let e = sym c.in-Refused.is ∙ c.plan.ensures.0 in
+returns-in-Err c =
+    let e = sym c.in-Err.is ∙ c.plan.ensures.0 in
     rw (segment_refused _ _ _ e, ← e) c.refuse.ensures

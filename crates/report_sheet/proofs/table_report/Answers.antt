@@ -16,18 +16,18 @@ zeros = replicate 4096 0
 
 pub put_table-requires : goal.put_table-requires
 put_table-requires c =
-    let f = table_of_run _ _ _ _ _ _ zeros refl (sym c.in-Accepted.is ∙ c.plan.ensures.value) c.plan.ensures.rows_after c.identifiers-names.ensures in
+    let f = table_of_run _ _ _ _ _ _ zeros refl (sym c.in-Ok.is ∙ c.plan.ensures.value) c.plan.ensures.rows_after c.identifiers-names.ensures in
     omega (arith, f.0, c.plan.auto)
 
-pub returns-in-Accepted : goal.returns-in-Accepted
+pub returns-in-Ok : goal.returns-in-Ok
 unfolding table_accepts
-returns-in-Accepted c =
-    let e = sym c.in-Accepted.is ∙ c.plan.ensures.value in
+returns-in-Ok c =
+    let e = sym c.in-Ok.is ∙ c.plan.ensures.value in
     let f = table_of_run _ _ _ _ _ _ zeros refl e c.plan.ensures.rows_after c.identifiers-names.ensures in
     reports true (ap table_accepts e) f.1 c.put_table.ensures
 
-pub returns-in-Refused : goal.returns-in-Refused
+pub returns-in-Err : goal.returns-in-Err
 unfolding table_accepts
-returns-in-Refused c =
-    let e = sym c.in-Refused.is ∙ c.plan.ensures.value in
+returns-in-Err c =
+    let e = sym c.in-Err.is ∙ c.plan.ensures.value in
     rw (table_refused _ _ _ e, ← e) c.refuse.ensures

@@ -1,5 +1,5 @@
 -- `planner_io::input::read_text` takes what was read first as the first piece, and what follows. Assumes nothing.
-use Rattle.std.proofs.Common.{◌≡◌, ◌≤◌, length, take, sym, arith}
+use Rattle.std.proofs.Common.{sym, arith}
 use Rattle.std.proofs.lemmas.List.{length-take-le}
 use Rattle.text.proofs.Writing.{wrote_inside}
 use Rattle.sheet_pieces.proofs.Kept.{room_is}

@@ -3,8 +3,8 @@ use Rattle.std.proofs.Common.{refl, sym, ◌∙◌}
 use Rattle.planner_io.proofs.Made.{took_bad, took_sheet}
 use Rattle.planner_io.proofs.input.told.Goals as goal
 
-pub returns-in-Bad-clause-by_index : goal.returns-in-Bad-clause-by_index
-returns-in-Bad-clause-by_index c = λ first k. took_bad k _ (sym c.end.ensures ∙ c.in-Bad.is)
+pub returns-in-Err-clause-by_index : goal.returns-in-Err-clause-by_index
+returns-in-Err-clause-by_index c = λ first k. took_bad k _ (sym c.end.ensures ∙ c.in-Err.is) refl
 
-pub returns-in-Sheet-clause-by_index : goal.returns-in-Sheet-clause-by_index
-returns-in-Sheet-clause-by_index c = λ first k. took_sheet k _ _ (sym c.end.ensures ∙ c.in-Sheet.is) refl c.min-length.ensures
+pub returns-in-Ok-clause-by_index : goal.returns-in-Ok-clause-by_index
+returns-in-Ok-clause-by_index c = λ first k. took_sheet k _ _ (sym c.end.ensures ∙ c.in-Ok.is) refl c.min-length.ensures
