@@ -11,8 +11,8 @@ ghost use Rattle.pnet_plan.specs.Arrays.{segment_in, Sheeted};
 ghost use Rattle.pnet_plan.specs.Planned.{plan_of, at_place};
 ghost use Rattle.pnet_bounds.specs.Bounded.{bounded, bound_of, master_of, spacing_of, jitter_of, stream_run};
 
-use pnet_plan::Plan;
 use common::Refusal;
+use pnet_plan::Plan;
 use sheet_read::MOST;
 
 // Each stream's master, bound, spacing and jitter; turn is V.
