@@ -90,5 +90,12 @@ pub fn plan(s: &[u8]) -> Result<Plan, Refusal>
         return Err(Refusal { no: 3, place: 0 });
     }
     let longest = together(&messages, head.a);
-    largest_target(s, sheet.first, sheet.streams, &counts, head.b as u64, longest)
+    largest_target(
+        s,
+        sheet.first,
+        sheet.streams,
+        &counts,
+        head.b as u64,
+        longest,
+    )
 }

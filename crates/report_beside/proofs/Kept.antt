@@ -44,6 +44,7 @@ use Rattle.std.specs.declared.result.Result.TheVariants.{Ok, Err}
 use Rattle.common.specs.Checks.{refusal}
 use Rattle.std.specs.declared.result.Result.{Result}
 use Rattle.common.specs.declared.Refusal.{Refusal}
+use Rattle.std.specs.Bool.{⊤}
 
 -- ---- The report, case by case
 
@@ -154,7 +155,7 @@ module _ {urgent : Bool} {s c masters R T J : List ℕ} {h : Hearing} {k : Tally
       ∙ sym (after_joined c p n few kept.passes (figures H (limit_of urgent)) (figures H spacing_of) (figures H jitter_of))))))
 
   -- it is taken
-  pub still_kept : answer ≡ (Ok tt) → (k' : Tally) → k' ≡ after p R T J h.watch k
+  pub still_kept : answer ≡ Ok tt → (k' : Tally) → k' ≡ after p R T J h.watch k
       → Kept urgent s (c ++ p) (record { urgent = h.urgent; streams = h.streams; bytes = h.bytes + length p; watch = (seen_after p T J h.watch k.asked k.lead).watch }) masters R T J k'
   unfolding watch_of tally_of
   still_kept e k' q = record {

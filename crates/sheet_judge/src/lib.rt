@@ -10,13 +10,7 @@ use common::Refusal;
 use sheet_record::{Given, Met, Record};
 
 // Judges a record at a place by itself: refused with 2, 3, 1 or 4, in this order.
-pub fn judge(
-    kind: u8,
-    right: bool,
-    whole: bool,
-    ranged: bool,
-    place: usize,
-) -> Result<(), Refusal>
+pub fn judge(kind: u8, right: bool, whole: bool, ranged: bool, place: usize) -> Result<(), Refusal>
     ensures { result ≡ unless_no (own_no (known kind) right whole ranged) place }
 {
     if !sheet_record::known(kind) {

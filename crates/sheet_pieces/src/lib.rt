@@ -7,9 +7,9 @@ ghost use Rattle.text.specs.Text.{Zeros};
 ghost use Rattle.sheet_pieces.specs.Steps;
 ghost use Rattle.sheet_pieces.specs.Steps.{started, room, held_more, front_with, kept_more, sheet_more, stepped, steps, ended_as};
 
+use common::Refusal;
 use sheet_line::LINE;
 use sheet_record::Record;
-use common::Refusal;
 use sheet_said::record_in;
 
 // So many bytes decide how a sheet is read.

@@ -9,8 +9,8 @@ ghost use Rattle.sheet_read.specs.Steps.{given_to, Begun, Opened, Settles};
 ghost use Rattle.sheet_rules.specs.Whole.{reading};
 ghost use Rattle.sheet_read.specs.Told.{told, counts_told, longests_told, messages_told};
 
-pub use sheet_keep::MOST;
 use common::Refusal;
+pub use sheet_keep::MOST;
 use sheet_record::{Given, Record};
 
 // What reading answers of a sheet that it accepts: the first record, the number of streams, and the place of the first of them.
@@ -242,7 +242,11 @@ pub fn read_whole(
 }
 
 // The same for callers that need no longest messages, as those of P-NET.
-pub fn read_gathering(s: &[u8], counts: &mut [u8; 33], longests: &mut [u32; 33]) -> Result<Accepted, Refusal>
+pub fn read_gathering(
+    s: &[u8],
+    counts: &mut [u8; 33],
+    longests: &mut [u32; 33],
+) -> Result<Accepted, Refusal>
     ensures value { result ≡ told s.now (reading s.now) }
     ensures counts_after { counts.new ≡ counts_told (reading s.now) counts.old }
     ensures longests_after { longests.new ≡ longests_told (reading s.now) longests.old }
@@ -252,7 +256,11 @@ pub fn read_gathering(s: &[u8], counts: &mut [u8; 33], longests: &mut [u32; 33])
 }
 
 // The same for callers that need no longest C, as those of PROFIBUS.
-pub fn read_ring(s: &[u8], counts: &mut [u8; 33], messages: &mut [u32; 33]) -> Result<Accepted, Refusal>
+pub fn read_ring(
+    s: &[u8],
+    counts: &mut [u8; 33],
+    messages: &mut [u32; 33],
+) -> Result<Accepted, Refusal>
     ensures value { result ≡ told s.now (reading s.now) }
     ensures counts_after { counts.new ≡ counts_told (reading s.now) counts.old }
     ensures messages_after { messages.new ≡ messages_told (reading s.now) messages.old }

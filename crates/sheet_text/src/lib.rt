@@ -8,8 +8,8 @@ ghost use Rattle.sheet_rules.specs.Whole.{reading};
 ghost use Rattle.sheet_rules.specs.Whole.Outcome.{Read};
 ghost use Rattle.sheet_text.specs.Answers.{sheet_text, most_text, export_answer, export_bytes, import_answer, import_bytes, copy_answer, copy_bytes};
 
-use sheet_line::{LINE, put_line};
 use common::Refusal;
+use sheet_line::{LINE, put_line};
 
 // No text of an accepted sheet is longer.
 pub const MOST_TEXT: usize = 79_968;

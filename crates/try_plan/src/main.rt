@@ -5,6 +5,7 @@
 
 ghost use Rattle.std.specs.Prelude.{◌≤◌, length};
 
+use common::Refusal;
 use std::io::Read;
 
 // What each place of a WorldFIP run holds before: no sheet here has such a row.
@@ -19,20 +20,20 @@ fn say_with(rt: &HostRuntime, text: &[u8], n: u64) {
     let _ = print!(rt; "{n}");
 }
 
-fn say_refused(rt: &HostRuntime, no: u8, place: usize) {
-    say_with(rt, b"refused ", no as u64);
-    say_with(rt, b" at ", place as u64);
+fn say_refused(rt: &HostRuntime, refusal: Refusal) {
+    say_with(rt, b"refused ", refusal.no as u64);
+    say_with(rt, b" at ", refusal.place as u64);
 }
 
 // ---- P-NET: three runs, of which every place holds 9 before
 
-fn say_pnet(rt: &HostRuntime, p: pnet_plan::Plan) {
-    match p {
-        pnet_plan::Plan::Accepted { masters, streams } => {
-            say_with(rt, b"masters ", masters as u64);
-            say_with(rt, b", streams ", streams as u64);
+fn say_pnet(rt: &HostRuntime, answer: Result<pnet_plan::Plan, Refusal>) {
+    match answer {
+        Ok(plan) => {
+            say_with(rt, b"masters ", plan.masters as u64);
+            say_with(rt, b", streams ", plan.streams as u64);
         }
-        pnet_plan::Plan::Refused { no, place } => say_refused(rt, no, place),
+        Err(refusal) => say_refused(rt, refusal),
     }
 }
 
@@ -94,30 +95,26 @@ fn pnet_case(rt: &HostRuntime, case: &[u8]) {
 
 // ---- PROFIBUS
 
-fn say_profibus(rt: &HostRuntime, p: profibus_plan::Plan) {
-    match p {
-        profibus_plan::Plan::Target { rotation, stream } => {
-            say_with(rt, b"TTR in bp ", rotation.0 as u64);
-            say_with(rt, b", limited by stream ", stream as u64);
+fn say_profibus(rt: &HostRuntime, answer: Result<profibus_plan::Plan, Refusal>) {
+    match answer {
+        Ok(plan) => {
+            say_with(rt, b"TTR in bp ", plan.rotation.0 as u64);
+            say_with(rt, b", limited by stream ", plan.stream as u64);
         }
-        profibus_plan::Plan::Refused { no, place } => say_refused(rt, no, place),
+        Err(refusal) => say_refused(rt, refusal),
     }
 }
 
 // ---- WorldFIP: one run, of which every place holds MARK before and is shown as '-' while it does
 
-fn say_worldfip(rt: &HostRuntime, p: worldfip_plan::Plan) {
-    match p {
-        worldfip_plan::Plan::Accepted {
-            microcycle,
-            slots,
-            rows,
-        } => {
-            say_with(rt, b"microcycle in us ", microcycle.0);
-            say_with(rt, b", slots ", slots as u64);
-            say_with(rt, b", rows ", rows as u64);
+fn say_worldfip(rt: &HostRuntime, answer: Result<worldfip_plan::Plan, Refusal>) {
+    match answer {
+        Ok(plan) => {
+            say_with(rt, b"microcycle in us ", plan.microcycle.0);
+            say_with(rt, b", slots ", plan.slots as u64);
+            say_with(rt, b", rows ", plan.rows as u64);
         }
-        worldfip_plan::Plan::Refused { no, place } => say_refused(rt, no, place),
+        Err(refusal) => say_refused(rt, refusal),
     }
 }
 

@@ -13,8 +13,8 @@ ghost use Rattle.worldfip_figures.specs.Declares.{traffic_of};
 ghost use Rattle.worldfip_figures.specs.Figures.{figures_of, identifier_of};
 ghost use Rattle.worldfip_figures.specs.Held.{held, Sheeted, measured, Gathered};
 
-use periods::{by_rank, in_rows, microcycle, names_by_rank, rows_of};
 use common::Refusal;
+use periods::{by_rank, in_rows, microcycle, names_by_rank, rows_of};
 use units::Micros;
 
 // What a table has, and the variables by rank: their places in the sheet, from 0, and their periods in rows. Past the last rank stands 0.
