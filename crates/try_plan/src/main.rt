@@ -43,10 +43,8 @@ fn say_figure(rt: &HostRuntime, x: u32) {
 
 fn say_run(rt: &HostRuntime, name: &[u8], run: &[u32]) {
     say(rt, name);
-    let mut i: usize = 0;
-    while i < run.len() {
-        say_figure(rt, run[i]);
-        i += 1;
+    for figure in run {
+        say_figure(rt, *figure);
     }
 }
 
@@ -71,7 +69,7 @@ fn plan_pnet(
 fn places(asked: u8) -> usize
     ensures { result ≤ 12 }
 {
-    if asked < 12 { asked as usize } else { 12 }
+    asked.min(12) as usize
 }
 
 fn pnet_case(rt: &HostRuntime, case: &[u8]) {
@@ -127,32 +125,20 @@ fn say_row(rt: &HostRuntime, row: u64) {
 }
 
 fn say_rows(rt: &HostRuntime, rows: &[u64]) {
-    let mut m: usize = 0;
-    while m < rows.len() {
-        say_row(rt, rows[m]);
-        m += 1;
+    for row in rows {
+        say_row(rt, *row);
     }
 }
 
 fn kept(rows: &[u64]) -> u64 {
-    let mut k: u64 = 0;
-    let mut m: usize = 0;
-    while m < rows.len() {
-        if rows[m] == MARK {
-            k = std::num::wrapping_add_u64(k, 1);
-        }
-        m += 1;
-    }
-    k
+    rows.iter().filter(|row| **row == MARK).count() as u64
 }
 
 // All rows in one number, by remainders of a prime.
 fn folded(rows: &[u64]) -> u64 {
     let mut x: u64 = 0;
-    let mut m: usize = 0;
-    while m < rows.len() {
-        x = (x * 65599 + rows[m] % 4294967291) % 4294967291;
-        m += 1;
+    for row in rows {
+        x = (x * 65599 + *row % 4294967291) % 4294967291;
     }
     x
 }
@@ -174,10 +160,8 @@ fn say_name(rt: &HostRuntime, name: u16) {
 // The first eight identifiers by rank.
 fn say_names(rt: &HostRuntime, names: &[u16; 64]) {
     say(rt, b"; by rank");
-    let mut r: usize = 0;
-    while r < 8 {
-        say_name(rt, names[r]);
-        r += 1;
+    for name in &names[..8] {
+        say_name(rt, *name);
     }
 }
 
@@ -192,8 +176,7 @@ fn plan_worldfip(rt: &HostRuntime, s: &[u8], rows: &mut [u64]) {
 fn room_of(high: u8, low: u8) -> usize
     ensures { result ≤ 4100 }
 {
-    let asked = high as usize * 256 + low as usize;
-    if asked < 4100 { asked } else { 4100 }
+    (high as usize * 256 + low as usize).min(4100)
 }
 
 fn worldfip_case(rt: &HostRuntime, case: &[u8]) {
@@ -231,14 +214,12 @@ fn try_line(rt: &HostRuntime, line: &[u8]) {
 }
 
 fn try_lines(rt: &HostRuntime, text: &[u8]) {
-    let mut start: usize = 0;
-    let mut i: usize = 0;
-    while i < text.len() {
-        if text[i] == b'\n' {
+    let mut start = 0;
+    for (i, byte) in text.iter().enumerate() {
+        if *byte == b'\n' {
             try_line(rt, &text[start..i]);
             start = i + 1;
         }
-        i += 1;
     }
 }
 
