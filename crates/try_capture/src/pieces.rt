@@ -1,7 +1,6 @@
 // The same capture, taken in pieces.
 use crate::words::{say_figures, say_plan, say_refused, say_run, say_watch};
 use capture_ages::Watch;
-use capture_tally::Taken;
 
 // Takes a capture in pieces of this size, of a byte at least, and says a refusal, with its place in the capture; whether all is taken.
 fn take_by(
@@ -28,8 +27,12 @@ fn take_by(
             largest,
             above,
         );
-        if let Taken::Refused { no, place } = taken {
-            say_refused(rt, no, std::num::wrapping_add_usize(at, place));
+        if let Err(refusal) = taken {
+            say_refused(
+                rt,
+                refusal.no,
+                std::num::wrapping_add_usize(at, refusal.place),
+            );
             return false;
         }
         at = std::num::wrapping_add_usize(at, piece.len());

@@ -1,5 +1,6 @@
 // What the program says.
 use capture_ages::Watch;
+use common::Refusal;
 use pnet_plan::Plan;
 
 pub(crate) fn say(rt: &HostRuntime, text: &[u8]) {
@@ -17,14 +18,11 @@ pub(crate) fn say_refused(rt: &HostRuntime, no: u8, place: usize) {
 }
 
 // Says a refusal, and answers the number of streams, 0 on a refusal.
-pub(crate) fn say_plan(rt: &HostRuntime, p: Plan) -> usize {
-    match p {
-        Plan::Accepted {
-            masters: _,
-            streams,
-        } => streams,
-        Plan::Refused { no, place } => {
-            say_refused(rt, no, place);
+pub(crate) fn say_plan(rt: &HostRuntime, answer: Result<Plan, Refusal>) -> usize {
+    match answer {
+        Ok(plan) => plan.streams,
+        Err(refusal) => {
+            say_refused(rt, refusal.no, refusal.place);
             0
         }
     }

@@ -3,7 +3,6 @@
 // and no response passes the refined figure.
 #![tactic(auto)]
 
-use pnet_plan::Plan;
 use sheet_record::Record;
 
 fn write(rt: &HostRuntime, text: &[u8]) {
@@ -42,7 +41,7 @@ impl Sheet {
             e: 0,
         };
         let mut bytes = [0u8; 12804];
-        sheet_write::put_record(&mut bytes, 0, head);
+        let _ = sheet_write::put_record(&mut bytes, 0, head);
         Sheet {
             masters,
             deadline,
@@ -71,7 +70,7 @@ impl Sheet {
         let mut bytes = self.bytes;
         let mut owner = self.owner;
         let mut cycle = self.cycle;
-        sheet_write::put_record(&mut bytes, 2 + 16 * n, stream);
+        let _ = sheet_write::put_record(&mut bytes, 2 + 16 * n, stream);
         owner[n] = master;
         cycle[n] = c;
         Sheet {
@@ -154,13 +153,7 @@ fn figures(bytes: &[u8], streams: usize, bound: &mut [u32], refined: &mut [u32])
         return false;
     }
     let mut rounds = [0u32; 32];
-    match pnet_plan::plan(&bytes[..end], bound, refined, &mut rounds) {
-        Plan::Accepted {
-            masters: _,
-            streams: _,
-        } => true,
-        Plan::Refused { no: _, place: _ } => false,
-    }
+    pnet_plan::plan(&bytes[..end], bound, refined, &mut rounds).is_ok()
 }
 
 fn show(rt: &HostRuntime, name: &[u8], s: Sheet) {
