@@ -85,7 +85,10 @@ pub fn planner_profibus(s: &[u8], place: &mut u64) -> u64
     ensures place_after { place.new ≡ profibus_place (Ring.plan_of (reading s.now)) }
 {
     let answer = profibus_plan::plan(s);
-    told(answer.map(|plan| (plan.rotation.0 as u64, plan.stream)), place)
+    told(
+        answer.map(|plan| (plan.rotation.0 as u64, plan.stream)),
+        place,
+    )
 }
 
 // The rows of a WorldFIP table, which go to the run.

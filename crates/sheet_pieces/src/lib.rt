@@ -141,9 +141,9 @@ pub fn take(piece: &[u8], t: Taken, front: &mut [u8], sheet: &mut [u8]) -> Taken
 pub fn end(t: Taken) -> Result<usize, Refusal>
     ensures { result ≡ ended_as t }
 {
-    let at = t.line;
+    let place = t.line;
     if t.bad | (0 < t.held) {
-        return Err(Refusal { no: 23, place: at });
+        return Err(Refusal { no: 23, place });
     }
     Ok(t.kept)
 }

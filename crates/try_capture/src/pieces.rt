@@ -18,14 +18,7 @@ fn take_by(
     let mut at: usize = 0;
     for piece in c.chunks(size.max(1)) {
         let taken = capture_tally::take(
-            piece,
-            streams,
-            bound,
-            left,
-            since,
-            answers,
-            largest,
-            above,
+            piece, streams, bound, left, since, answers, largest, above,
         );
         if let Err(refusal) = taken {
             say_refused(
