@@ -33,7 +33,8 @@ use Rattle.demands.specs.Logged.{log_of, instants_of, Close}
 use Rattle.demands.proofs.Matching.{Counts, Punctual, AllSpaced, Within, all_within, above_none, largest_most}
 use Rattle.demands.proofs.Passing.{all_pass, none_refused}
 use Rattle.demands.proofs.Clocked.{recorded, clock_within, unbroken, Timely, timely, timely_kept, soon_none, whose_none, none_soon, open_within}
-use Rattle.std.specs.declared.result.Result.TheVariants.{Ok, Err}
+use Rattle.std.specs.Bool.{⊤}
+use Rattle.std.specs.declared.result.Result.TheVariants.{Ok}
 use Rattle.std.specs.declared.result.Result.{Result}
 use Rattle.common.specs.declared.Refusal.{Refusal}
 
@@ -138,7 +139,7 @@ module _ {D : Discipline} {K : Keeps D} (C : Counts D K) (given : Outcome) (H : 
     passes = none_refused c (length H.streams) n long (rw logged (all_pass C (figure (segment_of H)) punctual z run spaced))
 
     -- all of its records are taken
-    pub all_are_taken : told ≡ (Ok tt)
+    pub all_are_taken : told ≡ Ok tt
     unfolding zeros
     all_are_taken = whole_taken c (length H.streams) streams_few passes
 

@@ -92,7 +92,7 @@ module _ (s : List ℕ) (S : Sheet) (reads : reading s ≡ Read S) (room : ℕ) 
   pub worldfip_answers_as_published : fip.Answers S room (table.plan_of (reading s) room)
   worldfip_answers_as_published = rw reads (worldfip.plan_answers s S (reading_read s S reads) room)
 
-  pub no_other_table : (p : tablePlan.Plan) → fip.Answers S room p → p ≡ table.plan_of (reading s) room
+  pub no_other_table : (p : Result tablePlan.Plan Refusal) → fip.Answers S room p → p ≡ table.plan_of (reading s) room
   no_other_table p a = rw reads (worldfip.answers_only s S (reading_read s S reads) room p a)
 
 -- ---- 'A timing refusal is given exactly if the published condition is broken and no refusal earlier in that page's order applies.'

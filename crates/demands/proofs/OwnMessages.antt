@@ -5,7 +5,6 @@ use mathlib.Core.Path.{◌≡◌, sym, ap}
 use mathlib.Core.List.{List}
 use native.Mathlib.Omega.{arith}
 use Rattle.units.specs.Units.{ring_bp}
-use Rattle.units.specs.declared.RingPeriods.{RingPeriods}
 use Rattle.sheet_record.specs.Kinds.{profibus}
 use Rattle.sheet_rules.specs.Sheets.{Sheet, bus_in, masters_of, message_of}
 use Rattle.sheet_rules.specs.Whole.{reading}
@@ -37,7 +36,7 @@ pub record OwnMessages (S S' : Sheet) : Type 0 where
 pub record Raised (S S' : Sheet) (ttr : ℕ) : Type 0 where
   pub rotation : ℕ
   pub by : ℕ
-  pub answer : plan_of (Read S') ≡ Ok (record { rotation = (ring_bp rotation); stream = by })
+  pub answer : plan_of (Read S') ≡ Ok (record { rotation = ring_bp rotation; stream = by })
   pub no_lower : ttr ≤ rotation
   pub exactly : rotation + messages (ring_of S') ≡ ttr + masters_of S * S.head.c
 
@@ -46,7 +45,7 @@ module _ (s s' : List ℕ) (S S' : Sheet) (was_read : reading s ≡ Read S) (is_
   shortened =
       shortened_ring S S' own.masters own.latency (λ y lo hi. omega (arith, m_is_every_masters S own.with_M y, own.messages y lo hi)) own.streams
 
-  pub own_messages_raise_TTR : (ttr i : ℕ) → plan_of (reading s) ≡ Ok (record { rotation = (ring_bp ttr); stream = i }) → Raised S S' ttr
+  pub own_messages_raise_TTR : (ttr i : ℕ) → plan_of (reading s) ≡ Ok (record { rotation = ring_bp ttr; stream = i }) → Raised S S' ttr
   own_messages_raise_TTR ttr i planned = split (plan_answers s S (reading_read s S was_read)) (rw was_read at planned)
     where
       raised : bus_in S ≡ profibus → Limited (ring_of S) ttr i → Raised S S' ttr
@@ -64,11 +63,11 @@ module _ (s s' : List ℕ) (S S' : Sheet) (was_read : reading s ≡ Read S) (is_
                 omega (arith, rises_by shortened ttr i (target R') (first_failing R' (target R' + 1)) d d' a b, the_sum_is_n_times_M S own.with_M);
           }
 
-      split : {p : Result Plan Refusal} → Answers S p → p ≡ Ok (record { rotation = (ring_bp ttr); stream = i }) → Raised S S' ttr
+      split : {p : Result Plan Refusal} → Answers S p → p ≡ Ok (record { rotation = ring_bp ttr; stream = i }) → Raised S S' ttr
       split (another_bus other) e = let z : ◌≡◌ {A = ℕ} 0 1 = cc in absurd (omega arith)
       split (fails j bus f) e = let z : ◌≡◌ {A = ℕ} 0 1 = cc in absurd (omega arith)
       split (limited t j bus a) e =
-          let same : ring_bp t ≡ ring_bp ttr = cc in
-          let q : t ≡ ttr = ap (λ (r : RingPeriods). r.0) same in
-          let k : j ≡ i = cc in
+          let same : ◌≡◌ {A = Plan} (record { rotation = ring_bp t; stream = j }) (record { rotation = ring_bp ttr; stream = i }) = cc in
+          let q : t ≡ ttr = ap (λ (x : Plan). x.rotation.0) same in
+          let k : j ≡ i = ap (λ (x : Plan). x.stream) same in
           raised bus (rw (sym q, sym k) a)

@@ -31,7 +31,6 @@ use Rattle.std.specs.declared.result.Result.TheVariants.{Ok, Err}
 use Rattle.common.specs.Checks.{refusal}
 use Rattle.std.specs.declared.result.Result.{Result}
 use Rattle.common.specs.declared.Refusal.{Refusal}
-use Rattle.sheet_read.specs.Told.{accepted}
 
 -- ---- 'mean M for every master'
 

@@ -32,7 +32,8 @@ use Rattle.demands.proofs.Demand3.{accepted_as_demanded}
 use Rattle.demands.proofs.Matching.{Punctual, AllSpaced}
 use Rattle.demands.proofs.FirstCome.{first_come_counts, each_punctual}
 use Rattle.demands.proofs.Beside.{zeros, none_counted_then_spaced, all_are_taken, none_too_soon, none_named, none_far, none_open_too_long}
-use Rattle.std.specs.declared.result.Result.TheVariants.{Ok, Err}
+use Rattle.std.specs.Bool.{⊤}
+use Rattle.std.specs.declared.result.Result.TheVariants.{Ok}
 use Rattle.std.specs.declared.result.Result.{Result}
 use Rattle.common.specs.declared.Refusal.{Refusal}
 
@@ -99,7 +100,7 @@ module _ (s bounds refined rounds : List ℕ) (H : Sheet) (accepts : planned s (
 
   module _ (spaced : (k : ℕ) → Spaced (segment_of H) k came) where
     -- all of its records are taken
-    pub the_capture_is_taken : told ≡ (Ok tt)
+    pub the_capture_is_taken : told ≡ Ok tt
     the_capture_is_taken = all_are_taken first_come_counts (bounded s most) H the_sheet_is_taken as_demanded.declared bound_of each run z close lasts c n few long logged limits spacings jitters spaced
 
     -- the count of requests that came too soon is 0, so no stream is named

@@ -44,4 +44,4 @@ pub data Answers (s lent_R lent_W lent_rounds : List ℕ) : Result Plan Refusal 
   accepted : {H : Sheet} {R W rounds : List ℕ} → Accepted s (length lent_R) (length lent_W) (length lent_rounds) H
       → ((k : ℕ) → 1 ≤ k → k ≤ masters_of H → Figures (segment_of H) k (get_or R (k - 1) 0) (get_or W (k - 1) 0) (get_or rounds (k - 1) 0))
       → LaterKept (masters_of H) lent_R R → LaterKept (masters_of H) lent_W W → LaterKept (masters_of H) lent_rounds rounds
-      → Answers s lent_R lent_W lent_rounds (Ok (record { masters = (masters_of H); streams = (length H.streams) })) R W rounds
+      → Answers s lent_R lent_W lent_rounds (Ok (record { masters = masters_of H; streams = length H.streams })) R W rounds

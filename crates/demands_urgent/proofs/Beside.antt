@@ -33,7 +33,8 @@ use Rattle.demands.proofs.Beside as beside
 use Rattle.demands_urgent.specs.Written.{written_at}
 use Rattle.demands_urgent.proofs.Written.{in_range_law, all_met}
 use Rattle.demands_urgent.proofs.Captured.{stacked_counts, each_punctual}
-use Rattle.std.specs.declared.result.Result.TheVariants.{Ok, Err}
+use Rattle.std.specs.Bool.{⊤}
+use Rattle.std.specs.declared.result.Result.TheVariants.{Ok}
 use Rattle.std.specs.declared.result.Result.{Result}
 use Rattle.common.specs.declared.Refusal.{Refusal}
 
@@ -99,7 +100,7 @@ module _ (s : List ℕ) (H : Sheet) (accepts : urgently s most ≡ Read H)
 
   module _ (spaced : AllSpaced S came) where
     -- all of its records are taken
-    pub the_capture_is_taken : told ≡ (Ok tt)
+    pub the_capture_is_taken : told ≡ Ok tt
     the_capture_is_taken = beside.all_are_taken (stacked_counts S Everyone) (urgently s most) H accepts declared figure each run z close lasts c n few long logged limits spacings jitters spaced
 
     -- the count of requests that came too soon is 0, so no stream is named

@@ -45,4 +45,4 @@ pub data Answers (s lent-places lent-x lent-rounds : List ℕ) : Result Plan Ref
   accepted : {H : Sheet} {places x rounds : List ℕ} → Accepted s (room_in lent-places lent-x lent-rounds) H
       → ((i : ℕ) → 1 ≤ i → i ≤ length H.streams → Figures (segment_of H) i (written_at places i) (written_at x i) (written_at rounds i))
       → LaterKept (length H.streams) lent-places places → LaterKept (length H.streams) lent-x x → LaterKept (length H.streams) lent-rounds rounds
-      → Answers s lent-places lent-x lent-rounds (Ok (record { masters = (masters_of H); streams = (length H.streams) })) places x rounds
+      → Answers s lent-places lent-x lent-rounds (Ok (record { masters = masters_of H; streams = length H.streams })) places x rounds

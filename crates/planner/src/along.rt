@@ -45,8 +45,7 @@ fn number_of(entered: Entered) -> u32 {
 
 // The master that word i is; none has a number above 255.
 fn sender(rt: &HostRuntime, i: usize) -> u8 {
-    let n = number_of(master_at(rt, i));
-    if n < 255 { n as u8 } else { 255 }
+    number_of(master_at(rt, i)).min(255) as u8
 }
 
 // Word i is what stands there: a number, its unit, any sheet, a master.
@@ -101,18 +100,16 @@ fn misplaced(rt: &HostRuntime, i: usize, count: usize)
 
 // All words fit, and the fours are whole; else it is said which word is not what stands there.
 fn well_formed(rt: &HostRuntime, count: usize) -> bool {
-    let mut i: usize = 2;
-    while i < count {
+    for i in 2..count {
         if !fits(rt, i) {
             misplaced(rt, i, count);
             return false;
         }
-        i += 1;
     }
     if (count == 4) | ((count % 4 == 2) & (count > 2)) {
         return true;
     }
-    misplaced(rt, i, count);
+    misplaced(rt, count.max(2), count);
     false
 }
 
@@ -121,11 +118,9 @@ fn standard_inputs(rt: &HostRuntime, segments: usize) -> usize
     requires { segments ≤ 4611686018427387903 }
     ensures { result ≤ segments }
 {
-    let mut found: usize = 0;
-    let mut j: usize = 0;
-    while j < segments {
+    let mut found = 0;
+    for j in 0..segments {
         found += from_standard_input(rt, 4 * j + 4);
-        j += 1;
     }
     found
 }
@@ -169,8 +164,7 @@ fn cross(rt: &HostRuntime, segments: usize, deadline: BitPeriods) -> u8
     requires { segments ≤ 4611686018427387903 }
 {
     let mut way = pnet_path::start();
-    let mut j: usize = 0;
-    while j < segments {
+    for j in 0..segments {
         let i = 4 * j + 2;
         let mut sheet = sheet_pieces::sheet_buffer();
         let given = read_sheet(rt, i + 2, &mut sheet);
@@ -183,7 +177,6 @@ fn cross(rt: &HostRuntime, segments: usize, deadline: BitPeriods) -> u8
         if way.refused {
             return write_report(rt, way, deadline);
         }
-        j += 1;
     }
     write_report(rt, way, deadline)
 }

@@ -151,12 +151,10 @@ fn by_names(rt: &HostRuntime, number: usize, i: usize, count: usize) -> u8 {
 
 // Names with no `--` before them: one that begins as an option does is none that there is.
 fn by_plain_names(rt: &HostRuntime, number: usize, first: usize, count: usize) -> u8 {
-    let mut i = first;
-    while i < count {
+    for i in first..count {
         if words::is_option(rt, i) {
             return words::unknown(rt, i);
         }
-        i += 1;
     }
     by_names(rt, number, first, count)
 }

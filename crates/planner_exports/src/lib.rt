@@ -18,7 +18,7 @@ ghost use Rattle.planner_exports.specs.Numbers.{pnet_number, profibus_number, wo
 ghost use Rattle.planner_exports.specs.Numbers.{pnet_place, profibus_place, worldfip_place};
 ghost use Rattle.sheet_text.specs.Answers.{export_answer, export_bytes, import_answer, import_bytes};
 ghost use Rattle.sheet_rewrite.specs.Rewriting.{rewrite_answer, rewrite_bytes};
-ghost use Rattle.planner_exports.specs.Numbers.{put_number, put_place};
+ghost use Rattle.planner_exports.specs.Numbers.{number_by, place_by, put_number, put_place};
 
 use common::Refusal;
 

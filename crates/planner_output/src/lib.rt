@@ -9,7 +9,7 @@ use std::fmt::InlineText;
 use std::io;
 use std::process::ExitCode;
 
-// How a call of the program ends, as the digit that it says: a byte from 48 to 51.
+// How a call of the program ends, as the digit that it says: a byte from 48 to 51. Kept as bytes: `end`, `report` and `unless_cut` promise what they do for every byte.
 pub const ACCEPTED: u8 = b'0';
 
 pub const REFUSED: u8 = b'1';

@@ -163,7 +163,7 @@ module _ {s : List ℕ} {N n first : ℕ} {counts longests : List ℕ} (h : Shee
         → d ≡ filled (at_place (jitter_of (segment_in s))) n u → Returned s room x y z u (Ok (record { masters = N; streams = n })) a b c d
     unfolding segment_of
     returned_accepted x y z u a b c d p q t v =
-        let r : Ok (record { masters = N; streams = n }) ≡ plan_of (Read (sheet_in s)) = ap (λ (k : ℕ). Ok (record { masters = k; streams = n })) h.masters_are ∙ ap (λ k. Ok (record { masters = (masters_of (sheet_in s)); streams = k })) (sym h.ready.number) in
+        let r : Ok (record { masters = N; streams = n }) ≡ plan_of (Read (sheet_in s)) = ap (λ (k : ℕ). Ok (record { masters = k; streams = n })) h.masters_are ∙ ap (λ k. Ok (record { masters = masters_of (sheet_in s); streams = k })) (sym h.ready.number) in
         (r ∙ ap plan_of (sym sheeted_read), (run_read master_of x a p, (run_read bound_of y b q, (run_read spacing_of z c t, run_read jitter_of u d v))))
 
 -- ---- Stream by stream

@@ -1,14 +1,11 @@
 -- Page 02, 'Ask 4', several P-NET segments: what a path costs by its figures, and its refusals behind the sheets' own in their order. R i is the bound of
 -- segment i's sender, F i the forwarding time of gateway i. Assumes nothing.
 use Rattle.std.specs.Prelude.{ℕ, zero, suc, ◌+◌, ◌*◌, List, [], ◌∷◌, Bool, not, get_or, eqb, leb, ltb}
-use Rattle.common.specs.Checks.{Check, check, Verdict, verdict, unless}
-use Rattle.common.specs.Checks.Verdict.{Passed, Refused}
+use Rattle.common.specs.Checks.{Check, check, verdict, unless}
 use Rattle.common.specs.Sums.{first_of}
 use Rattle.sheet_record.specs.Kinds.{within}
 use Rattle.units.specs.Units.{bp}
 use Rattle.units.specs.declared.BitPeriods.{BitPeriods}
-use Rattle.std.specs.declared.result.Result.TheVariants.{Ok, Err}
-use Rattle.common.specs.Checks.{refusal}
 use Rattle.std.specs.declared.result.Result.{Result}
 use Rattle.common.specs.declared.Refusal.{Refusal}
 

@@ -9,7 +9,7 @@ use Rattle.pnet_path.specs.Ways.{over_by, over_to, answer_of}
 use Rattle.pnet_path.specs.declared.Way.{Way}
 use Rattle.std.specs.declared.result.Result.{Result}
 use Rattle.common.specs.declared.Refusal.{Refusal}
-use Rattle.std.specs.declared.result.Result.TheVariants.{Ok, Err}
+use Rattle.std.specs.declared.result.Result.TheVariants.{Err}
 use Rattle.std.specs.declared.option.Option.TheVariants.{Some, None}
 use Rattle.std.specs.Prelude.{is_some}
 use Rattle.units.specs.declared.BitPeriods.{BitPeriods}

@@ -81,9 +81,9 @@ module _ {Good Bad : ℕ → Type 0} (f : ℕ → Bool) (n : ℕ) (tells : (j : 
   first = first_is f n 1
 
   -- all before i are good
-  searched : (i : ℕ) → 1 ≤ i → i ≤ n + 1 → ((j : ℕ) → 1 ≤ j → j < i → Good j) → Searched f n i
+  searched : (i : ℕ) → 1 ≤ i → i ≤ n + 1 → ((j : ℕ) → 1 ≤ j → j < i → Good j) → Searched f i
   searched i from to g =
-      record { from = from; to = to; fails = λ j l. (tells (j + 1) (omega arith) (omega arith)).if_good (g (j + 1) (omega arith) (omega arith)) }
+      record { fails = λ j l. (tells (j + 1) (omega arith) (omega arith)).if_good (g (j + 1) (omega arith) (omega arith)) }
 
   first_tells : Tells (leb at n) (Each Good n) (FirstBad Good Bad n at)
   first_tells = record { good = good; bad = λ e. bad (leb-true at n e); if_good = if_good; if_bad = λ b. le-leb at n b.to }
@@ -102,13 +102,13 @@ module _ {Good Bad : ℕ → Type 0} (f : ℕ → Bool) (n : ℕ) (tells : (j : 
 
       if_good : Each Good n → leb at n ≡ false
       if_good g =
-          let e = searched_end f n (n + 1) (searched (n + 1) (omega arith) (omega arith) (λ j lo hi. g j lo (omega arith))) (omega arith) in
+          let e = searched_end f (n + 1) (searched (n + 1) (omega arith) (omega arith) (λ j lo hi. g j lo (omega arith))) (omega arith) n (omega arith) in
           lt-leb at n (omega (arith, e))
 
   -- no other number is the first
   one_first : {i : ℕ} → FirstBad Good Bad n i → i ≡ at
   one_first {i} b =
-      searched_here f n i (searched i b.from (omega (arith, b.to)) b.before) b.to ((tells i b.from b.to).if_bad b.itself)
+      searched_here f i (searched i b.from (omega (arith, b.to)) b.before) b.from n b.to ((tells i b.from b.to).if_bad b.itself)
 
 -- ---- Senders
 

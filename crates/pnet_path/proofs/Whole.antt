@@ -33,7 +33,7 @@ use Rattle.pnet_path.specs.declared.Way.{Way}
 use Rattle.pnet_path.proofs.Laws.{over_stays, over_goes, answer_of_refused, answer_of_others}
 use Rattle.pnet_path.proofs.Refusals.{behind, refused_own, Looked, looked}
 use Rattle.pnet_path.proofs.Refusals.Looked.{all, up_to}
-use Rattle.std.specs.declared.result.Result.TheVariants.{Ok, Err}
+use Rattle.std.specs.declared.result.Result.TheVariants.{Err}
 use Rattle.common.specs.Checks.{refusal}
 use Rattle.std.specs.declared.option.Option.TheVariants.{Some, None}
 use Rattle.std.specs.Prelude.{is_some}

@@ -8,7 +8,7 @@ use Rattle.pnet_bounds.specs.Bounded.{bounded}
 use Rattle.pnet_sender.specs.Sender.{sound}
 use Rattle.pnet_crossing.specs.Cost.{crossing_by}
 use Rattle.units.specs.declared.BitPeriods.{BitPeriods}
-use Rattle.std.specs.declared.result.Result.TheVariants.{Ok, Err}
+use Rattle.std.specs.declared.result.Result.TheVariants.{Err}
 use Rattle.common.specs.Checks.{refusal}
 use Rattle.std.specs.declared.result.Result.{Result}
 use Rattle.common.specs.declared.Refusal.{Refusal}

@@ -1,5 +1,5 @@
 -- Page 02, 'Ask 4': what is kept of a path that is handed over segment by segment, and what it answers. Assumes nothing.
-use Rattle.std.specs.Prelude.{◌≡◌, ℕ, zero, suc, ◌+◌, ◌-◌, ◌^◌, ◌≤◌, min, List, true, false, cond, replicate, set, is_some}
+use Rattle.std.specs.Prelude.{◌≡◌, ℕ, zero, suc, ◌+◌, ◌-◌, ◌^◌, ◌≤◌, min, List, true, cond, replicate, set, is_some}
 use Rattle.pnet_bounds.specs.Bounded.{bounded}
 use Rattle.pnet_sender.specs.Sender.{sound, sender_of}
 use Rattle.units.specs.Units.{bp}
@@ -8,7 +8,6 @@ use Rattle.pnet_crossing.specs.Cost.{crossing_by, kept, no_bound}
 use Rattle.pnet_path.specs.Path.{Path}
 use Rattle.pnet_path.specs.declared.Way.{Way}
 use Rattle.std.specs.declared.result.Result.TheVariants.{Ok, Err}
-use Rattle.common.specs.Checks.{refusal}
 use Rattle.std.specs.declared.result.Result.{Result}
 use Rattle.common.specs.declared.Refusal.{Refusal}
 use Rattle.std.specs.declared.option.Option.{Option}

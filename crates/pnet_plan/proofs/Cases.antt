@@ -116,7 +116,7 @@ module _ (s x y z : List ℕ) where
         → b ≡ filled (at_place (refined (segment_in s))) n y → c ≡ filled (at_place (rounds (segment_in s))) n z → Returned s x y z (Ok (record { masters = n; streams = m })) a b c
     unfolding segment_of
     returned_read m number a b c ea eb ec =
-        let r : Ok (record { masters = n; streams = m }) ≡ plan_of (Read (sheet_in s)) = ap (λ (x : ℕ). Ok (record { masters = x; streams = m })) masters ∙ ap (λ k. Ok (record { masters = (masters_of (sheet_in s)); streams = k })) number in
+        let r : Ok (record { masters = n; streams = m }) ≡ plan_of (Read (sheet_in s)) = ap (λ (x : ℕ). Ok (record { masters = x; streams = m })) masters ∙ ap (λ k. Ok (record { masters = masters_of (sheet_in s); streams = k })) number in
         (r ∙ ap plan_of (sym e), run_read bound x a ea, run_read refined y b eb, run_read rounds z c ec)
 
 -- ---- Where the code ends with a segment's arrays

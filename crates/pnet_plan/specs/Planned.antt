@@ -46,7 +46,7 @@ planned s la lb lc = planned_by (reading s) la lb lc
 
 -- the masters and the streams of the sheet, or the refusal
 abbrev pub plan_of : Outcome → Result Plan Refusal
-plan_of (Read H) = Ok (record { masters = (masters_of H); streams = (length H.streams) })
+plan_of (Read H) = Ok (record { masters = masters_of H; streams = length H.streams })
 plan_of (Not n p) = Err (refusal n p)
 
 -- place i of a run is for master i + 1

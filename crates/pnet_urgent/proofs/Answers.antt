@@ -110,7 +110,7 @@ module _ {s : List ℕ} {N n first : ℕ} {counts longests : List ℕ} (h : Shee
         → Returned s x y z (Ok (record { masters = N; streams = n })) a b c
     unfolding segment_of
     returned_read a b c ea eb ec =
-        let r : Ok (record { masters = N; streams = n }) ≡ plan_of (Read (sheet_in s)) = ap (λ (k : ℕ). Ok (record { masters = k; streams = n })) h.masters_are ∙ ap (λ k. Ok (record { masters = (masters_of (sheet_in s)); streams = k })) (sym h.ready.number) in (
+        let r : Ok (record { masters = N; streams = n }) ≡ plan_of (Read (sheet_in s)) = ap (λ (k : ℕ). Ok (record { masters = k; streams = n })) h.masters_are ∙ ap (λ k. Ok (record { masters = masters_of (sheet_in s); streams = k })) (sym h.ready.number) in (
           r ∙ ap plan_of (sym read),
           run_read place ranks x a ea (λ i from to. v.placed i from (omega (arith, number_is h.ready)) (within i from to)),
           run_read figure figures y b eb (λ i from to. sought_figure (sought_at i from to) (all_met i from to)),

@@ -15,8 +15,8 @@ ghost use Rattle.pnet_urgent_rules.specs.Urgent;
 ghost use Rattle.pnet_urgent_rules.specs.Planned.{urgently};
 ghost use Rattle.pnet_urgent.specs.Masters.{Keyed, Ranged, Gathered, Spread, Searched, Served, Solved};
 
-use pnet_plan::Plan;
 use common::Refusal;
+use pnet_plan::Plan;
 use sheet_read::MOST;
 
 // The most streams of one master.

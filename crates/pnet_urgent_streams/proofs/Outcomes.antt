@@ -179,4 +179,4 @@ module _ {s : List ℕ} {N n first : ℕ} {counts longests : List ℕ} (h : Shee
   listed_is b e =
       let eb : b ≡ bp (late_bound S) = e ∙ ap bp late_bound_is in
       let en : n ≡ length (sheet_in s).streams = sym h.ready.number in
-      rw (eb, el) (ap (λ (k : ℕ). Ok (record { streams = k; late = (first_late S); bound = (bp (late_bound S)) })) en)
+      rw (eb, el) (ap (λ (k : ℕ). Ok (record { streams = k; late = first_late S; bound = bp (late_bound S) })) en)

@@ -24,5 +24,5 @@ late_bound S = when (leb (first_late S) S.number) (bound_of S (first_late S))
 
 -- the streams of the sheet, the first that first-come refuses, the number past the last where there is none, and its R; or the refusal
 abbrev pub listed_of : Outcome → Result Listed Refusal
-listed_of (Read H) = Ok (record { streams = (length H.streams); late = (first_late (segment_of H)); bound = (bp (late_bound (segment_of H))) })
+listed_of (Read H) = Ok (record { streams = length H.streams; late = first_late (segment_of H); bound = bp (late_bound (segment_of H)) })
 listed_of (Not n p) = Err (refusal n p)

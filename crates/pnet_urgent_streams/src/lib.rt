@@ -19,8 +19,8 @@ ghost use Rattle.pnet_urgent_rules.specs.Planned.{urgently};
 ghost use Rattle.pnet_urgent_streams.specs.Listed.{deadline_of, listed_of};
 
 pub use answer::Listed;
-use pnet_plan::Plan;
 use common::Refusal;
+use pnet_plan::Plan;
 use sheet_read::MOST;
 use units::BitPeriods;
 

@@ -17,12 +17,14 @@ use Rattle.text.specs.Text.{over}
 use Rattle.report_beside.specs.Steps.{begun_as, begun_text}
 use Rattle.std.specs.declared.result.Result.TheVariants.{Ok, Err}
 use Rattle.common.specs.Checks.{refusal}
+use Rattle.common.proofs.Answered.{accepts_alike}
+use Rattle.pnet_plan.specs.declared.answer.Plan.{Plan}
 
 module _ (urgent : Bool) (old : List ℕ) where
   pub begun_on : (o : Outcome) (m n : ℕ) (w : Watch) → plan_of o ≡ Ok (record { masters = m; streams = n }) → w ≡ began
       → (begun.On (record { urgent = urgent; streams = n; bytes = 0; watch = w }) ≡ begun_as urgent o) × (old ≡ begun_text o old)
   begun_on (Read H) m n w e q =
-      let number : n ≡ length H.streams = cc in
+      let number : n ≡ length H.streams = sym (ap (λ (x : Plan). x.streams) (accepts_alike e)) in
       (rw (number, q) refl, refl)
   begun_on (Not a b) m n w e q = let z : ◌≡◌ {A = ℕ} 0 1 = cc in absurd (omega arith)
 

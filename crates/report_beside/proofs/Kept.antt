@@ -44,6 +44,7 @@ use Rattle.std.specs.declared.result.Result.TheVariants.{Ok, Err}
 use Rattle.common.specs.Checks.{refusal}
 use Rattle.std.specs.declared.result.Result.{Result}
 use Rattle.common.specs.declared.Refusal.{Refusal}
+use Rattle.std.specs.Bool.{⊤}
 
 -- ---- The report, case by case
 
@@ -154,7 +155,7 @@ module _ {urgent : Bool} {s c masters R T J : List ℕ} {h : Hearing} {k : Tally
       ∙ sym (after_joined c p n few kept.passes (figures H (limit_of urgent)) (figures H spacing_of) (figures H jitter_of))))))
 
   -- it is taken
-  pub still_kept : answer ≡ (Ok tt) → (k' : Tally) → k' ≡ after p R T J h.watch k
+  pub still_kept : answer ≡ Ok tt → (k' : Tally) → k' ≡ after p R T J h.watch k
       → Kept urgent s (c ++ p) (record { urgent = h.urgent; streams = h.streams; bytes = h.bytes + length p; watch = (seen_after p T J h.watch k.asked k.lead).watch }) masters R T J k'
   unfolding watch_of tally_of
   still_kept e k' q = record {
@@ -197,10 +198,10 @@ module _ {urgent : Bool} {s c masters R T J : List ℕ} {h : Hearing} {k : Tally
             → new ≡ heard_text b a h.bytes old → k' ≡ heard_tally b a (after p R T J h.watch k) k → Hears urgent s c p x old new masters R T J k'
         by false l a e y t q =
             subst (λ (z : Heard). Hears urgent s c p z old new masters R T J k') (sym y) (omega (arith, ltb-false h.bytes last l, kept.bytes_are))
-        by true l (Ok tt) e y t q =
+        by true l (Ok all) e y t q =
             subst (λ (z : Heard). Hears urgent s c p z old new masters R T J k') (sym y) (omega (arith, ltb-true h.bytes last l, kept.bytes_are), still_kept e k' q)
         by true l (Err r) e y t u =
-            subst (λ (z : Heard). Hears urgent s c p z old new masters R T J k') (sym y) (λ rest ends. refuses (then_refused r q e rest ends) refl t)
+            subst (λ (z : Heard). Hears urgent s c p z old new masters R T J k') (sym y) (λ rest ends. refuses (then_refused r.no r.place e rest ends) refl t)
 
 -- ---- Reporting
 

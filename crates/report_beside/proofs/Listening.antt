@@ -21,6 +21,7 @@ use Rattle.std.specs.declared.result.Result.TheVariants.{Ok, Err}
 use Rattle.common.specs.Checks.{refusal}
 use Rattle.std.specs.declared.result.Result.{Result}
 use Rattle.common.specs.declared.Refusal.{Refusal}
+use Rattle.std.specs.Bool.{⊤}
 
 -- the piece p, behind what h and k keep
 module _ (p R T J old : List ℕ) (h : Hearing) (k : Tally) where
@@ -48,7 +49,7 @@ module _ (p R T J old : List ℕ) (h : Hearing) (k : Tally) where
   answered_long l = by false answer (le-ltb h.bytes last l) refl told.TooLong old k refl refl refl
 
   module _ (l : h.bytes < last) where
-    pub answered_all : (w : Watch) (k' : Tally) → answer ≡ (Ok tt) → w ≡ new_watch → k' ≡ new_tally
+    pub answered_all : (w : Watch) (k' : Tally) → answer ≡ Ok tt → w ≡ new_watch → k' ≡ new_tally
         → Answered (told.On (record { urgent = h.urgent; streams = h.streams; bytes = h.bytes + length p; watch = w })) old k'
     answered_all w k' e q s =
         by true (Ok tt) (lt-ltb h.bytes last l) e _ old k'

@@ -80,7 +80,7 @@ module _ (c p : List ℕ) (n : ℕ) (few : n ≤ most) (passes : heard c n fresh
   whole : length c ≡ size * (length c / size)
   whole = passed_whole c n passes
 
-  all : answer_to c n (before none none) ≡ (Ok tt)
+  all : answer_to c n (before none none) ≡ Ok tt
   unfolding none
   all = whole_taken c n few passes
 
@@ -88,7 +88,7 @@ module _ (c p : List ℕ) (n : ℕ) (few : n ≤ most) (passes : heard c n fresh
   both : answer_to (c ++ p) n (before none none) ≡ behind (length c) (answer_to p n (waiting k))
   both = split_answer c p (length c / size) whole (before none none) n all
 
-  pub joined_passes : answer_to p n (waiting k) ≡ (Ok tt) → heard (c ++ p) n fresh ≡ Passed
+  pub joined_passes : answer_to p n (waiting k) ≡ Ok tt → heard (c ++ p) n fresh ≡ Passed
   unfolding none
   joined_passes e = whole_passed (c ++ p) n few (both ∙ ap (behind (length c)) e)
 

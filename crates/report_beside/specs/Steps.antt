@@ -1,6 +1,6 @@
 -- What beginning with a sheet, hearing a piece and reporting answer, and what they leave in lent memory, on any input. Words of contracts
 -- alone: what they come to, from the first byte on, is in Kept. Assumes nothing.
-use Rattle.std.specs.Prelude.{ℕ, ◌+◌, ◌^◌, List, Bool, true, false, cond, length}
+use Rattle.std.specs.Prelude.{⊤, ℕ, ◌+◌, ◌^◌, List, Bool, true, false, cond, length}
 use Rattle.sheet_rules.specs.Whole.{Outcome}
 use Rattle.sheet_rules.specs.Whole.Outcome.{Read, Not}
 use Rattle.capture_ages.specs.declared.Watch.{Watch}

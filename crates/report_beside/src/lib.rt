@@ -32,7 +32,8 @@ pub struct Hearing {
     pub watch: Watch,
 }
 
-// What beginning with a sheet answers: the capture can be heard; or the sheet is refused, and its report has so many bytes.
+// What beginning with a sheet answers: the capture can be heard; or the sheet is refused, and its report has so many bytes. Kept as an enum, as the next two: what a refusal
+// answers is a finished report, and no error.
 #[derive(Clone, Copy)]
 pub enum Begun {
     On(Hearing),

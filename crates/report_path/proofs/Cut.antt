@@ -9,6 +9,7 @@ use Rattle.sheet_rules.specs.Lengths.{enough}
 use Rattle.sheet_rules.specs.Whole.{Outcome, reading}
 use Rattle.sheet_rules.proofs.Lengths.{reading_prefix}
 use Rattle.units.specs.Units.{bp}
+use Rattle.units.specs.declared.BitPeriods.{BitPeriods}
 use Rattle.pnet_bounds.specs.Bounded.{bounded, bounded_by}
 use Rattle.pnet_crossing.specs.Cost.{crossing_by}
 use Rattle.pnet_path.specs.Path.{Path, gateways, sheet_at, bound_from, bound_at, sender_at, forwarding_at, absent_from, absent_at, refused_or, crossed_from, crossed}

@@ -19,10 +19,12 @@ use Rattle.report_path_lines.specs.Lines.{sheet_refusal}
 use Rattle.report_path.specs.declared.Reported.TheVariants as answer
 use Rattle.report_path.specs.Told.{most_path}
 use Rattle.report_path.specs.Report.{is_within}
-use Rattle.report_path.specs.Kept.{answer_text_of, report_of, accepts_of, told, told_in, run_with}
+use Rattle.report_path.specs.Kept.{answer_text_of, refused_text_or, report_of, accepts_of, told, told_in, run_with}
 use Rattle.std.specs.declared.result.Result.TheVariants.{Ok, Err}
 use Rattle.common.specs.Checks.{refusal}
 use Rattle.std.specs.declared.result.Result.{Result}
+use Rattle.std.specs.declared.option.Option.{Option}
+use Rattle.std.specs.declared.option.Option.TheVariants.{Some, None}
 use Rattle.common.specs.declared.Refusal.{Refusal}
 use Rattle.sheet_read.specs.Told.{accepted}
 
@@ -30,19 +32,19 @@ use Rattle.sheet_read.specs.Told.{accepted}
 
 module _ (w : Way) (D : BitPeriods) where
   -- that of a sheet which is refused
-  pub refused_report : w.refused ≡ true → (false ≡ accepts_of w D) × (sheet_refusal w.segments w.no w.place ≡ report_of w D)
+  pub refused_report : (r : Refusal) → w.refused ≡ Some r → (false ≡ accepts_of w D) × (sheet_refusal w.segments r.no r.place ≡ report_of w D)
   unfolding accepts_of report_of
-  refused_report e = (ap is_within (answer_of_refused w D.0 e), rw e)
+  refused_report r e = (ap is_within (answer_of_refused w D.0 e), rw e)
 
   -- what the path is answered
-  pub answered_report : w.refused ≡ false → (c : Result BitPeriods Refusal) → c ≡ answer_of w D.0 → (is_within c ≡ accepts_of w D) × (answer_text_of w D c ≡ report_of w D)
+  pub answered_report : w.refused ≡ None → (c : Result BitPeriods Refusal) → c ≡ answer_of w D.0 → (is_within c ≡ accepts_of w D) × (answer_text_of w D c ≡ report_of w D)
   unfolding accepts_of report_of
   answered_report e c is =
-      let text : Bool → Result BitPeriods Refusal → List ℕ = λ b x. cond b (sheet_refusal w.segments w.no w.place) (answer_text_of w D x) in
-      (ap is_within is, ap (λ (b : Bool). text b c) (sym e) ∙ ap (text w.refused) is)
+      let text : Option Refusal → Result BitPeriods Refusal → List ℕ = λ r x. refused_text_or w.segments r (answer_text_of w D x) in
+      (ap is_within is, ap (λ (r : Option Refusal). text r c) (sym e) ∙ ap (text w.refused) is)
 
   -- a path that is accepted has eleven segments at most
-  pub few_segments : w.refused ≡ false → (t : BitPeriods) → Ok t ≡ answer_of w D.0 → (1 ≤ w.segments) × (w.segments ≤ 11)
+  pub few_segments : w.refused ≡ None → (t : BitPeriods) → Ok t ≡ answer_of w D.0 → (1 ≤ w.segments) × (w.segments ≤ 11)
   few_segments e t is = split (ltb g 1 || ltb 10 g) refl
     where
       g : ℕ

@@ -8,6 +8,7 @@ use native.Mathlib.Nat.{zero-add, add-zero}
 use native.Mathlib.Omega.{arith}
 use Rattle.sheet_rules.specs.Whole.{Outcome}
 use Rattle.units.specs.Units.{bp}
+use Rattle.units.specs.declared.BitPeriods.{BitPeriods}
 use Rattle.pnet_path.specs.Path.{Path, crossed}
 use Rattle.pnet_path.specs.Refusals.{Each, FirstBad, Taken, Untaken, Sheets, Given, Accepted}
 use Rattle.pnet_path.proofs.Refusals.{refused_exactly, accepted_exactly}

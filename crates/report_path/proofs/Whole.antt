@@ -70,7 +70,7 @@ module _ (P : Path) where
             sym (answered_report w D k.none_refused (crossed P) (sym (path_handed_over P few))).1 ∙ (answer_kept w k (crossed P) refl ∙ sym (says_the_answer P t))
         split (up_to b) =
             let e = ended P few b in
-            sym (refused_report w D e.refused).1 ∙ (rw (e.segments, e.no, e.place) refl ∙ sym (says_the_first_refused_sheet P b))
+            sym (refused_report w D _ e.refused).1 ∙ (rw e.segments refl ∙ sym (says_the_first_refused_sheet P b))
 
     -- ---- The theorem
 

@@ -16,7 +16,7 @@ use units::BitPeriods;
 pub const MOST_TEXT: usize = 987;
 
 // What writing a report answers: how many bytes it takes, for a path that is accepted and for one that is refused; or that the lent run
-// is shorter than some report may be.
+// is shorter than some report may be. Kept as an enum: the report of a refused path is a report, and no error.
 #[derive(Clone, Copy)]
 pub enum Reported {
     Accepted(usize),

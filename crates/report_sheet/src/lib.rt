@@ -22,7 +22,7 @@ use units::{BitPeriods, Micros};
 pub const MOST_TEXT: usize = 1_613_930;
 
 // What writing a report answers: how many bytes it takes, for a sheet that is accepted and for one that is refused; or that the lent
-// run is shorter than some report may be.
+// run is shorter than some report may be. Kept as an enum: the report of a refused sheet is a report, and no error.
 #[derive(Clone, Copy)]
 pub enum Reported {
     Accepted(usize),

@@ -29,6 +29,8 @@ use Rattle.report_urgent_lines.proofs.Same.{urgent_same}
 use Rattle.report_urgent.specs.Whole.{streams_text, urgent_report, urgent_accepts, answer_text, is_read}
 use Rattle.std.specs.declared.result.Result.TheVariants.{Ok, Err}
 use Rattle.common.specs.Checks.{refusal}
+use Rattle.common.proofs.Answered.{accepts_alike, same_refusal}
+use Rattle.pnet_urgent_streams.specs.declared.answer.Listed.{Listed}
 
 -- numbers of streams begin with 1
 late_from : (S : Segment) → 1 ≤ first_late S
@@ -93,9 +95,10 @@ module _ (s masters places figures rounds' deadlines old : List ℕ) where
       by : (o : Outcome) → urgently s 800 ≡ o → Said o
       by (Not k q) e number late' bound l m p x r d = let z : ◌≡◌ {A = ℕ} 0 1 = cc in absurd (omega arith)
       by (Read H) e number late' bound l m p x r d =
-          let count : number ≡ length H.streams = cc in
-          let first : late' ≡ first_late (segment_of H) = cc in
-          let there : bound ≡ bp (late_bound (segment_of H)) = cc in
+          let same = accepts_alike l in
+          let count = sym (ap (λ (y : Listed). y.streams) same) in
+          let first = sym (ap (λ (y : Listed). y.late) same) in
+          let there = sym (ap (λ (y : Listed). y.bound) same) in
           (rw (count, first, there) (accepted_text s H e masters places figures rounds' deadlines old m p x r d), ap is_read e)
 
 pub refused_told : (s : List ℕ) (k q : ℕ) → listed_of (urgently s 800) ≡ Err (refusal k q) → (urgent_report s ≡ refusal_text k q) × (urgent_accepts s ≡ false)
@@ -106,4 +109,4 @@ refused_told s k q l =
   where
     by : (o : Outcome) → listed_of o ≡ Err (refusal k q) → o ≡ Not k q
     by (Read H) f = let z : ◌≡◌ {A = ℕ} 0 1 = cc in absurd (omega arith)
-    by (Not a b) f = cc
+    by (Not a b) f = let e = same_refusal f in rw (e.0, e.1)

@@ -11,7 +11,7 @@ use common::Refusal;
 use report_urgent_lines::MOST_TEXT;
 use sheet_read::MOST;
 
-// How many bytes a report has, of a sheet that is accepted and of one that is refused.
+// How many bytes a report has, of a sheet that is accepted and of one that is refused. Kept as an enum: the second is a report too, and no error.
 #[derive(Clone, Copy)]
 pub enum Reported {
     Accepted(usize),

@@ -16,7 +16,8 @@ pub struct Reader<'a> {
     pub at: usize,
 }
 
-// What stands at a place: a record with the place just after it, the refusal that the bytes there show by themselves, or the end.
+// What stands at a place: a record with the place just after it, the refusal that the bytes there show by themselves, or the end. Kept as an enum: the three are of one
+// rank, and Option<Result<Met, Refusal>> is two enums in one another, which each reader has to take apart twice.
 #[derive(Clone, Copy)]
 pub enum Found {
     One(Met),

@@ -9,14 +9,10 @@ fn find(line: &[u8], from: usize, mark: u8) -> usize
     requires { from ≤ length line.now }
     ensures { (from ≤ result) × (result ≤ length line.now) }
 {
-    let mut i = from;
-    while i < line.len() {
-        if line[i] == mark {
-            return i;
-        }
-        i += 1;
+    match line[from..].iter().position(|byte| *byte == mark) {
+        Some(n) => from + n,
+        None => line.len(),
     }
-    i
 }
 
 fn try_parts(rt: &HostRuntime, sheet: &[u8], seen: &[u8], given: &[u8]) {
@@ -41,13 +37,11 @@ fn try_line(rt: &HostRuntime, line: &[u8]) {
 }
 
 pub(crate) fn try_lines(rt: &HostRuntime, text: &[u8]) {
-    let mut start: usize = 0;
-    let mut i: usize = 0;
-    while i < text.len() {
-        if text[i] == b'\n' {
+    let mut start = 0;
+    for (i, byte) in text.iter().enumerate() {
+        if *byte == b'\n' {
             try_line(rt, &text[start..i]);
             start = i + 1;
         }
-        i += 1;
     }
 }

@@ -1,22 +1,9 @@
 // The same capture, taken in pieces.
-ghost use Rattle.std.specs.Prelude.{◌<◌, ◌≤◌};
-
 use crate::words::{say_figures, say_plan, say_refused, say_run, say_watch};
 use capture_ages::Watch;
 use capture_tally::Taken;
 
-// Where the piece that begins at a place ends: it has at least one byte.
-fn end_of(len: usize, at: usize, size: usize) -> usize
-    requires { at < len }
-    ensures { (at < result) × (result ≤ len) }
-{
-    if size == 0 {
-        return at + 1;
-    }
-    if len - at < size { len } else { at + size }
-}
-
-// Takes a capture in pieces of this size, and says a refusal, with its place in the capture; whether all is taken.
+// Takes a capture in pieces of this size, of a byte at least, and says a refusal, with its place in the capture; whether all is taken.
 fn take_by(
     rt: &HostRuntime,
     c: &[u8],
@@ -30,10 +17,9 @@ fn take_by(
     above: &mut [u64; 800],
 ) -> bool {
     let mut at: usize = 0;
-    while at < c.len() {
-        let end = end_of(c.len(), at, size);
+    for piece in c.chunks(size.max(1)) {
         let taken = capture_tally::take(
-            &c[at..end],
+            piece,
             streams,
             bound,
             left,
@@ -46,7 +32,7 @@ fn take_by(
             say_refused(rt, no, std::num::wrapping_add_usize(at, place));
             return false;
         }
-        at = end;
+        at = std::num::wrapping_add_usize(at, piece.len());
     }
     true
 }
@@ -61,11 +47,8 @@ fn follow_by(
     lead: &mut [u32; 800],
 ) -> Watch {
     let mut w = capture_ages::start();
-    let mut at: usize = 0;
-    while at < c.len() {
-        let end = end_of(c.len(), at, size);
-        w = capture_watch::follow(&c[at..end], w, spacing, jitter, asked, lead);
-        at = end;
+    for piece in c.chunks(size.max(1)) {
+        w = capture_watch::follow(piece, w, spacing, jitter, asked, lead);
     }
     w
 }

@@ -67,10 +67,8 @@ pub(crate) fn say_figures(
     above: &[u64; 800],
     left: &[u8; 800],
 ) {
-    let mut i: usize = 0;
-    while i < 800 {
+    for i in 0..800 {
         say_place(rt, i < n, before, answers[i], largest[i], above[i], left[i]);
-        i += 1;
     }
 }
 
@@ -86,11 +84,7 @@ pub(crate) fn say_watch(rt: &HostRuntime, w: Watch) {
 // The first n places of a run, behind a text.
 pub(crate) fn say_run(rt: &HostRuntime, text: &[u8], n: usize, run: &[u64; 800]) {
     say(rt, text);
-    let mut i: usize = 0;
-    while i < 800 {
-        if i < n {
-            say_with(rt, b" ", run[i]);
-        }
-        i += 1;
+    for figure in run.iter().take(n) {
+        say_with(rt, b" ", *figure);
     }
 }

@@ -5,6 +5,7 @@
 
 ghost use Rattle.std.specs.Prelude.{◌≤◌, length};
 
+use common::Refusal;
 use std::io::Read;
 
 // What each place of a WorldFIP run holds before: no sheet here has such a row.
@@ -19,20 +20,20 @@ fn say_with(rt: &HostRuntime, text: &[u8], n: u64) {
     let _ = print!(rt; "{n}");
 }
 
-fn say_refused(rt: &HostRuntime, no: u8, place: usize) {
-    say_with(rt, b"refused ", no as u64);
-    say_with(rt, b" at ", place as u64);
+fn say_refused(rt: &HostRuntime, refusal: Refusal) {
+    say_with(rt, b"refused ", refusal.no as u64);
+    say_with(rt, b" at ", refusal.place as u64);
 }
 
 // ---- P-NET: three runs, of which every place holds 9 before
 
-fn say_pnet(rt: &HostRuntime, p: pnet_plan::Plan) {
-    match p {
-        pnet_plan::Plan::Accepted { masters, streams } => {
-            say_with(rt, b"masters ", masters as u64);
-            say_with(rt, b", streams ", streams as u64);
+fn say_pnet(rt: &HostRuntime, answer: Result<pnet_plan::Plan, Refusal>) {
+    match answer {
+        Ok(plan) => {
+            say_with(rt, b"masters ", plan.masters as u64);
+            say_with(rt, b", streams ", plan.streams as u64);
         }
-        pnet_plan::Plan::Refused { no, place } => say_refused(rt, no, place),
+        Err(refusal) => say_refused(rt, refusal),
     }
 }
 
@@ -42,10 +43,8 @@ fn say_figure(rt: &HostRuntime, x: u32) {
 
 fn say_run(rt: &HostRuntime, name: &[u8], run: &[u32]) {
     say(rt, name);
-    let mut i: usize = 0;
-    while i < run.len() {
-        say_figure(rt, run[i]);
-        i += 1;
+    for figure in run {
+        say_figure(rt, *figure);
     }
 }
 
@@ -70,7 +69,7 @@ fn plan_pnet(
 fn places(asked: u8) -> usize
     ensures { result ≤ 12 }
 {
-    if asked < 12 { asked as usize } else { 12 }
+    asked.min(12) as usize
 }
 
 fn pnet_case(rt: &HostRuntime, case: &[u8]) {
@@ -94,30 +93,26 @@ fn pnet_case(rt: &HostRuntime, case: &[u8]) {
 
 // ---- PROFIBUS
 
-fn say_profibus(rt: &HostRuntime, p: profibus_plan::Plan) {
-    match p {
-        profibus_plan::Plan::Target { rotation, stream } => {
-            say_with(rt, b"TTR in bp ", rotation.0 as u64);
-            say_with(rt, b", limited by stream ", stream as u64);
+fn say_profibus(rt: &HostRuntime, answer: Result<profibus_plan::Plan, Refusal>) {
+    match answer {
+        Ok(plan) => {
+            say_with(rt, b"TTR in bp ", plan.rotation.0 as u64);
+            say_with(rt, b", limited by stream ", plan.stream as u64);
         }
-        profibus_plan::Plan::Refused { no, place } => say_refused(rt, no, place),
+        Err(refusal) => say_refused(rt, refusal),
     }
 }
 
 // ---- WorldFIP: one run, of which every place holds MARK before and is shown as '-' while it does
 
-fn say_worldfip(rt: &HostRuntime, p: worldfip_plan::Plan) {
-    match p {
-        worldfip_plan::Plan::Accepted {
-            microcycle,
-            slots,
-            rows,
-        } => {
-            say_with(rt, b"microcycle in us ", microcycle.0);
-            say_with(rt, b", slots ", slots as u64);
-            say_with(rt, b", rows ", rows as u64);
+fn say_worldfip(rt: &HostRuntime, answer: Result<worldfip_plan::Plan, Refusal>) {
+    match answer {
+        Ok(plan) => {
+            say_with(rt, b"microcycle in us ", plan.microcycle.0);
+            say_with(rt, b", slots ", plan.slots as u64);
+            say_with(rt, b", rows ", plan.rows as u64);
         }
-        worldfip_plan::Plan::Refused { no, place } => say_refused(rt, no, place),
+        Err(refusal) => say_refused(rt, refusal),
     }
 }
 
@@ -130,32 +125,20 @@ fn say_row(rt: &HostRuntime, row: u64) {
 }
 
 fn say_rows(rt: &HostRuntime, rows: &[u64]) {
-    let mut m: usize = 0;
-    while m < rows.len() {
-        say_row(rt, rows[m]);
-        m += 1;
+    for row in rows {
+        say_row(rt, *row);
     }
 }
 
 fn kept(rows: &[u64]) -> u64 {
-    let mut k: u64 = 0;
-    let mut m: usize = 0;
-    while m < rows.len() {
-        if rows[m] == MARK {
-            k = std::num::wrapping_add_u64(k, 1);
-        }
-        m += 1;
-    }
-    k
+    rows.iter().filter(|row| **row == MARK).count() as u64
 }
 
 // All rows in one number, by remainders of a prime.
 fn folded(rows: &[u64]) -> u64 {
     let mut x: u64 = 0;
-    let mut m: usize = 0;
-    while m < rows.len() {
-        x = (x * 65599 + rows[m] % 4294967291) % 4294967291;
-        m += 1;
+    for row in rows {
+        x = (x * 65599 + *row % 4294967291) % 4294967291;
     }
     x
 }
@@ -177,10 +160,8 @@ fn say_name(rt: &HostRuntime, name: u16) {
 // The first eight identifiers by rank.
 fn say_names(rt: &HostRuntime, names: &[u16; 64]) {
     say(rt, b"; by rank");
-    let mut r: usize = 0;
-    while r < 8 {
-        say_name(rt, names[r]);
-        r += 1;
+    for name in &names[..8] {
+        say_name(rt, *name);
     }
 }
 
@@ -195,8 +176,7 @@ fn plan_worldfip(rt: &HostRuntime, s: &[u8], rows: &mut [u64]) {
 fn room_of(high: u8, low: u8) -> usize
     ensures { result ≤ 4100 }
 {
-    let asked = high as usize * 256 + low as usize;
-    if asked < 4100 { asked } else { 4100 }
+    (high as usize * 256 + low as usize).min(4100)
 }
 
 fn worldfip_case(rt: &HostRuntime, case: &[u8]) {
@@ -234,14 +214,12 @@ fn try_line(rt: &HostRuntime, line: &[u8]) {
 }
 
 fn try_lines(rt: &HostRuntime, text: &[u8]) {
-    let mut start: usize = 0;
-    let mut i: usize = 0;
-    while i < text.len() {
-        if text[i] == b'\n' {
+    let mut start = 0;
+    for (i, byte) in text.iter().enumerate() {
+        if *byte == b'\n' {
             try_line(rt, &text[start..i]);
             start = i + 1;
         }
-        i += 1;
     }
 }
 

@@ -88,10 +88,8 @@ impl Sheet {
     // So many streams more of each of its masters, equally long.
     fn with_each(self, count: u8, c: u16) -> Self {
         let mut sheet = self;
-        let mut y: u8 = 0;
-        while y < self.masters {
-            y += 1;
-            sheet = sheet.with(y, count, c);
+        for y in 0..self.masters {
+            sheet = sheet.with(y + 1, count, c);
         }
         sheet
     }
@@ -99,10 +97,8 @@ impl Sheet {
     // So many streams more of one master, equally long.
     fn with(self, master: u8, count: u8, c: u16) -> Self {
         let mut sheet = self;
-        let mut i: u8 = 0;
-        while i < count {
+        for _ in 0..count {
             sheet = sheet.and(master, c);
-            i += 1;
         }
         sheet
     }
@@ -139,13 +135,11 @@ fn line(rt: &HostRuntime, s: Sheet, k: u8, bound: u32, refined: u32) {
 
 // A line for each master with streams: only its bound is above 0.
 fn lines(rt: &HostRuntime, s: Sheet, bound: [u32; 32], refined: [u32; 32]) {
-    let mut k: u8 = 0;
-    while k < 32 {
+    for k in 0..32u8 {
         let r = bound[k as usize];
         let w = refined[k as usize];
-        k += 1;
         if r != 0 {
-            line(rt, s, k, r, w);
+            line(rt, s, k + 1, r, w);
         }
     }
 }

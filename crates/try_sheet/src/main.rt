@@ -73,14 +73,12 @@ fn try_line(rt: &HostRuntime, line: &[u8]) {
 }
 
 fn try_lines(rt: &HostRuntime, text: &[u8]) {
-    let mut start: usize = 0;
-    let mut i: usize = 0;
-    while i < text.len() {
-        if text[i] == b'\n' {
+    let mut start = 0;
+    for (i, byte) in text.iter().enumerate() {
+        if *byte == b'\n' {
             try_line(rt, &text[start..i]);
             start = i + 1;
         }
-        i += 1;
     }
 }
 
@@ -99,8 +97,7 @@ fn record_of(kind: u8, a: u32, b: u32, c: u32, d: u32) -> Record {
 fn put_all(buf: &mut [u8], from: usize, each: Record, least: u32, most: u32, n: usize) -> usize {
     let mut at = from;
     let mut a = least;
-    let mut i: usize = 0;
-    while i < n {
+    for _ in 0..n {
         let answer = sheet_write::put_record(
             buf,
             at,
@@ -115,7 +112,6 @@ fn put_all(buf: &mut [u8], from: usize, each: Record, least: u32, most: u32, n: 
         } else {
             a = least;
         }
-        i += 1;
     }
     at
 }

@@ -14,7 +14,7 @@ use Rattle.capture_compare.proofs.compare.Goals.{After-min-room}
 
 -- the shortest of the four runs
 room : (c : After-min-room) → c.min-room.result ≡ min (length c.args.answers.now) (min (length c.args.largest.now) (min (length c.args.above.now) (length c.args.left.now)))
-room c = c.min-room.ensures ∙ ap (min (length c.args.answers.now)) (c.min-2.ensures ∙ ap (min (length c.args.largest.now)) c.min.ensures)
+room c = omega (arith, c.min-room.ensures, c.min-2.ensures, c.min.ensures)
 
 pub compare_to-requires : goal.compare_to-requires
 compare_to-requires c =

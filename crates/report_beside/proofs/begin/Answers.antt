@@ -5,23 +5,23 @@ use Rattle.report_beside.proofs.Beginning.{begun_on, begun_refused}
 use Rattle.report_beside.proofs.Kept.{begins}
 use Rattle.report_beside.proofs.begin.Goals as goal
 
-pub returns-in-Accepted : goal.returns-in-Accepted
+pub returns-in-Ok : goal.returns-in-Ok
 unfolding none
-returns-in-Accepted c =
+returns-in-Ok c =
     let a = c.args in
     let b = c.lay.ensures in
-    let f = begun_on a.urgent a.out.now (laid a.urgent a.s.now) _ _ _ (sym b.value ∙ c.in-Accepted.is) c.start.ensures in
+    let f = begun_on a.urgent a.out.now (laid a.urgent a.s.now) _ _ _ (sym b.value ∙ c.in-Ok.is) c.start.ensures in
     record {
       fact = (f.0, f.1, b.masters_after, b.bound_after, b.spacing_after, b.jitter_after, refl, refl, refl, refl, refl, refl, refl);
       fact_2 = begins a.urgent a.s.now _ a.out.now _ _ _ _ _ _ f.0 f.1 b.masters_after b.bound_after b.spacing_after b.jitter_after refl;
     }
 
-pub returns-in-Refused : goal.returns-in-Refused
+pub returns-in-Err : goal.returns-in-Err
 unfolding none
-returns-in-Refused c =
+returns-in-Err c =
     let a = c.args in
     let b = c.lay.ensures in
-    let f = begun_refused a.urgent a.out.now (laid a.urgent a.s.now) _ _ _ _ (sym b.value ∙ c.in-Refused.is) c.refuse_sheet.ensures.0 c.refuse_sheet.ensures.1 in
+    let f = begun_refused a.urgent a.out.now (laid a.urgent a.s.now) _ _ _ _ (sym b.value ∙ c.in-Err.is) c.refuse_sheet.ensures.0 c.refuse_sheet.ensures.1 in
     record {
       fact = (f.0, f.1, b.masters_after, b.bound_after, b.spacing_after, b.jitter_after, refl, refl, refl, refl, refl, refl, refl);
       fact_2 = begins a.urgent a.s.now _ a.out.now _ _ _ _ _ _ f.0 f.1 b.masters_after b.bound_after b.spacing_after b.jitter_after refl;

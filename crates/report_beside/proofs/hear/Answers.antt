@@ -20,14 +20,14 @@ pub refuse_capture-requires : goal.refuse_capture-requires
 refuse_capture-requires c =
     let a = c.args in
     let t = c.take-taken.ensures in
-    omega (arith, refused_inside a.piece.now a.heard.streams (before a.left.now a.since.now) _ _ (sym t.0 ∙ c.in-Refused.is))
+    omega (arith, refused_inside a.piece.now a.heard.streams (before a.left.now a.since.now) _ _ (sym t.0 ∙ c.in-Err.is))
 
-pub returns-in-Refused : goal.returns-in-Refused
-returns-in-Refused c =
+pub returns-in-Err : goal.returns-in-Err
+returns-in-Err c =
     let a = c.args in
     let k = tally a.left.now a.since.now a.answers.now a.largest.now a.above.now a.asked.now a.lead.now in
     let t = c.take-taken.ensures in
-    let not_taken = sym t.0 ∙ c.in-Refused.is in
+    let not_taken = sym t.0 ∙ c.in-Err.is in
     let f = promised a.piece.now a.bound.now a.spacing.now a.jitter.now a.out.now a.heard k _ _ _ _ _ _ _ _ _
     (answered_refused a.piece.now a.bound.now a.spacing.now a.jitter.now a.out.now a.heard k c.if-bytes-ge-LAST.false _ _ _ _ _
     not_taken c.refuse_capture.ensures.0 c.refuse_capture.ensures.1

@@ -7,4 +7,4 @@ use Rattle.report_beside.proofs.refuse_capture.Goals as goal
 pub returns : goal.returns
 returns c =
     let a = c.args in
-    stored c.put_capture_refusal.ensures (capture_refusal_fits a.no (a.before + a.place)) (omega arith)
+    stored c.put_capture_refusal.ensures (capture_refusal_fits a.refusal.no (a.before + a.refusal.place)) (omega arith)

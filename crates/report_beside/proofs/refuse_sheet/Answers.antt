@@ -6,4 +6,4 @@ use Rattle.report_beside.proofs.refuse_sheet.Goals as goal
 pub returns : goal.returns
 returns c =
     let a = c.args in
-    stored c.put_refusal.ensures (sheet_refusal_fits a.no a.place) (omega arith)
+    stored c.put_refusal.ensures (sheet_refusal_fits a.refusal.no a.refusal.place) (omega arith)

@@ -37,35 +37,35 @@ returns-then-out-lt-MOST_TEXT c =
     let r = no_room _ _ _ c.if-out-lt-MOST_TEXT.true in
     record { value = r.0; out_after = r.1 }
 
-pub returns-then-way : goal.returns-then-way
-returns-then-way c =
+pub returns-in-Some : goal.returns-in-Some
+returns-in-Some c =
     let a = c.args in
-    let r = written false (refused_report a.way a.deadline c.if-way.true) (no_sheet_refusal_longer _ _ _) c.if-out-lt-MOST_TEXT.false c.put_sheet_refusal.ensures in
+    let r = written false (refused_report a.way a.deadline c.in-Some.refusal c.in-Some.is) (no_sheet_refusal_longer _ _ _) c.if-out-lt-MOST_TEXT.false c.put_sheet_refusal.ensures in
     record { value = r.0; out_after = r.1 }
 
 pub put_path-requires : goal.put_path-requires
-put_path-requires c = few_segments c.args.way c.args.deadline c.if-way.false _ (sym c.in-Within.is ∙ c.answer-crossing.ensures)
+put_path-requires c = few_segments c.args.way c.args.deadline c.in_default.is _ (sym c.in-Ok.is ∙ c.answer.ensures)
 
-pub returns-in-Within : goal.returns-in-Within
-returns-in-Within c =
+pub returns-in-Ok : goal.returns-in-Ok
+returns-in-Ok c =
     let a = c.args in
     -- what is known of a way that is passed: each field in its order, a run with what is known of its elements; here from the masters on
-    let known = c.well_formed.1.0.1.1.1.1.1.1 in
+    let known = c.well_formed.1.0.1.1.1.1 in
     let b : (i : ℕ) → (count_at a.way.bounds i).0 < 2 ^ 32 = λ i. counts-small a.way.bounds known.1.0.0 i known.1.0.1.1 in
     let t : (i : ℕ) → (count_at a.way.times i).0 < 2 ^ 32 = λ i. counts-small a.way.times known.1.1.0.0 i known.1.1.0.1.1 in
     let d : a.deadline.0 < 2 ^ 32 = omega arith in
-    let x = c.in-Within in
+    let x = c.in-Ok in
     let small : x.total.0 < 2 ^ 32 = omega arith in
-    let is = sym x.is ∙ c.answer-crossing.ensures in
-    let few = few_segments a.way a.deadline c.if-way.false _ is in
-    let r = written true (answered_report a.way a.deadline c.if-way.false _ is)
+    let is = sym x.is ∙ c.answer.ensures in
+    let few = few_segments a.way a.deadline c.in_default.is _ is in
+    let r = written true (answered_report a.way a.deadline c.in_default.is _ is)
     (short a.way b t x.total a.deadline (omega (arith, few.1)) small d) c.if-out-lt-MOST_TEXT.false c.put_path.ensures in
     record { value = r.0; out_after = r.1 }
 
-pub returns-in-Refused : goal.returns-in-Refused
-returns-in-Refused c =
+pub returns-in-Err : goal.returns-in-Err
+returns-in-Err c =
     let a = c.args in
     let r = written false
-    (answered_report a.way a.deadline c.if-way.false _ (sym c.in-Refused.is ∙ c.answer-crossing.ensures))
+    (answered_report a.way a.deadline c.in_default.is _ (sym c.in-Err.is ∙ c.answer.ensures))
     (no_path_refusal_longer _ _) c.if-out-lt-MOST_TEXT.false c.put_path_refusal.ensures in
     record { value = r.0; out_after = r.1 }

@@ -5,17 +5,17 @@ use Rattle.report_urgent.proofs.Stored.{stored, accepted_stored, refused_stored}
 use Rattle.report_urgent.proofs.Told.{accepted_told, refused_told}
 use Rattle.report_urgent.proofs.report.Goals as goal
 
-pub returns-in-Accepted : goal.returns-in-Accepted
-returns-in-Accepted c =
+pub returns-in-Ok : goal.returns-in-Ok
+returns-in-Ok c =
     let a = c.args in
     let l = c.listed.ensures in
     let w = c.put_urgent.ensures in
     accepted_stored a.s.now a.out.now
-    (accepted_told a.s.now _ _ _ _ _ _ _ _ _ (sym l.0 ∙ c.in-Accepted.is) l.1 l.2 l.3 l.4 l.5)
+    (accepted_told a.s.now _ _ _ _ _ _ _ _ _ (sym l.0 ∙ c.in-Ok.is) l.1 l.2 l.3 l.4 l.5)
     (stored w.0 w.1 (omega arith))
 
-pub returns-in-Refused : goal.returns-in-Refused
-returns-in-Refused c =
+pub returns-in-Err : goal.returns-in-Err
+returns-in-Err c =
     let a = c.args in
     let l = c.listed.ensures in
-    refused_stored a.s.now a.out.now (refused_told a.s.now _ _ (sym l.0 ∙ c.in-Refused.is)) c.refuse.ensures
+    refused_stored a.s.now a.out.now (refused_told a.s.now _ _ (sym l.0 ∙ c.in-Err.is)) c.refuse.ensures
