@@ -10,7 +10,6 @@ pub mod slips;
 ghost use Rattle.std.specs.Prelude.{◌<◌};
 
 use planner_output::complain;
-use scan::find;
 use text::put_word;
 
 // Four bytes show one, and a word has 4,096 at most.
@@ -54,29 +53,4 @@ pub fn blame(rt: &HostRuntime, name: &[u8]) {
     }
     show(rt, name, 0, name.len(), 255);
     complain(rt, b": ");
-}
-
-// ---- Lists of words, a line for each number from 1 on
-
-// The place behind the end of the line that a place is in, or behind the list.
-fn behind_line(list: &[u8], at: usize) -> usize {
-    find(list, at, b'\n').saturating_add(1)
-}
-
-// Where line k of a list begins.
-pub(crate) fn start_of(list: &[u8], k: usize) -> usize {
-    let mut at = 0;
-    for _ in 1..k {
-        at = behind_line(list, at);
-    }
-    at
-}
-
-// Line k of a list, with its end.
-pub(crate) fn say(rt: &HostRuntime, list: &[u8], k: usize) {
-    let start = start_of(list, k);
-    let end = behind_line(list, start).min(list.len());
-    if start < end {
-        complain(rt, &list[start..end]);
-    }
 }

@@ -4,12 +4,12 @@ use sheet_line::{LINE, put_line};
 use sheet_record::{Record, is_pnet_stream};
 use sheet_said::guess;
 
-// The place where a line stops being the one that it can be; the byte that is wanted there, 0 where a number is too big for its field; and whether a
+// The place where a line stops being the one that it can be; the byte that is wanted there, none where a number is too big for its field; and whether a
 // number is cut off there, or missing.
 #[derive(Clone, Copy)]
 pub(crate) struct Slip {
     pub(crate) at: usize,
-    pub(crate) wanted: u8,
+    pub(crate) wanted: Option<u8>,
     pub(crate) in_number: bool,
 }
 
@@ -67,20 +67,20 @@ pub(crate) fn slip_in_number(line: &[u8], kind: u8, cell: Cell) -> Slip {
     if (end == start) | is_zero_led(line, start) {
         return Slip {
             at: start,
-            wanted: b'0',
+            wanted: Some(b'0'),
             in_number: true,
         };
     }
     if end - start >= 10 {
         return Slip {
             at: start,
-            wanted: 0,
+            wanted: None,
             in_number: true,
         };
     }
     Slip {
         at: end,
-        wanted: behind_number(kind, cell.number),
+        wanted: Some(behind_number(kind, cell.number)),
         in_number: true,
     }
 }
@@ -94,7 +94,7 @@ pub(crate) fn slip_in(line: &[u8], kind: u8) -> Slip {
     if at == n {
         return Slip {
             at: big_cell(line, taken),
-            wanted: 0,
+            wanted: None,
             in_number: true,
         };
     }
@@ -104,7 +104,7 @@ pub(crate) fn slip_in(line: &[u8], kind: u8) -> Slip {
     }
     Slip {
         at,
-        wanted,
+        wanted: Some(wanted),
         in_number: false,
     }
 }

@@ -3,53 +3,57 @@
 use crate::advice::{advice_on_slip, advice_on_word, advise};
 use crate::place::{cell_at, greatest, slip_in};
 use crate::scan::{byte_at, find, is_blank, is_digit, is_sheet};
-use crate::{blame, say, show};
+use crate::{blame, show};
 use planner_output::{complain, complain_number};
 use sheet_line::LINE;
 use sheet_record::record_at;
 use sheet_said::{begins, kind_in};
 
-// ---- Lists of words, a line for each number from 1 on
+// ---- Lists of words
 
-// The form of a line, by its kind. Kind 3 has none.
-const FORMS: [u8; 343] = *b"pnet-segment,MASTERS
-pnet-stream,MASTER,CYCLE bp,SPACING bp,DEADLINE bp
-
-profibus-stream,MASTER,CYCLE bp,DEADLINE bp
-worldfip-exchange,EXCHANGE us
-worldfip-variable,IDENTIFIER,PERIOD us
-pnet-jitter-stream,MASTER,CYCLE bp,SPACING bp,DEADLINE bp,JITTER bp
-pnet-edition,EDITION
-profibus-ring,MASTERS,LATENCY bp
-profibus-message,MASTER,MESSAGE bp
-";
+// The form of a line of this kind; kind 3 has none.
+fn form(kind: u8) -> &'static [u8] {
+    match kind {
+        1 => b"pnet-segment,MASTERS\n",
+        2 => b"pnet-stream,MASTER,CYCLE bp,SPACING bp,DEADLINE bp\n",
+        4 => b"profibus-stream,MASTER,CYCLE bp,DEADLINE bp\n",
+        5 => b"worldfip-exchange,EXCHANGE us\n",
+        6 => b"worldfip-variable,IDENTIFIER,PERIOD us\n",
+        7 => b"pnet-jitter-stream,MASTER,CYCLE bp,SPACING bp,DEADLINE bp,JITTER bp\n",
+        8 => b"pnet-edition,EDITION\n",
+        9 => b"profibus-ring,MASTERS,LATENCY bp\n",
+        10 => b"profibus-message,MASTER,MESSAGE bp\n",
+        _ => b"\n",
+    }
+}
 
 // What can be wanted at a place.
-const WANTED: [u8; 156] = *b"a number
-a blank and the unit bp
-a blank and the unit us
-the unit bp
-the unit us
-a comma and the next cell
-the end of the line
-a word of these, and a comma
-";
+#[derive(Clone, Copy)]
+enum Wanted {
+    Number,
+    BlankBp,
+    BlankUs,
+    Bp,
+    Us,
+    NextCell,
+    LineEnd,
+    Word,
+}
 
-const NUMBER: usize = 1;
-
-const BLANK_BP: usize = 2;
-
-const BLANK_US: usize = 3;
-
-const BP: usize = 4;
-
-const US: usize = 5;
-
-const CELL: usize = 6;
-
-const END: usize = 7;
-
-const WORD: usize = 8;
+impl Wanted {
+    fn words(self) -> &'static [u8] {
+        match self {
+            Wanted::Number => b"a number\n",
+            Wanted::BlankBp => b"a blank and the unit bp\n",
+            Wanted::BlankUs => b"a blank and the unit us\n",
+            Wanted::Bp => b"the unit bp\n",
+            Wanted::Us => b"the unit us\n",
+            Wanted::NextCell => b"a comma and the next cell\n",
+            Wanted::LineEnd => b"the end of the line\n",
+            Wanted::Word => b"a word of these, and a comma\n",
+        }
+    }
+}
 
 // ---- What is wrong
 
@@ -88,9 +92,9 @@ fn show_cell(rt: &HostRuntime, line: &[u8], at: usize) {
     show(rt, line, at, end, 126);
 }
 
-fn tell_wanted(rt: &HostRuntime, k: usize) {
+fn tell_wanted(rt: &HostRuntime, wanted: Wanted) {
     complain(rt, b"; wanted there: ");
-    say(rt, &WANTED, k);
+    complain(rt, wanted.words());
 }
 
 // Times of this kind are in us, else in bp.
@@ -98,22 +102,34 @@ fn is_in_us(kind: u8) -> bool {
     (kind == 5) | (kind == 6)
 }
 
-// Which of the list is wanted in a line of this kind where its own line has this byte.
-fn wanted_by(kind: u8, byte: u8) -> usize {
+// What is wanted in a line of this kind where its own line has this byte.
+fn wanted_by(kind: u8, byte: u8) -> Wanted {
     if is_digit(byte) {
-        return NUMBER;
+        return Wanted::Number;
     }
     match byte {
-        b',' => CELL,
-        b'\n' => END,
-        b' ' => { if is_in_us(kind) { BLANK_US } else { BLANK_BP } }
-        _ => { if is_in_us(kind) { US } else { BP } }
+        b',' => Wanted::NextCell,
+        b'\n' => Wanted::LineEnd,
+        b' ' => {
+            if is_in_us(kind) {
+                Wanted::BlankUs
+            } else {
+                Wanted::BlankBp
+            }
+        }
+        _ => {
+            if is_in_us(kind) {
+                Wanted::Us
+            } else {
+                Wanted::Bp
+            }
+        }
     }
 }
 
 fn tell_form(rt: &HostRuntime, kind: u8) {
     complain(rt, b"planner: the form of that line: ");
-    say(rt, &FORMS, kind as usize);
+    complain(rt, form(kind));
 }
 
 // The unit of a cell's number, if it has one: masters, identifiers and editions stand first and have none.
@@ -132,7 +148,7 @@ fn say_unit(rt: &HostRuntime, kind: u8, cell: usize) {
 
 fn tell_word(rt: &HostRuntime, name: &[u8], number: usize, line: &[u8]) {
     show_place(rt, name, number, line, 0);
-    tell_wanted(rt, WORD);
+    tell_wanted(rt, Wanted::Word);
     complain(
         rt,
         b"planner: pnet-segment, pnet-stream, profibus-stream, worldfip-exchange, worldfip-variable, pnet-jitter-stream, pnet-edition, profibus-ring, profibus-message\n",
@@ -153,15 +169,14 @@ fn tell_big(rt: &HostRuntime, name: &[u8], number: usize, line: &[u8], kind: u8,
 fn tell_slip(rt: &HostRuntime, name: &[u8], number: usize, line: &[u8], kind: u8) {
     let slip = slip_in(line, kind);
     let at = slip.at;
-    let wanted = slip.wanted;
-    if wanted == 0 {
+    let Some(wanted) = slip.wanted else {
         tell_big(rt, name, number, line, kind, at);
         return;
-    }
+    };
     show_place(rt, name, number, line, at);
     tell_wanted(rt, wanted_by(kind, wanted));
     tell_form(rt, kind);
-    advise(rt, advice_on_slip(line, slip));
+    advise(rt, advice_on_slip(line, at, wanted, slip.in_number));
 }
 
 // Says of a line, by its number, why it is not of the form; of a long one its front is enough.

@@ -7,6 +7,7 @@ use native.Mathlib.Omega.{arith}
 use lib.Dec.{eqb}
 use lib.ListN.{length, take, drop}
 use lib.Seq.{take-append_seam}
+use Rattle.std.specs.declared.result.Result.{Result}
 use Rattle.std.specs.declared.result.Result.TheVariants.{Ok, Err}
 use Rattle.common.specs.declared.Refusal.{Refusal}
 use Rattle.common.proofs.Answered.{refuses_alike}
@@ -20,7 +21,8 @@ use Rattle.sheet_pieces.specs.Comes.Comes.{stands, bad}
 use Rattle.sheet_pieces.specs.declared.Taken.{Taken}
 use Rattle.sheet_pieces.proofs.Stepped.{state, TakenAll, taken_is}
 use Rattle.sheet_pieces.proofs.Whole.{steps_append, comes_to}
-use Rattle.planner_io.specs.declared.input.Given.{Given}
+use Rattle.planner_io.specs.declared.input.Unread.{Unread}
+use Rattle.planner_io.specs.declared.input.Unread.TheVariants.{BadLine}
 use Rattle.planner_io.specs.Made.{Took, Made}
 use Rattle.planner_io.specs.Made.Made.{no_text, a_sheet}
 
@@ -76,27 +78,30 @@ further_more p f all = record { took = λ first k. took_more p (f.took first k) 
 
 -- ---- The end
 
+abbrev of_line : Refusal → Result ℕ Unread
+of_line f = Err (BadLine f.place)
+
 module _ {first : List ℕ} {st : State} (k : Took first st) where
   comes : Comes st (meaning (first ++ k.rest))
   comes = rw k.state_is (comes_to (first ++ k.rest) k.front k.sheet k.wide k.roomy)
 
   -- a line is not of the form
-  pub took_bad : (r : Given) {f : Refusal} → ended_as st.taken ≡ Err f → r.line ≡ f.place → Made first st.sheet r
-  took_bad r {f} ended line = by (meaning (first ++ k.rest)) refl comes
+  pub took_bad : {f : Refusal} → ended_as st.taken ≡ Err f → Made first st.sheet (Err (BadLine f.place))
+  took_bad {f} ended = by (meaning (first ++ k.rest)) refl comes
     where
-      by : (m : Meaning) → meaning (first ++ k.rest) ≡ m → Comes st m → Made first st.sheet r
+      by : (m : Meaning) → meaning (first ++ k.rest) ≡ m → Comes st m → Made first st.sheet (Err (BadLine f.place))
       by m e (stands w) = let z : ◌≡◌ {A = ℕ} 0 1 = cc w.ended in absurd (omega arith)
-      by m e (bad {n = n} q) = no_text k.rest n e (line ∙ ap (λ (x : Refusal). x.place) (refuses_alike (sym ended ∙ q)))
+      by m e (bad {n = n} q) = no_text k.rest n e (ap of_line (refuses_alike (sym ended ∙ q)))
 
-  -- a sheet, of which l bytes are kept
-  pub took_sheet : (r : Given) (l : ℕ) → ended_as st.taken ≡ Ok l → r.line ≡ 0 → r.length ≡ min l (length st.sheet) → Made first st.sheet r
-  took_sheet r l ended line long = by (meaning (first ++ k.rest)) refl comes
+  -- a sheet, of which n bytes are kept
+  pub took_sheet : (n l : ℕ) → ended_as st.taken ≡ Ok l → n ≡ min l (length st.sheet) → Made first st.sheet (Ok n)
+  took_sheet n l ended long = by (meaning (first ++ k.rest)) refl comes
     where
-      by : (m : Meaning) → meaning (first ++ k.rest) ≡ m → Comes st m → Made first st.sheet r
+      by : (m : Meaning) → meaning (first ++ k.rest) ≡ m → Comes st m → Made first st.sheet (Ok n)
       by m e (stands {s = s} {k = j} w) =
           let same : l ≡ j = cc w.ended in
-          let all : r.length ≡ j = omega (arith, w.inside) in
-          a_sheet k.rest s e line (rw all w.alike) (rw all w.whole)
+          let all : n ≡ j = omega (arith, w.inside) in
+          a_sheet k.rest s n e refl (rw all w.alike) (rw all w.whole)
       by m e (bad q) = let z : ◌≡◌ {A = ℕ} 0 1 = cc in absurd (omega arith)
 
 -- ---- Bytes or a text

@@ -20,7 +20,8 @@ planner COMMAND ..       with a command, a word of the list below
 
 ";
 
-// The commands, a line for each: its word, what follows, what it does. A command's number is its line's, from 1 (`main` knows it by that).
+// The commands, a line for each: its word, what follows, what it does. Which command a word is goes by its line's number
+// (`command_of` in words.rt).
 pub(crate) const COMMANDS: [u8; 666] =
     *b"--path DEADLINE bp SHEET MASTER TIME bp SHEET MASTER ..  the report of a path
 --urgent [SHEET] [CAPTURE]                               urgent requests first

@@ -1,5 +1,5 @@
 // Opening a file, reading until a buffer is full, and a sheet, which may be given as bytes or as a text.
-ghost use Rattle.std.specs.Prelude.{◌≡◌, List, true, ℕ, ◌≤◌, IfOk, length, take};
+ghost use Rattle.std.specs.Prelude.{◌≡◌, List, ℕ, ◌≤◌, IfOk, length, take};
 ghost use Rattle.sheet_pieces.specs.Steps.{State, room};
 ghost use Rattle.planner_io.specs.Made.{Took, Made, GivenAs};
 
@@ -107,49 +107,34 @@ pub fn open(rt: &HostRuntime, name: &[u8]) -> Option<Source> {
 
 // ---- A sheet
 
-// What was given as a sheet: how many bytes of it are kept; the number of a line that is not of a text's form, 0 if there is none; and whether a
-// read failed. What went wrong is then said.
+// Why nothing of a sheet is kept, which was said: a read failed, or the line of this number is not of a text's form.
 #[derive(Clone, Copy)]
-pub struct Given {
-    pub length: usize,
-    pub line: usize,
-    pub failed: bool,
-}
-
-// Nothing, as a read failed.
-pub fn failed() -> Given
-    ensures { (result.length ≡ 0) × (result.failed ≡ true) }
-{
-    Given {
-        length: 0,
-        line: 0,
-        failed: true,
-    }
+pub enum Unread {
+    Failed,
+    BadLine(usize),
 }
 
 // What a text came to that was taken to its end, or to a line that is not of the form.
-fn told(rt: &HostRuntime, name: &[u8], taken: Taken, front: &[u8], sheet: &[u8]) -> Given
-    ensures length_in_bounds { result.length ≤ length sheet.now }
+fn told(
+    rt: &HostRuntime,
+    name: &[u8],
+    taken: Taken,
+    front: &[u8],
+    sheet: &[u8],
+) -> Result<usize, Unread>
+    ensures length_in_bounds { IfOk result (λ n. n ≤ length sheet.now) }
     ensures by_index { (first : List ℕ) → Took first (record { taken = taken; front = front.now; sheet = sheet.now }) → Made first sheet.now result }
 {
     match sheet_pieces::end(taken) {
         Ok(kept) => {
             let length = kept.min(sheet.len());
             slips::of_sheet(rt, name, &sheet[..length]);
-            Given {
-                length,
-                line: 0,
-                failed: false,
-            }
+            Ok(length)
         }
         Err(refusal) => {
             let held = taken.held.min(front.len());
             slips::of_line(rt, name, refusal.place, &front[..held]);
-            Given {
-                length: 0,
-                line: refusal.place,
-                failed: false,
-            }
+            Err(Unread::BadLine(refusal.place))
         }
     }
 }
@@ -163,8 +148,8 @@ fn read_on(
     piece: &mut [u8],
     front: &mut [u8],
     sheet: &mut [u8],
-) -> Given
-    ensures length_in_bounds { result.length ≤ length sheet.old }
+) -> Result<usize, Unread>
+    ensures length_in_bounds { IfOk result (λ n. n ≤ length sheet.old) }
     ensures by_index { (first : List ℕ) → Took first (record { taken = begun; front = front.old; sheet = sheet.old }) → Made first sheet.new result }
 {
     let mut taken = begun;
@@ -175,7 +160,7 @@ fn read_on(
         let next = read_all(source, piece);
         if let Some(error) = next.failed {
             fail(rt, name, error);
-            return failed();
+            return Err(Unread::Failed);
         }
         let end = next.length;
         taken = sheet_pieces::take(&piece[..end], taken, front, sheet);
@@ -184,7 +169,7 @@ fn read_on(
         }
     }
     complain(rt, b"planner: the text is too long to be counted\n");
-    failed()
+    Err(Unread::Failed)
 }
 
 // Reads a text, of which the first piece was read into the sheet's run, where it makes room for what the text stands for.
@@ -194,9 +179,9 @@ fn read_text(
     name: &[u8],
     sheet: &mut [u8],
     n: usize,
-) -> Given
+) -> Result<usize, Unread>
     requires { (room ≡ length sheet.old) × (n ≤ length sheet.old) }
-    ensures length_in_bounds { result.length ≤ length sheet.old }
+    ensures length_in_bounds { IfOk result (λ n. n ≤ length sheet.old) }
     ensures made { Made (take n sheet.old) sheet.new result }
 {
     let mut piece = [0u8; PIECE];
@@ -209,23 +194,23 @@ fn read_text(
     read_on(rt, source, name, taken, &mut piece, &mut front, sheet)
 }
 
-// Reads a sheet, as much as decides its report, or says why it cannot. What begins with one of the words of texts and a comma is a text, and so is all
-// that is asked for as one.
+// Reads a sheet, as much as decides its report, and answers how many bytes of it are kept, or says why it cannot. What begins with one of the words of
+// texts and a comma is a text, and so is all that is asked for as one.
 pub fn read_sheet(
     rt: &HostRuntime,
     source: &mut Source,
     name: &[u8],
     sheet: &mut [u8],
     as_text: bool,
-) -> Given
+) -> Result<usize, Unread>
     requires { room ≡ length sheet.old }
-    ensures length_in_bounds { result.length ≤ length sheet.old }
+    ensures length_in_bounds { IfOk result (λ n. n ≤ length sheet.old) }
     ensures given_as { GivenAs as_text sheet.new result }
 {
     let input = read_all(source, sheet);
     if let Some(error) = input.failed {
         fail(rt, name, error);
-        return failed();
+        return Err(Unread::Failed);
     }
     let length = input.length;
     let kind = sheet_said::kind_in(&sheet[..length]);
@@ -233,9 +218,5 @@ pub fn read_sheet(
         return read_text(rt, source, name, sheet, length);
     }
     slips::of_bytes(rt, name, &sheet[..length]);
-    Given {
-        length,
-        line: 0,
-        failed: false,
-    }
+    Ok(length)
 }

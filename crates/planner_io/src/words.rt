@@ -133,6 +133,19 @@ pub fn unknown(rt: &HostRuntime, i: usize) -> u8
 
 // ---- Commands
 
+// The commands, in the order of the list `COMMANDS`, where two words mean the help; behind the last there are names alone.
+#[derive(Clone, Copy)]
+pub enum Command {
+    Path,
+    Urgent,
+    Export,
+    Import,
+    Rewrite,
+    Help,
+    Version,
+    NamesOnly,
+}
+
 // The place behind the next end of a line.
 fn next_line(list: &[u8], from: usize) -> usize
     requires { from < length list.now }
@@ -150,23 +163,38 @@ fn begins(list: &[u8], word: &[u8]) -> bool {
         .is_some_and(|behind| behind.starts_with(b" "))
 }
 
-// The number of the line that begins with a word, from 1; 0 if none does.
-fn line_of(list: &[u8], word: &[u8]) -> usize {
+// The number of the line that begins with a word, from 1.
+fn line_of(list: &[u8], word: &[u8]) -> Option<usize> {
     let mut number: usize = 1;
     let mut at: usize = 0;
     while at < list.len() {
         if begins(&list[at..], word) {
-            return number;
+            return Some(number);
         }
         at = next_line(list, at);
         number += 1;
     }
-    0
+    None
 }
 
-// The number of the command that word i is, 0 if it is none.
-pub fn command(rt: &HostRuntime, i: usize) -> usize {
+// The command of the line of this number.
+fn command_of(number: usize) -> Option<Command> {
+    match number {
+        1 => Some(Command::Path),
+        2 => Some(Command::Urgent),
+        3 => Some(Command::Export),
+        4 => Some(Command::Import),
+        5 => Some(Command::Rewrite),
+        6 | 7 => Some(Command::Help),
+        8 => Some(Command::Version),
+        9 => Some(Command::NamesOnly),
+        _ => None,
+    }
+}
+
+// The command that word i is, if it is one.
+pub fn command_at(rt: &HostRuntime, i: usize) -> Option<Command> {
     let mut word = [0u8; WORD];
     let n = take_word(rt, i, &mut word);
-    line_of(&COMMANDS, &word[..n])
+    command_of(line_of(&COMMANDS, &word[..n])?)
 }

@@ -1,10 +1,10 @@
 -- `planner_io::input::told` says what the text came to: a line that is not of the form, or the sheet that is kept. Assumes nothing.
-use Rattle.std.proofs.Common.{refl, sym, ◌∙◌}
+use Rattle.std.proofs.Common.{sym, ◌∙◌}
 use Rattle.planner_io.proofs.Made.{took_bad, took_sheet}
 use Rattle.planner_io.proofs.input.told.Goals as goal
 
 pub returns-in-Err-clause-by_index : goal.returns-in-Err-clause-by_index
-returns-in-Err-clause-by_index c = λ first k. took_bad k _ (sym c.end.ensures ∙ c.in-Err.is) refl
+returns-in-Err-clause-by_index c = λ first k. took_bad k (sym c.end.ensures ∙ c.in-Err.is)
 
 pub returns-in-Ok-clause-by_index : goal.returns-in-Ok-clause-by_index
-returns-in-Ok-clause-by_index c = λ first k. took_sheet k _ _ (sym c.end.ensures ∙ c.in-Ok.is) refl c.min-length.ensures
+returns-in-Ok-clause-by_index c = λ first k. took_sheet k _ _ (sym c.end.ensures ∙ c.in-Ok.is) c.min-length.ensures
