@@ -1,26 +1,26 @@
 // A path over several P-NET segments, from the words behind `--path`, in fours: a number and its unit, a sheet, and the master that sends
 // there. The first number is the deadline, each other one the forwarding time of the gateway that leads to the segment.
-ghost use Rattle.std.specs.Prelude.{◌≤◌, length, ◌≡◌};
+ghost use Rattle.std.specs.Prelude.{◌≤◌, length, ◌≡◌, IfOk};
 ghost use Rattle.sheet_pieces.specs.Steps.{room};
 
-use planner_io::input::{Given, open};
+use common::Refusal;
+use planner_io::input::{Unread, open};
 use planner_io::words::{WORD, from_standard_input, is_word, serves, show_word, take_word};
 use planner_output::{ACCEPTED, FAILED, REFUSED, complain, complain_number};
 use pnet_path::Way;
 use report_path::Reported;
-use text_entry::Entered;
 use units::BitPeriods;
 
 // ---- Words
 
-fn number_at(rt: &HostRuntime, i: usize) -> Entered {
+fn number_at(rt: &HostRuntime, i: usize) -> Option<u32> {
     let mut word = [0u8; WORD];
     let n = take_word(rt, i, &mut word);
     text_entry::number(&word[..n])
 }
 
 // A master is a number, or M and two digits, as a report shows it.
-fn master_at(rt: &HostRuntime, i: usize) -> Entered {
+fn master_at(rt: &HostRuntime, i: usize) -> Option<u32> {
     let mut word = [0u8; WORD];
     let n = take_word(rt, i, &mut word);
     if (n == 3) & (word[0] == b'M') {
@@ -29,31 +29,17 @@ fn master_at(rt: &HostRuntime, i: usize) -> Entered {
     text_entry::number(&word[..n])
 }
 
-fn is_number(entered: Entered) -> bool {
-    match entered {
-        Entered::Number(_) => true,
-        Entered::Nothing => false,
-    }
-}
-
-fn number_of(entered: Entered) -> u32 {
-    match entered {
-        Entered::Number(n) => n,
-        Entered::Nothing => 0,
-    }
-}
-
 // The master that word i is; none has a number above 255.
 fn sender(rt: &HostRuntime, i: usize) -> u8 {
-    number_of(master_at(rt, i)).min(255) as u8
+    master_at(rt, i).unwrap_or(0).min(255) as u8
 }
 
 // Word i is what stands there: a number, its unit, any sheet, a master.
 fn fits(rt: &HostRuntime, i: usize) -> bool {
     match i % 4 {
-        2 => is_number(number_at(rt, i)),
+        2 => number_at(rt, i).is_some(),
         3 => is_word(rt, i, b"bp"),
-        1 => is_number(master_at(rt, i)),
+        1 => master_at(rt, i).is_some(),
         _ => true,
     }
 }
@@ -128,9 +114,9 @@ fn standard_inputs(rt: &HostRuntime, segments: usize) -> usize
 // ---- The path
 
 // Reads the sheet that word i names, or says why it cannot.
-fn read_sheet(rt: &HostRuntime, i: usize, sheet: &mut [u8]) -> Given
+fn read_sheet(rt: &HostRuntime, i: usize, sheet: &mut [u8]) -> Result<usize, Unread>
     requires { room ≡ length sheet.old }
-    ensures { result.length ≤ length sheet.old }
+    ensures { IfOk result (λ n. n ≤ length sheet.old) }
 {
     let mut name = [0u8; WORD];
     let n = take_word(rt, i, &mut name);
@@ -138,16 +124,8 @@ fn read_sheet(rt: &HostRuntime, i: usize, sheet: &mut [u8]) -> Given
         Some(mut source) => {
             planner_io::input::read_sheet(rt, &mut source, &name[..n], sheet, false)
         }
-        None => planner_io::input::failed(),
+        None => Err(Unread::Failed),
     }
-}
-
-// Goes over one segment more, or ends there where the sheet is a text with a line that is not of the form.
-fn go_on(way: Way, time: BitPeriods, sheet: &[u8], line: usize, master: u8) -> Way {
-    if line > 0 {
-        return pnet_path::stopped(way, 23, line);
-    }
-    pnet_path::over(way, time, sheet, master)
 }
 
 fn write_report(rt: &HostRuntime, way: Way, deadline: BitPeriods) -> u8 {
@@ -167,14 +145,21 @@ fn cross(rt: &HostRuntime, segments: usize, deadline: BitPeriods) -> u8
     for j in 0..segments {
         let i = 4 * j + 2;
         let mut sheet = sheet_pieces::sheet_buffer();
-        let given = read_sheet(rt, i + 2, &mut sheet);
-        if given.failed {
-            return FAILED;
-        }
-        let n = given.length;
-        let time = BitPeriods(number_of(number_at(rt, i)));
-        way = go_on(way, time, &sheet[..n], given.line, sender(rt, i + 3));
-        if way.refused {
+        way = match read_sheet(rt, i + 2, &mut sheet) {
+            Ok(n) => {
+                let time = BitPeriods(number_at(rt, i).unwrap_or(0));
+                pnet_path::over(way, time, &sheet[..n], sender(rt, i + 3))
+            }
+            Err(Unread::BadLine(line)) => pnet_path::stopped(
+                way,
+                Refusal {
+                    no: 23,
+                    place: line,
+                },
+            ),
+            Err(Unread::Failed) => return FAILED,
+        };
+        if way.refused.is_some() {
             return write_report(rt, way, deadline);
         }
     }
@@ -193,5 +178,5 @@ pub(crate) fn plan(rt: &HostRuntime, count: usize) -> u8 {
     if !serves(rt, standard_inputs(rt, segments)) {
         return FAILED;
     }
-    cross(rt, segments, BitPeriods(number_of(number_at(rt, 2))))
+    cross(rt, segments, BitPeriods(number_at(rt, 2).unwrap_or(0)))
 }

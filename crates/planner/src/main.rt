@@ -7,8 +7,8 @@ mod along;
 mod exchange;
 mod rewrite;
 
-use planner_io::input::{Source, open, read_sheet};
-use planner_io::words::WORD;
+use planner_io::input::{Source, Unread, open, read_sheet};
+use planner_io::words::{Command, WORD};
 use planner_io::{help, words};
 use planner_output::{ACCEPTED, FAILED, REFUSED, give_up, unless_cut};
 use report_sheet::Reported;
@@ -30,34 +30,37 @@ fn write_report(rt: &HostRuntime, s: &[u8], urgent_first: bool) -> u8 {
     }
 }
 
+// How a call ends that plans no sheet, as it could not be read or is a text that is refused.
+fn report_unread(rt: &HostRuntime, unread: Unread) -> u8 {
+    match unread {
+        Unread::Failed => FAILED,
+        Unread::BadLine(line) => planner_output::bad_line(rt, line),
+    }
+}
+
 // Plans what can be read; bytes behind a full buffer change no report.
 fn plan(rt: &HostRuntime, source: &mut Source, name: &[u8], urgent: bool) -> u8 {
     let mut sheet = sheet_pieces::sheet_buffer();
-    let given = read_sheet(rt, source, name, &mut sheet, false);
-    if given.failed {
-        return FAILED;
+    match read_sheet(rt, source, name, &mut sheet, false) {
+        Ok(n) => write_report(rt, &sheet[..n], urgent),
+        Err(unread) => report_unread(rt, unread),
     }
-    if given.line > 0 {
-        return planner_output::bad_line(rt, given.line);
-    }
-    let n = given.length;
-    write_report(rt, &sheet[..n], urgent)
 }
 
-// Does with a sheet what the command of this number is for; no command plans it.
-fn serve(rt: &HostRuntime, number: usize, source: &mut Source, name: &[u8]) -> u8 {
-    match number {
-        2 => plan(rt, source, name, true),
-        3 => exchange::exchange(rt, source, name, false),
-        4 => exchange::exchange(rt, source, name, true),
-        5 => rewrite::rewrite(rt, source, name),
+// Does with a sheet what the command is for; no command plans it.
+fn serve(rt: &HostRuntime, command: Option<Command>, source: &mut Source, name: &[u8]) -> u8 {
+    match command {
+        Some(Command::Urgent) => plan(rt, source, name, true),
+        Some(Command::Export) => exchange::exchange(rt, source, name, false),
+        Some(Command::Import) => exchange::exchange(rt, source, name, true),
+        Some(Command::Rewrite) => rewrite::rewrite(rt, source, name),
         _ => plan(rt, source, name, false),
     }
 }
 
-fn serve_file(rt: &HostRuntime, number: usize, name: &[u8]) -> u8 {
+fn serve_file(rt: &HostRuntime, command: Option<Command>, name: &[u8]) -> u8 {
     match open(rt, name) {
-        Some(mut source) => serve(rt, number, &mut source, name),
+        Some(mut source) => serve(rt, command, &mut source, name),
         None => FAILED,
     }
 }
@@ -72,15 +75,10 @@ fn compare(
     name: &[u8],
 ) -> u8 {
     let mut sheet = sheet_pieces::sheet_buffer();
-    let given = read_sheet(rt, sheet_source, sheet_name, &mut sheet, false);
-    if given.failed {
-        return FAILED;
+    match read_sheet(rt, sheet_source, sheet_name, &mut sheet, false) {
+        Ok(n) => planner_beside::compare(rt, &sheet[..n], urgent, source, name),
+        Err(unread) => report_unread(rt, unread),
     }
-    if given.line > 0 {
-        return planner_output::bad_line(rt, given.line);
-    }
-    let n = given.length;
-    planner_beside::compare(rt, &sheet[..n], urgent, source, name)
 }
 
 fn compare_files(rt: &HostRuntime, sheet_name: &[u8], urgent: bool, name: &[u8]) -> u8 {
@@ -96,7 +94,7 @@ fn compare_files(rt: &HostRuntime, sheet_name: &[u8], urgent: bool, name: &[u8])
 // ---- Words
 
 // No name: the sheet on standard input, unless someone sits there.
-fn by_none(rt: &HostRuntime, number: usize) -> u8 {
+fn by_none(rt: &HostRuntime, command: Option<Command>) -> u8 {
     if rt.stdin().is_terminal() {
         help::usage(rt);
         return give_up(
@@ -104,15 +102,15 @@ fn by_none(rt: &HostRuntime, number: usize) -> u8 {
             b"\nplanner: no sheet: name a file, or - for standard input\n",
         );
     }
-    serve(rt, number, &mut Source::Standard(rt.stdin()), b"-")
+    serve(rt, command, &mut Source::Standard(rt.stdin()), b"-")
 }
 
-fn by_one(rt: &HostRuntime, number: usize, i: usize) -> u8 {
+fn by_one(rt: &HostRuntime, command: Option<Command>, i: usize) -> u8 {
     let mut name = [0u8; WORD];
     let Ok(n) = rt.arg(i, &mut name) else {
         return words::too_long(rt, i);
     };
-    serve_file(rt, number, &name[..n])
+    serve_file(rt, command, &name[..n])
 }
 
 fn by_two(rt: &HostRuntime, urgent: bool, sheet: usize, capture: usize) -> u8 {
@@ -127,10 +125,10 @@ fn by_two(rt: &HostRuntime, urgent: bool, sheet: usize, capture: usize) -> u8 {
     compare_files(rt, &first[..n], urgent, &second[..m])
 }
 
-// One name or two, from word i on, for the command of this number or for none: a sheet, or a sheet and a capture.
-fn by_names(rt: &HostRuntime, number: usize, i: usize, count: usize) -> u8 {
+// One name or two, from word i on, for a command or for none: a sheet, or a sheet and a capture.
+fn by_names(rt: &HostRuntime, command: Option<Command>, i: usize, count: usize) -> u8 {
     if count <= i {
-        return by_none(rt, number);
+        return by_none(rt, command);
     }
     let last = count - 1;
     if last - i > 1 {
@@ -143,26 +141,27 @@ fn by_names(rt: &HostRuntime, number: usize, i: usize, count: usize) -> u8 {
         return FAILED;
     }
     if i == last {
-        by_one(rt, number, i)
+        by_one(rt, command, i)
     } else {
-        by_two(rt, number == 2, i, last)
+        let urgent = matches!(command, Some(Command::Urgent));
+        by_two(rt, urgent, i, last)
     }
 }
 
 // Names with no `--` before them: one that begins as an option does is none that there is.
-fn by_plain_names(rt: &HostRuntime, number: usize, first: usize, count: usize) -> u8 {
+fn by_plain_names(rt: &HostRuntime, command: Option<Command>, first: usize, count: usize) -> u8 {
     for i in first..count {
         if words::is_option(rt, i) {
             return words::unknown(rt, i);
         }
     }
-    by_names(rt, number, first, count)
+    by_names(rt, command, first, count)
 }
 
 // The name behind a command that takes one at most.
-fn by_command(rt: &HostRuntime, number: usize, count: usize) -> u8 {
+fn by_command(rt: &HostRuntime, command: Option<Command>, count: usize) -> u8 {
     if count <= 2 {
-        return by_none(rt, number);
+        return by_none(rt, command);
     }
     if count > 3 {
         return give_up(
@@ -176,20 +175,22 @@ fn by_command(rt: &HostRuntime, number: usize, count: usize) -> u8 {
     if !words::serves(rt, words::from_standard_input(rt, 2)) {
         return FAILED;
     }
-    by_one(rt, number, 2)
+    by_one(rt, command, 2)
 }
 
-// What the first word asks for, by its number in the list of commands.
+// What the first word asks for.
 fn by_words(rt: &HostRuntime, count: usize) -> u8 {
-    let number = words::command(rt, 1);
-    match number {
-        1 => along::plan(rt, count),
-        2 => by_plain_names(rt, number, 2, count),
-        3 | 4 | 5 => by_command(rt, number, count),
-        6 | 7 => unless_cut(rt, help::help(rt), ACCEPTED),
-        8 => unless_cut(rt, help::version(rt), ACCEPTED),
-        9 => by_names(rt, 0, 2, count),
-        _ => by_plain_names(rt, 0, 1, count),
+    let command = words::command_at(rt, 1);
+    match command {
+        Some(Command::Path) => along::plan(rt, count),
+        Some(Command::Urgent) => by_plain_names(rt, command, 2, count),
+        Some(Command::Export | Command::Import | Command::Rewrite) => by_command(
+            rt, command, count,
+        ),
+        Some(Command::Help) => unless_cut(rt, help::help(rt), ACCEPTED),
+        Some(Command::Version) => unless_cut(rt, help::version(rt), ACCEPTED),
+        Some(Command::NamesOnly) => by_names(rt, None, 2, count),
+        None => by_plain_names(rt, None, 1, count),
     }
 }
 
