@@ -8,7 +8,7 @@ use planner_io::input::{Unread, open};
 use planner_io::words::{WORD, from_standard_input, is_word, serves, show_word, take_word};
 use planner_output::{ACCEPTED, FAILED, REFUSED, complain, complain_number};
 use pnet_path::Way;
-use report_path::Reported;
+use report_phrases::Reported;
 use units::BitPeriods;
 
 // ---- Words
@@ -131,9 +131,9 @@ fn read_sheet(rt: &HostRuntime, i: usize, sheet: &mut [u8]) -> Result<usize, Unr
 fn write_report(rt: &HostRuntime, way: Way, deadline: BitPeriods) -> u8 {
     let mut text = report_path::text_buffer();
     match report_path::report(&mut text, way, deadline) {
-        Reported::Accepted(n) => planner_output::report(rt, &text, n, ACCEPTED),
-        Reported::Refused(n) => planner_output::report(rt, &text, n, REFUSED),
-        Reported::NoRoom => FAILED,
+        Some(Reported::Accepted(n)) => planner_output::report(rt, &text, n, ACCEPTED),
+        Some(Reported::Refused(n)) => planner_output::report(rt, &text, n, REFUSED),
+        None => FAILED,
     }
 }
 

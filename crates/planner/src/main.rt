@@ -11,7 +11,7 @@ use planner_io::input::{Source, Unread, open, read_sheet};
 use planner_io::words::{Command, WORD};
 use planner_io::{help, words};
 use planner_output::{ACCEPTED, FAILED, REFUSED, give_up, unless_cut};
-use report_sheet::Reported;
+use report_phrases::Reported;
 use std::env::Env;
 use std::io::IsTerminal;
 use std::process::ExitCode;
@@ -24,9 +24,9 @@ fn write_report(rt: &HostRuntime, s: &[u8], urgent_first: bool) -> u8 {
     }
     let mut text = report_sheet::text_buffer();
     match report_sheet::report(s, &mut text) {
-        Reported::Accepted(n) => planner_output::report(rt, &text, n, ACCEPTED),
-        Reported::Refused(n) => planner_output::report(rt, &text, n, REFUSED),
-        Reported::NoRoom => FAILED,
+        Some(Reported::Accepted(n)) => planner_output::report(rt, &text, n, ACCEPTED),
+        Some(Reported::Refused(n)) => planner_output::report(rt, &text, n, REFUSED),
+        None => FAILED,
     }
 }
 

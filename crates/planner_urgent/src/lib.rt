@@ -4,7 +4,7 @@
 ghost use Rattle.report_urgent.specs.Stored.{Tells};
 
 use planner_output::{ACCEPTED, REFUSED};
-use report_urgent::Reported;
+use report_phrases::Reported;
 use report_urgent_lines::MOST_TEXT;
 
 // Writes the report of the sheet.

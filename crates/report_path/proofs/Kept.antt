@@ -16,10 +16,10 @@ use Rattle.pnet_path.proofs.Laws.{answer_of_refused, answer_of_others}
 use Rattle.text.specs.Text.{Wrote}
 use Rattle.text.proofs.Writing.{wrote_front}
 use Rattle.report_path_lines.specs.Lines.{sheet_refusal}
-use Rattle.report_path.specs.declared.Reported.TheVariants as answer
+use Rattle.report_phrases.specs.Reports.{told}
 use Rattle.report_path.specs.Told.{most_path}
 use Rattle.report_path.specs.Report.{is_within}
-use Rattle.report_path.specs.Kept.{answer_text_of, refused_text_or, report_of, accepts_of, told, told_in, run_with}
+use Rattle.report_path.specs.Kept.{answer_text_of, refused_text_or, report_of, accepts_of, told_in, run_with}
 use Rattle.std.specs.declared.result.Result.TheVariants.{Ok, Err}
 use Rattle.common.specs.Checks.{refusal}
 use Rattle.std.specs.declared.result.Result.{Result}
@@ -61,15 +61,15 @@ module _ (w : Way) (D : BitPeriods) where
 -- ---- In a lent run
 
 -- without room for every report nothing is written
-pub no_room : (old t : List ℕ) (accepted : Bool) → length old < most_path → (answer.NoRoom ≡ told_in (length old) accepted t) × (old ≡ run_with old t)
+pub no_room : (old t : List ℕ) (accepted : Bool) → length old < most_path → (None ≡ told_in (length old) accepted t) × (old ≡ run_with old t)
 unfolding told_in run_with
 no_room old t accepted short = (simp (lt-ltb (length old) most_path short), simp (lt-ltb (length old) most_path short))
 
 -- with it, a text u that is the report t is written whole
 pub written : {old u t new : List ℕ} {n : ℕ} {accepted : Bool} (a : Bool) → (a ≡ accepted) × (u ≡ t) → length u ≤ most_path → most_path ≤ length old
-    → Wrote old 0 u new n → (told a n ≡ told_in (length old) accepted t) × (new ≡ run_with old t)
+    → Wrote old 0 u new n → (Some (told a n) ≡ told_in (length old) accepted t) × (new ≡ run_with old t)
 unfolding told_in run_with
 written {old} {u} {t} {new} {n} a is short room wrote =
     let w = wrote_front wrote (omega arith) in
     let fits = le-ltb (length old) most_path room in
-    rw (← is.0, ← is.1, fits) (ap (told a) w.0, w.1)
+    rw (← is.0, ← is.1, fits) (ap (λ (k : ℕ). Some (told a k)) w.0, w.1)

@@ -18,7 +18,9 @@ use Rattle.text.specs.Text.{item}
 use Rattle.text.proofs.Writing.{texts_same}
 use Rattle.report_path.specs.Told.{most_path, hop_lines, path_text}
 use Rattle.report_path.specs.Report.{path_lines, answer_text, path_report, is_within, path_accepts}
-use Rattle.report_path.specs.Kept.{count_at, lines_of, answer_text_of, report_of, accepts_of, told, told_in, run_with}
+use Rattle.report_phrases.specs.Reports.{told}
+use Rattle.std.specs.declared.option.Option.TheVariants.{Some}
+use Rattle.report_path.specs.Kept.{count_at, lines_of, answer_text_of, report_of, accepts_of, told_in, run_with}
 use Rattle.report_path.proofs.Kept.{refused_report, answered_report}
 use Rattle.report_path.proofs.Says.{says_the_first_refused_sheet, says_the_answer}
 use Rattle.std.specs.declared.result.Result.TheVariants.{Ok, Err}
@@ -88,7 +90,7 @@ module _ (P : Path) where
       -- and answers whether the path is accepted and how many bytes that report has
       pub written_is_the_paths : (old : List ℕ) → most_path ≤ length old
           → (run_with old (report_of (way_over P n) D) ≡ path_report P ++ drop (length (path_report P)) old)
-          × (told_in (length old) (accepts_of (way_over P n) D) (report_of (way_over P n) D) ≡ told (path_accepts P) (length (path_report P)))
+          × (told_in (length old) (accepts_of (way_over P n) D) (report_of (way_over P n) D) ≡ Some (told (path_accepts P) (length (path_report P))))
       unfolding run_with told_in
       written_is_the_paths old room =
           let fits = le-ltb (length old) most_path room in

@@ -6,8 +6,8 @@ use Rattle.pnet_path.specs.Ways.{answer_of}
 use Rattle.pnet_path.specs.declared.Way.{Way}
 use Rattle.text.specs.Text.{item}
 use Rattle.report_path_lines.specs.Lines.{sheet_refusal, path_refusal}
-use Rattle.report_path.specs.declared.Reported.{Reported}
-use Rattle.report_path.specs.declared.Reported.TheVariants as answer
+use Rattle.report_phrases.specs.declared.Reported.{Reported}
+use Rattle.report_phrases.specs.Reports.{told}
 use Rattle.report_path.specs.Told.{most_path, path_text}
 use Rattle.report_path.specs.Report.{is_within}
 use Rattle.std.specs.declared.result.Result.TheVariants.{Ok, Err}
@@ -47,13 +47,9 @@ accepts_of w deadline = is_within (answer_of w deadline.0)
 
 -- ---- The lent run
 
--- a report of n bytes, of a path that is accepted or refused
-abbrev pub told : Bool → ℕ → Reported
-told accepted n = cond accepted (answer.Accepted n) (answer.Refused n)
-
--- the answer for a lent run of so many bytes: whether the path is accepted, and how many the report takes; or no room for every report
-unfoldable pub told_in : ℕ → Bool → List ℕ → Reported
-told_in room accepted text = cond (ltb room most_path) answer.NoRoom (told accepted (length text))
+-- the answer for a lent run of so many bytes: whether the path is accepted, and how many the report takes; or none, without room for every report
+unfoldable pub told_in : ℕ → Bool → List ℕ → Option Reported
+told_in room accepted text = cond (ltb room most_path) None (Some (told accepted (length text)))
 
 -- the lent run then: the report, and behind it what stood there
 unfoldable pub run_with : List ℕ → List ℕ → List ℕ

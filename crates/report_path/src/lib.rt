@@ -9,20 +9,12 @@ ghost use Rattle.report_path.specs.Kept.{count_at, lines_of, report_of, accepts_
 
 use pnet_path::Way;
 use report_path_lines::{put_gateway, put_path_refusal, put_segment, put_sheet_refusal, put_total};
+use report_phrases::Reported;
 use text::put_word;
 use units::BitPeriods;
 
 // No report of a path is longer.
 pub const MOST_TEXT: usize = 987;
-
-// What writing a report answers: how many bytes it takes, for a path that is accepted and for one that is refused; or that the lent run
-// is shorter than some report may be. Kept as an enum: the report of a refused path is a report, and no error.
-#[derive(Clone, Copy)]
-pub enum Reported {
-    Accepted(usize),
-    Refused(usize),
-    NoRoom,
-}
 
 // Room for every report of a path.
 pub fn text_buffer() -> [u8; MOST_TEXT]
@@ -66,23 +58,24 @@ fn put_path(out: &mut [u8], way: Way, total: BitPeriods, deadline: BitPeriods) -
     put_total(out, last, total, deadline)
 }
 
-// Writes the report of the path that was handed over, with its deadline, at the start of the lent run; later bytes keep what they had.
-pub fn report(out: &mut [u8], way: Way, deadline: BitPeriods) -> Reported
+// Writes the report of the path that was handed over, with its deadline, at the start of the lent run; later bytes keep what they had. None where
+// the lent run is shorter than some report may be.
+pub fn report(out: &mut [u8], way: Way, deadline: BitPeriods) -> Option<Reported>
     ensures value { result ≡ told_in (length out.old) (accepts_of way deadline) (report_of way deadline) }
     ensures out_after { out.new ≡ run_with out.old (report_of way deadline) }
 {
     if out.len() < MOST_TEXT {
-        return Reported::NoRoom;
+        return None;
     }
     if let Some(refusal) = way.refused {
         let segment = way.segments as u64;
         let place = refusal.place as u64;
-        return Reported::Refused(put_sheet_refusal(out, segment, refusal.no, place));
+        return Some(Reported::Refused(put_sheet_refusal(out, segment, refusal.no, place)));
     }
     match pnet_path::answer(way, deadline) {
-        Ok(total) => Reported::Accepted(put_path(out, way, total, deadline)),
+        Ok(total) => Some(Reported::Accepted(put_path(out, way, total, deadline))),
         Err(refusal) => {
-            Reported::Refused(put_path_refusal(out, refusal.no, refusal.place as u64))
+            Some(Reported::Refused(put_path_refusal(out, refusal.no, refusal.place as u64)))
         }
     }
 }

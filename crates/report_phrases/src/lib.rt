@@ -9,6 +9,13 @@ ghost use Rattle.report_phrases.specs.Phrases.{in_bp, in_us, in_ns, in_both, two
 use text::{put_counted, put_places, put_word};
 use units::{BitPeriods, Micros, Nanos};
 
+// How many bytes a report has, of what is accepted and of what is refused. An enum and no Result: a refusal's report is a report, and no error.
+#[derive(Clone, Copy)]
+pub enum Reported {
+    Accepted(usize),
+    Refused(usize),
+}
+
 pub fn put_bp(out: &mut [u8], at: usize, before: &[u8], b: BitPeriods) -> usize
     ensures { Wrote out.old at (before.now ++ in_bp b) out.new result }
 {

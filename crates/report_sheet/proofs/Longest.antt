@@ -25,9 +25,12 @@ use Rattle.profibus_plan.specs.declared.answer.Plan.{Plan}
 use Rattle.worldfip_rules.specs.Traffic.{microcycle, slots, rows, row_of, variable_of, identifier_at}
 use Rattle.worldfip_figures.specs.Declares.{variable_at, traffic_of}
 use Rattle.worldfip_plan.specs.Answer.{plan_checks}
-use Rattle.report_sheet.specs.declared.Reported.{Reported}
-use Rattle.report_sheet.specs.declared.Reported.TheVariants as answer
-use Rattle.report_sheet.specs.Whole.{most_text, segment_report, ring_report, table_of, table_by, table_report, first_bus, report_of, accepts, told, answer_of}
+use Rattle.report_phrases.specs.declared.Reported.{Reported}
+use Rattle.report_phrases.specs.declared.Reported.TheVariants as reported
+use Rattle.report_phrases.specs.Reports.{told}
+use Rattle.std.specs.declared.option.Option.{Option}
+use Rattle.std.specs.declared.option.Option.TheVariants.{Some, None}
+use Rattle.report_sheet.specs.Whole.{most_text, segment_report, ring_report, table_of, table_by, table_report, first_bus, report_of, accepts, answer_of}
 use Rattle.units.specs.Units.{us}
 use Rattle.report_sheet.proofs.Lengths.{Small, masters_most, ring_most, table_most, refusal_most}
 use Rattle.report_sheet.proofs.Segments.{masters_few}
@@ -101,17 +104,17 @@ no_report_longer s = split (eqb (first_bus s) 3) (eqb (first_bus s) 5)
     split false false = segment_longest s (planned s 32 32 32) refl
 
 -- how many bytes an answer says
-abbrev pub bytes_of : Reported → ℕ
-bytes_of (answer.Accepted n) = n
-bytes_of (answer.Refused n) = n
-bytes_of answer.NoRoom = 0
+abbrev pub bytes_of : Option Reported → ℕ
+bytes_of (Some (reported.Accepted n)) = n
+bytes_of (Some (reported.Refused n)) = n
+bytes_of None = 0
 
 -- what was written stands within the lent run
-pub written_within : (s : List ℕ) (room : ℕ) (r : Reported) → r ≡ answer_of s room → bytes_of r ≤ room
+pub written_within : (s : List ℕ) (room : ℕ) (r : Option Reported) → r ≡ answer_of s room → bytes_of r ≤ room
 unfolding answer_of
 written_within s room r e = rw e (split (ltb room most_text) refl (accepts s))
   where
-    split : (b : Bool) → ltb room most_text ≡ b → (a : Bool) → bytes_of (cond b answer.NoRoom (told a (length (report_of s)))) ≤ room
+    split : (b : Bool) → ltb room most_text ≡ b → (a : Bool) → bytes_of (cond b None (Some (told a (length (report_of s))))) ≤ room
     split true q a = omega arith
     split false q true = omega (arith, no_report_longer s, ltb-false room most_text q)
     split false q false = omega (arith, no_report_longer s, ltb-false room most_text q)

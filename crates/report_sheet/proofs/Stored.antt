@@ -6,9 +6,9 @@ use Prim.Native.Nat.{ℕ, ◌≤◌}
 use lib.ListN.{length, drop}
 use Rattle.text.specs.Text.{Wrote}
 use Rattle.text.proofs.Writing.{wrote_front}
-use Rattle.report_sheet.specs.declared.Reported.{Reported}
+use Rattle.report_phrases.specs.declared.Reported.{Reported}
+use Rattle.report_phrases.specs.Reports.{told}
 use Rattle.report_sheet.specs.Stored.{Reports}
-use Rattle.report_sheet.specs.Whole.{told}
 
 -- a text that is the sheet's report, and an answer that says what its planner does
 pub reports : {old u t new : List ℕ} {n : ℕ} {accepted : Bool} (a : Bool) → a ≡ accepted → u ≡ t → Wrote old 0 u new n → Reports old t accepted new (told a n)

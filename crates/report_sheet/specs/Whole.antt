@@ -18,14 +18,16 @@ use Rattle.worldfip_rules.specs.Traffic.{Traffic, microcycle, slots, rows, row_o
 use Rattle.worldfip_figures.specs.Declares.{traffic_of}
 use Rattle.worldfip_plan.specs.Answer.{plan_checks, plan_of as table_plan}
 use Rattle.worldfip_plan.specs.declared.answer.Plan.{Plan as TablePlan}
-use Rattle.report_sheet.specs.declared.Reported.{Reported}
-use Rattle.report_sheet.specs.declared.Reported.TheVariants as answer
+use Rattle.report_phrases.specs.declared.Reported.{Reported}
+use Rattle.report_phrases.specs.Reports.{told}
 use Rattle.text.specs.Text.{word, ◌·◌, texts}
 use Rattle.report_phrases.specs.Phrases.{refusal_text}
 use Rattle.report_lines.specs.Lines.{master_line, ring_text, row_line, table_head}
 use Rattle.std.specs.declared.result.Result.TheVariants.{Ok, Err}
 use Rattle.common.specs.Checks.{refusal}
 use Rattle.std.specs.declared.result.Result.{Result}
+use Rattle.std.specs.declared.option.Option.{Option}
+use Rattle.std.specs.declared.option.Option.TheVariants.{Some, None}
 use Rattle.common.specs.declared.Refusal.{Refusal}
 use Rattle.sheet_reader.specs.declared.Found.{Found}
 use Rattle.sheet_reader.specs.declared.Found.TheVariants as found
@@ -115,13 +117,9 @@ accepts s =
     cond (eqb (first_bus s) profibus) (ring_accepts (ring_plan (reading s)))
     (cond (eqb (first_bus s) worldfip) (table_accepts (table_plan (reading s) 4096)) (segment_accepts (segment_plan (planned s 32 32 32))))
 
--- a report of n bytes, of a sheet that is accepted or refused
-abbrev pub told : Bool → ℕ → Reported
-told accepted n = cond accepted (answer.Accepted n) (answer.Refused n)
-
--- the answer for a lent run of so many bytes: whether the sheet is accepted, and how many the report takes; or no room for every report
-unfoldable pub answer_of : List ℕ → ℕ → Reported
-answer_of s room = cond (ltb room most_text) answer.NoRoom (told (accepts s) (length (report_of s)))
+-- the answer for a lent run of so many bytes: whether the sheet is accepted, and how many the report takes; or none, without room for every report
+unfoldable pub answer_of : List ℕ → ℕ → Option Reported
+answer_of s room = cond (ltb room most_text) None (Some (told (accepts s) (length (report_of s))))
 
 -- the lent run then: the report, and behind it what stood there
 unfoldable pub run_of : List ℕ → List ℕ → List ℕ

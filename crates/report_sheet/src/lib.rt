@@ -14,21 +14,12 @@ ghost use Rattle.report_sheet.specs.Whole.{most_text, segment_report, segment_ac
 
 use common::Refusal;
 use report_lines::{put_head, put_master, put_ring, put_row};
-use report_phrases::put_refusal;
+use report_phrases::{Reported, put_refusal};
 use text::put_word;
 use units::{BitPeriods, Micros};
 
 // No report is longer.
 pub const MOST_TEXT: usize = 1_613_930;
-
-// What writing a report answers: how many bytes it takes, for a sheet that is accepted and for one that is refused; or that the lent
-// run is shorter than some report may be. Kept as an enum: the report of a refused sheet is a report, and no error.
-#[derive(Clone, Copy)]
-pub enum Reported {
-    Accepted(usize),
-    Refused(usize),
-    NoRoom,
-}
 
 // Room for every report.
 pub fn text_buffer() -> [u8; MOST_TEXT]
@@ -172,13 +163,14 @@ fn first_bus(s: &[u8]) -> u8
     }
 }
 
-// Writes the report of a sheet at the start of the lent run; later bytes keep what they had.
-pub fn report(s: &[u8], out: &mut [u8]) -> Reported
+// Writes the report of a sheet at the start of the lent run; later bytes keep what they had. None where the lent run is shorter than some report
+// may be.
+pub fn report(s: &[u8], out: &mut [u8]) -> Option<Reported>
     ensures value { result ≡ answer_of s.now (length out.old) }
     ensures out_after { out.new ≡ run_of s.now out.old }
 {
     if out.len() < MOST_TEXT {
-        return Reported::NoRoom;
+        return None;
     }
-    put_report(s, first_bus(s), out)
+    Some(put_report(s, first_bus(s), out))
 }

@@ -11,10 +11,11 @@ use Rattle.text.proofs.Writing.{wrote_front}
 use Rattle.report_phrases.specs.Phrases.{refused_text, refusal_text}
 use Rattle.report_phrases.proofs.Lengths.{refused_most}
 use Rattle.report_urgent_lines.specs.Lines.{most_urgent}
-use Rattle.report_urgent.specs.declared.Reported.{Reported}
-use Rattle.report_urgent.specs.declared.Reported.TheVariants as reported
+use Rattle.report_phrases.specs.declared.Reported.{Reported}
+use Rattle.report_phrases.specs.declared.Reported.TheVariants as reported
+use Rattle.report_phrases.specs.Reports.{told}
 use Rattle.report_urgent.specs.Whole.{urgent_report, urgent_accepts}
-use Rattle.report_urgent.specs.Stored.{told, Tells}
+use Rattle.report_urgent.specs.Stored.{Tells}
 
 pub stored : {t old new : List ℕ} {n : ℕ} → Wrote old 0 t new n → length t ≤ most_urgent → length old ≡ most_urgent → (n ≡ length t) × (new ≡ over t old)
 stored w few long = wrote_front w (omega (arith, few, long))

@@ -3,20 +3,14 @@
 
 ghost use Rattle.std.specs.Prelude.{◌≡◌, length};
 ghost use Rattle.report_phrases.specs.Phrases.{refusal_text};
+ghost use Rattle.report_phrases.specs.Reports.{told};
 ghost use Rattle.text.specs.Text.{over};
-ghost use Rattle.report_urgent.specs.Stored.{told};
 ghost use Rattle.report_urgent.specs.Whole.{urgent_report, urgent_accepts};
 
 use common::Refusal;
+use report_phrases::Reported;
 use report_urgent_lines::MOST_TEXT;
 use sheet_read::MOST;
-
-// How many bytes a report has, of a sheet that is accepted and of one that is refused. Kept as an enum: the second is a report too, and no error.
-#[derive(Clone, Copy)]
-pub enum Reported {
-    Accepted(usize),
-    Refused(usize),
-}
 
 // Of a refused sheet, its refusal is the whole report.
 fn refuse(out: &mut [u8; MOST_TEXT], refusal: Refusal) -> usize

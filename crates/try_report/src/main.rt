@@ -2,7 +2,7 @@
 // many records a reader walks over.
 #![tactic(auto)]
 
-use report_sheet::Reported;
+use report_phrases::Reported;
 use text::put_counted;
 
 fn say(rt: &HostRuntime, text: &[u8]) {
@@ -14,8 +14,10 @@ fn show(rt: &HostRuntime, name: &[u8], s: &[u8]) {
     say(rt, b"\n");
     let mut text = report_sheet::text_buffer();
     match report_sheet::report(s, &mut text) {
-        Reported::Accepted(n) | Reported::Refused(n) => say(rt, &text[..n]),
-        Reported::NoRoom => say(rt, b"no room\n"),
+        Some(reported) => match reported {
+            Reported::Accepted(n) | Reported::Refused(n) => say(rt, &text[..n]),
+        },
+        None => say(rt, b"no room\n"),
     }
 }
 

@@ -1,6 +1,8 @@
 -- `report_sheet::report` writes the whole report of any bytes, or nothing where a report might not fit.
+use mathlib.Core.Path.{ap}
 use native.Mathlib.Omega.{arith}
 use borrow.Author.Tests.{lt-ltb, le-ltb}
+use Rattle.std.specs.declared.option.Option.TheVariants.{Some}
 use Rattle.report_sheet.specs.Whole.{most_text, answer_of, run_of}
 use Rattle.report_sheet.proofs.Longest.{no_report_longer}
 use Rattle.report_sheet.proofs.Stored.{reports_front}
@@ -20,4 +22,4 @@ returns c =
     let s = c.args.s.now in
     let room = c.if-out-lt-MOST_TEXT.false in
     let w = reports_front c.put_report.ensures (omega (arith, no_report_longer s, room)) in
-    record { value = simp (le-ltb _ most_text room) w.0; out_after = simp (le-ltb _ most_text room) w.1 }
+    record { value = simp (le-ltb _ most_text room) (ap Some w.0); out_after = simp (le-ltb _ most_text room) w.1 }
