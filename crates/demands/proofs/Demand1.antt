@@ -27,7 +27,7 @@ use Rattle.capture_log.specs.Log.{Before}
 use Rattle.capture_tally.specs.Pieces.{answer_to, run_by}
 use Rattle.capture_compare.specs.Compared.{compared}
 use Rattle.pnet_bounds.specs.Bounded.{stream_run}
-use Rattle.std.specs.declared.result.Result.TheVariants.{Ok, Err}
+use Rattle.std.specs.declared.result.Result.TheVariants.{Err}
 use Rattle.common.specs.Checks.{refusal}
 
 -- ---- 'Every byte sequence offered as a sheet gets an answer.'

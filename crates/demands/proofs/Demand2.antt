@@ -37,7 +37,7 @@ use Rattle.worldfip_plan.specs.Answer as table
 use Rattle.worldfip_plan.specs.Refusals as fip
 use Rattle.worldfip_plan.specs.declared.answer.Plan as tablePlan
 use Rattle.worldfip_plan.proofs.Refusals as worldfip
-use Rattle.std.specs.declared.result.Result.TheVariants.{Ok, Err}
+use Rattle.std.specs.declared.result.Result.TheVariants.{Err}
 use Rattle.common.specs.Checks.{refusal}
 use Rattle.std.specs.declared.result.Result.{Result}
 use Rattle.common.specs.declared.Refusal.{Refusal}

@@ -19,7 +19,7 @@ use Rattle.profibus_plan.specs.Planned.{plan_of, Answers}
 use Rattle.profibus_plan.specs.Planned.Answers.{another_bus, fails, limited}
 use Rattle.profibus_plan.proofs.Answers.{plan_answers, plan_limited}
 use Rattle.demands.proofs.Rewritten.{m_is_every_masters, the_sum_is_n_times_M}
-use Rattle.std.specs.declared.result.Result.TheVariants.{Ok, Err}
+use Rattle.std.specs.declared.result.Result.TheVariants.{Ok}
 use Rattle.std.specs.declared.result.Result.{Result}
 use Rattle.common.specs.declared.Refusal.{Refusal}
 

@@ -31,7 +31,7 @@ use Rattle.pnet_path.specs.Ways.{answer_of, way_over}
 use Rattle.pnet_path.proofs.Whole.{path_handed_over}
 use Rattle.demands.specs.Relayed.{Sent, Forwarded, sent, arrived, through, Asked, Awaited, asked, no_further, sent_on, segment_from, segment_at, Exchange, OnItsWay}
 use Rattle.demands.proofs.Demand3.{accepted_on_bus}
-use Rattle.std.specs.declared.result.Result.TheVariants.{Ok, Err}
+use Rattle.std.specs.declared.result.Result.TheVariants.{Ok}
 
 -- ---- Any segments S with their senders k, gateways with their forwarding times F, and a figure R for each segment
 

@@ -17,7 +17,6 @@ use Rattle.report_beside.specs.declared.Reported.{Reported}
 use Rattle.report_beside.specs.declared.Reported.TheVariants as reported
 use Rattle.report_beside.specs.Whole.{Tally}
 use Rattle.std.specs.declared.result.Result.TheVariants.{Ok, Err}
-use Rattle.common.specs.Checks.{refusal}
 use Rattle.std.specs.declared.result.Result.{Result}
 use Rattle.common.specs.declared.Refusal.{Refusal}
 

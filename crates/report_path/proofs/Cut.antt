@@ -16,7 +16,6 @@ use Rattle.pnet_path.specs.Path.{Path, gateways, sheet_at, bound_from, bound_at,
 use Rattle.report_path.specs.Told.{path_text}
 use Rattle.report_path.specs.Report.{path_lines, answer_text, sheet_or, report_from, path_report, is_within, path_accepts}
 use Rattle.std.specs.declared.result.Result.TheVariants.{Ok, Err}
-use Rattle.common.specs.Checks.{refusal}
 use Rattle.std.specs.declared.result.Result.{Result}
 use Rattle.common.specs.declared.Refusal.{Refusal}
 

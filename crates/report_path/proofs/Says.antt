@@ -15,7 +15,6 @@ use Rattle.pnet_path.proofs.Refusals.{refused_exactly, accepted_exactly}
 use Rattle.report_path_lines.specs.Lines.{sheet_refusal, path_refusal}
 use Rattle.report_path.specs.Report.{path_lines, answer_text, sheet_or, report_from, path_report, is_within, path_accepts}
 use Rattle.std.specs.declared.result.Result.TheVariants.{Ok, Err}
-use Rattle.common.specs.Checks.{refusal}
 use Rattle.std.specs.declared.result.Result.{Result}
 use Rattle.common.specs.declared.Refusal.{Refusal}
 

@@ -24,7 +24,6 @@ use Rattle.report_path.specs.Kept.{count_at, lines_of, answer_text_of, report_of
 use Rattle.report_path.proofs.Kept.{refused_report, answered_report}
 use Rattle.report_path.proofs.Says.{says_the_first_refused_sheet, says_the_answer}
 use Rattle.std.specs.declared.result.Result.TheVariants.{Ok, Err}
-use Rattle.common.specs.Checks.{refusal}
 use Rattle.std.specs.declared.result.Result.{Result}
 use Rattle.common.specs.declared.Refusal.{Refusal}
 

@@ -11,7 +11,6 @@ use Rattle.report_phrases.specs.Reports.{told}
 use Rattle.report_path.specs.Told.{most_path, path_text}
 use Rattle.report_path.specs.Report.{is_within}
 use Rattle.std.specs.declared.result.Result.TheVariants.{Ok, Err}
-use Rattle.common.specs.Checks.{refusal}
 use Rattle.std.specs.declared.result.Result.{Result}
 use Rattle.common.specs.declared.Refusal.{Refusal}
 use Rattle.sheet_read.specs.Told.{accepted}

@@ -9,7 +9,6 @@ use Rattle.pnet_path.specs.Path.{Path, gateways, sheet_at, bound_at, sender_at, 
 use Rattle.report_path_lines.specs.Lines.{sheet_refusal, path_refusal}
 use Rattle.report_path.specs.Told.{path_text}
 use Rattle.std.specs.declared.result.Result.TheVariants.{Ok, Err}
-use Rattle.common.specs.Checks.{refusal}
 use Rattle.std.specs.declared.result.Result.{Result}
 use Rattle.common.specs.declared.Refusal.{Refusal}
 

@@ -23,7 +23,6 @@ use Rattle.report_lines.specs.Lines.{ring_text, table_head}
 use Rattle.report_sheet.specs.Whole.{segment_report, segment_accepts, ring_report, ring_accepts, table_text, table_of, table_by, table_report, table_accepts, first_bus, report_of, accepts}
 use Rattle.report_sheet.proofs.Alike.{own_bus, picks}
 use Rattle.std.specs.declared.result.Result.TheVariants.{Ok, Err}
-use Rattle.common.specs.Checks.{refusal}
 use Rattle.std.specs.declared.result.Result.{Result}
 use Rattle.common.specs.declared.Refusal.{Refusal}
 

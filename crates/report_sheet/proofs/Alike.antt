@@ -33,7 +33,7 @@ use Rattle.worldfip_figures.specs.Declares.{traffic_of}
 use Rattle.worldfip_plan.specs.Answer as fip
 use Rattle.report_phrases.specs.Phrases.{refusal_text}
 use Rattle.report_sheet.specs.Whole.{segment_report, segment_accepts, ring_report, ring_accepts, table_report, table_accepts, first_bus, report_of, accepts, answer_of}
-use Rattle.std.specs.declared.result.Result.TheVariants.{Ok, Err}
+use Rattle.std.specs.declared.result.Result.TheVariants.{Err}
 use Rattle.common.specs.Checks.{refusal}
 use Rattle.common.proofs.Answered.{same_refusal}
 

@@ -1,5 +1,5 @@
 -- No report is longer than `most_text`, whatever the bytes are: so one test of room serves them all. Assumes nothing.
-use mathlib.Core.Path.{◌≡◌, refl, sym, ap, ◌∙◌}
+use mathlib.Core.Path.{◌≡◌, refl, sym, ◌∙◌}
 use mathlib.Core.List.{List}
 use mathlib.Core.Bool.{Bool, true, false, cond}
 use Prim.Native.Nat.{ℕ, ◌+◌, ◌-◌, ◌^◌, ◌≤◌, ◌<◌}
@@ -36,7 +36,6 @@ use Rattle.report_sheet.proofs.Lengths.{Small, masters_most, ring_most, table_mo
 use Rattle.report_sheet.proofs.Segments.{masters_few}
 use Rattle.report_sheet.proofs.Tables.{table_passed}
 use Rattle.std.specs.declared.result.Result.TheVariants.{Ok, Err}
-use Rattle.common.specs.Checks.{refusal}
 use Rattle.std.specs.declared.result.Result.{Result}
 use Rattle.common.specs.declared.Refusal.{Refusal}
 

@@ -24,7 +24,6 @@ use Rattle.text.specs.Text.{word, ◌·◌, texts}
 use Rattle.report_phrases.specs.Phrases.{refusal_text}
 use Rattle.report_lines.specs.Lines.{master_line, ring_text, row_line, table_head}
 use Rattle.std.specs.declared.result.Result.TheVariants.{Ok, Err}
-use Rattle.common.specs.Checks.{refusal}
 use Rattle.std.specs.declared.result.Result.{Result}
 use Rattle.std.specs.declared.option.Option.{Option}
 use Rattle.std.specs.declared.option.Option.TheVariants.{Some, None}

@@ -1,5 +1,5 @@
 -- Page 02, 'Ask 11': a report speaks of first-come queues exactly where these refuse with 8 the sheet that is accepted here, and it names the stream that they name. Assumes nothing.
-use mathlib.Core.Path.{◌≡◌, refl, sym}
+use mathlib.Core.Path.{◌≡◌, refl}
 use mathlib.Core.List.{List, []}
 use Prim.Native.Nat.{ℕ, ◌-◌, ◌≤◌, ◌<◌}
 use borrow.Author.Tests.{le-leb, lt-leb}

@@ -6,7 +6,7 @@ use mathlib.Core.Bool.{Bool, true, false, cond}
 use native.Mathlib.Omega.{arith}
 use lib.Dec.{leb}
 use lib.ListN.{length}
-use Rattle.common.specs.Sums.{when, first_of}
+use Rattle.common.specs.Sums.{when}
 use Rattle.common.proofs.Firsts.{first_is}
 use Rattle.common.proofs.Runs.{filled_at}
 use Rattle.text.specs.Text.{word, item, texts}

@@ -2,12 +2,11 @@
 use mathlib.Core.Path.{◌≡◌, refl}
 use mathlib.Core.List.{[], ◌∷◌}
 use Prim.Native.Nat.{◌+◌}
-use lib.ListN.{length}
 use Rattle.common.specs.Sums.{up, first_of}
 use Rattle.units.specs.Units.{bp, nanos_up}
 use Rattle.text.specs.Text.{word, ◌·◌, places, holds, width_of, decimal, item, texts}
 use Rattle.report_phrases.specs.Phrases.{in_bp, in_ns, in_both, two_counts, name_of, whose_text, place_text, refused_text}
-use Rattle.report_urgent_lines.specs.Lines.{most_urgent, figure_text, deadline_text, stream_line, stream_at, late_line, late_text, urgent_text}
+use Rattle.report_urgent_lines.specs.Lines.{figure_text, deadline_text, stream_line, stream_at, late_line, late_text, urgent_text}
 
 -- three streams of one master, V being 250: first-come queues refuse the first of them
 refused_there : urgent_text (item (1 ∷ 1 ∷ 1 ∷ [])) (item (1 ∷ 2 ∷ 3 ∷ [])) (item (500 ∷ 1000 ∷ 1000 ∷ [])) (item (1 ∷ 2 ∷ 2 ∷ [])) (item (500 ∷ 100000 ∷ 100000 ∷ [])) 1 (bp 750) 3

@@ -1,6 +1,6 @@
 -- `try_report::show` writes as many bytes as the report has, which stand within the run. Assumes nothing.
 use mathlib.Core.Logic.{⊎_elim}
-use Rattle.std.proofs.Common.{ℕ, List, ◌≡◌, ◌≤◌, ◌⊎◌, length, arith, sym, ap, ◌∙◌}
+use Rattle.std.proofs.Common.{ℕ, List, ◌≡◌, ◌≤◌, ◌⊎◌, arith, sym, ap, ◌∙◌}
 use Rattle.std.proofs.lemmas.List.{length-take-le}
 use Rattle.report_sheet.proofs.Longest.{written_within}
 use Rattle.report_sheet.specs.Whole.{answer_of}
