@@ -7,7 +7,6 @@ ghost use Rattle.std.specs.Prelude.{◌≡◌, List, Bool, ℕ, ◌+◌, ◌^◌
 ghost use Rattle.pnet_bounds.specs.Bounded.{master_of, spacing_of, jitter_of, stream_run};
 ghost use Rattle.pnet_plan.specs.Planned.{plan_of};
 ghost use Rattle.capture_tally.specs.Pieces.{answer_to};
-ghost use Rattle.report_phrases.specs.Phrases.{refusal_text};
 ghost use Rattle.report_capture.specs.Shown.{capture_refusal};
 ghost use Rattle.report_beside.specs.Whole.{tally, none, seen_after, waiting, after, laid, limit_of, text_of, clean_of};
 ghost use Rattle.text.specs.Text.{over};
@@ -18,6 +17,7 @@ use capture_ages::Watch;
 use common::Refusal;
 use pnet_plan::Plan;
 use report_capture::MOST_TEXT;
+use report_phrases::put_refusal;
 use sheet_read::MOST;
 
 // A piece that begins at this byte of a capture or behind it is not heard, 2^63: its places could not be counted.
@@ -54,14 +54,6 @@ pub enum Heard {
 pub enum Reported {
     Clean(usize),
     Faulty(usize),
-}
-
-// Of a refused sheet, its refusal is the whole report.
-fn refuse_sheet(out: &mut [u8; MOST_TEXT], refusal: Refusal) -> usize
-    ensures { let text = refusal_text refusal.no refusal.place in
-        (result ≡ length text) × (out.new ≡ over text out.old) }
-{
-    report_phrases::put_refusal(out, 0, refusal.no, refusal.place as u64)
 }
 
 // Of a refused capture, its refusal is the whole report; the place is one of the piece, with so many bytes of the capture before it.
@@ -147,7 +139,8 @@ pub fn begin(
             bytes: 0,
             watch: capture_ages::start(),
         }),
-        Err(refusal) => Begun::Refused(refuse_sheet(out, refusal)),
+        // Of a refused sheet, its refusal is the whole report.
+        Err(refusal) => Begun::Refused(put_refusal(out, 0, refusal.no, refusal.place as u64)),
     }
 }
 

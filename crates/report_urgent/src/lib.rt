@@ -2,25 +2,15 @@
 #![tactic(auto)]
 
 ghost use Rattle.std.specs.Prelude.{◌≡◌, length};
-ghost use Rattle.report_phrases.specs.Phrases.{refusal_text};
 ghost use Rattle.report_phrases.specs.Reports.{told};
 ghost use Rattle.text.specs.Text.{over};
 ghost use Rattle.report_urgent.specs.Whole.{urgent_report, urgent_accepts};
 
-use common::Refusal;
-use report_phrases::Reported;
+use report_phrases::{Reported, put_refusal};
 use report_urgent_lines::MOST_TEXT;
 use sheet_read::MOST;
 
-// Of a refused sheet, its refusal is the whole report.
-fn refuse(out: &mut [u8; MOST_TEXT], refusal: Refusal) -> usize
-    ensures { let text = refusal_text refusal.no refusal.place in
-        (result ≡ length text) × (out.new ≡ over text out.old) }
-{
-    report_phrases::put_refusal(out, 0, refusal.no, refusal.place as u64)
-}
-
-// Writes the report at the start of the lent run.
+// Writes the report at the start of the lent run; of a refused sheet, its refusal is the whole report.
 pub fn report(s: &[u8], out: &mut [u8; MOST_TEXT]) -> Reported
     ensures { let text = urgent_report s.now in
         (result ≡ told (urgent_accepts s.now) (length text)) × (out.new ≡ over text out.old) }
@@ -49,6 +39,6 @@ pub fn report(s: &[u8], out: &mut [u8; MOST_TEXT]) -> Reported
             listed.late,
             listed.bound,
         )),
-        Err(refusal) => Reported::Refused(refuse(out, refusal)),
+        Err(refusal) => Reported::Refused(put_refusal(out, 0, refusal.no, refusal.place as u64)),
     }
 }

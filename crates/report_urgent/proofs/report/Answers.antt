@@ -1,7 +1,7 @@
 -- `report_urgent::report` stores the whole report, and answers whether the sheet is accepted.
 use mathlib.Core.Path.{sym, ◌∙◌}
 use native.Mathlib.Omega.{arith}
-use Rattle.report_urgent.proofs.Stored.{stored, accepted_stored, refused_stored}
+use Rattle.report_urgent.proofs.Stored.{stored, refusal_fits, accepted_stored, refused_stored}
 use Rattle.report_urgent.proofs.Told.{accepted_told, refused_told}
 use Rattle.report_urgent.proofs.report.Goals as goal
 
@@ -18,4 +18,5 @@ pub returns-in-Err : goal.returns-in-Err
 returns-in-Err c =
     let a = c.args in
     let l = c.listed.ensures in
-    refused_stored a.s.now a.out.now (refused_told a.s.now _ _ (sym l.0 ∙ c.in-Err.is)) c.refuse.ensures
+    refused_stored a.s.now a.out.now (refused_told a.s.now _ _ (sym l.0 ∙ c.in-Err.is))
+    (stored c.put_refusal.ensures (refusal_fits _ _) (omega arith))
