@@ -1,7 +1,7 @@
 -- 3, 10, 11, 13 and 12 in this order, each exactly if its condition holds and that of none before it; and what is answered then.
 -- Assumes nothing.
 use mathlib.Core.Path.{◌≡◌, refl, sym, ap, ◌∙◌}
-use mathlib.Core.Bool.{not, true, false}
+use mathlib.Core.Bool.{not, false}
 use mathlib.Core.List.{List, [], ◌∷◌, ◌++◌}
 use Prim.Native.Nat.{ℕ, ◌≤◌, ◌<◌}
 use lib.Dec.{eqb}
@@ -15,7 +15,7 @@ use Rattle.common.proofs.Checks.Clear.{none, and}
 use Rattle.sheet_record.specs.Kinds.{worldfip}
 use Rattle.sheet_rules.specs.Sheets.{Sheet, bus_in}
 use Rattle.sheet_rules.specs.Whole.{Outcome}
-use Rattle.sheet_rules.specs.Whole.Outcome.{Read, Not}
+use Rattle.sheet_rules.specs.Whole.Outcome.{Read}
 use Rattle.units.specs.declared.Micros.{Micros}
 use Rattle.worldfip_rules.specs.Traffic.{slots, rows, miss_of, missing_of}
 use Rattle.worldfip_figures.specs.Declares.{traffic_of}

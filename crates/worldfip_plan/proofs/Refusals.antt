@@ -7,7 +7,6 @@ use native.Mathlib.Nat.{div-eq_of_lt, div-lt_iff_lt-mul}
 use native.Mathlib.Omega.{arith}
 use native.Mathlib.Decide.{ℕ_discrete, dec_lt}
 use Rattle.common.specs.Checks.{Verdict, verdict}
-use Rattle.common.specs.Checks.Verdict.{Refused}
 use Rattle.sheet_record.specs.Kinds.{worldfip}
 use Rattle.sheet_rules.specs.Sheets.{Sheet, bus_in}
 use Rattle.sheet_rules.specs.Whole.Outcome.{Read}

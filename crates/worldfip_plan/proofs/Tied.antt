@@ -4,10 +4,8 @@ use mathlib.Core.List.{List}
 use Prim.Native.Nat.{ℕ, ◌+◌, ◌-◌, ◌^◌, ◌≤◌, ◌<◌}
 use native.Mathlib.Omega.{arith}
 use native.Mathlib.Decide.{dec_lt, dec_le, ℕ_discrete}
-use lib.Dec.{ltb}
 use lib.ListN.{length, get_or, replicate, length-replicate, get_or-eq_default}
 use borrow.Author.Tests.{lt-ltb, le-ltb, le-leb, lt-leb, eq-eqb, ne_eqb}
-use Rattle.common.specs.Sums.{when}
 use Rattle.common.specs.Runs.{tab, filled}
 use Rattle.common.proofs.Runs.{length_tab, get_d_tab, zero_at}
 use Rattle.worldfip_sets.specs.Sets.{lowest}

@@ -12,8 +12,8 @@ use Rattle.worldfip_rules.specs.Traffic.{Traffic, microcycle, slots, rows, row_o
 use Rattle.worldfip_figures.specs.Declares.{traffic_of}
 use Rattle.worldfip_figures.specs.Figures.{sheet_checks}
 use Rattle.worldfip_plan.specs.declared.answer.Plan.{Plan}
-use Rattle.std.specs.declared.result.Result.TheVariants.{Ok, Err}
-use Rattle.common.specs.Checks.{refusal}
+use Rattle.std.specs.declared.result.Result.TheVariants.{Err}
+use Rattle.common.specs.Checks.{refusal, unless}
 use Rattle.std.specs.declared.result.Result.{Result}
 use Rattle.common.specs.declared.Refusal.{Refusal}
 
@@ -33,8 +33,7 @@ plan_checks S room = sheet_checks S ++ row_checks (traffic_of S) room
 -- ---- The answer
 
 abbrev pub plan_by : Verdict → Traffic → Result Plan Refusal
-plan_by Passed T = Ok (record { microcycle = (us (microcycle T)); slots = (slots T); rows = (rows T) })
-plan_by (Refused n p) T = Err (refusal n p)
+plan_by v T = unless v (record { microcycle = us (microcycle T); slots = slots T; rows = rows T })
 
 unfoldable pub plan_of : Outcome → ℕ → Result Plan Refusal
 unfolding verdict plan_checks traffic_of microcycle slots rows

@@ -14,7 +14,7 @@ use Rattle.worldfip_figures.proofs.Passing.{declared}
 use Rattle.worldfip_plan.proofs.Answers.{gives_13, gives_12, gives_none, tells, tells_same, accepts, tells_stop}
 use Rattle.worldfip_plan.proofs.Tied.{usable, within, asked_is, late_is, served_is}
 use Rattle.worldfip_plan.proofs.plan.Goals as goal
-use Rattle.std.specs.declared.result.Result.TheVariants.{Ok, Err}
+use Rattle.std.specs.declared.result.Result.TheVariants.{Err}
 use Rattle.common.specs.Checks.{refusal}
 
 -- what the figures tell of the sheet is declared within the ranges
