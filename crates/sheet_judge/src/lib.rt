@@ -9,7 +9,9 @@ ghost use Rattle.sheet_judge.specs.Own.{own_no, as_bus};
 use common::Refusal;
 use sheet_record::{Given, Met, Record};
 
-// Judges a record at a place by itself: refused with 2, 3, 1 or 4, in this order.
+// Judges a record at a place by itself: refused with 2, 3, 1 or 4, in this order. This and what else the reader asks of each record is taken in where it is called
+// (`inline`): the loop of each bus is its own then, with what the other buses need left out.
+#[inline(always)]
 pub fn judge(kind: u8, right: bool, whole: bool, ranged: bool, place: usize) -> Result<(), Refusal>
     ensures { result ≡ unless_no (own_no (known kind) right whole ranged) place }
 {
@@ -29,6 +31,7 @@ pub fn judge(kind: u8, right: bool, whole: bool, ranged: bool, place: usize) -> 
 }
 
 // A stream of a bus is of this kind. A number that is no bus counts for WorldFIP here and below: with an arm for it, the planners were slower.
+#[inline(always)]
 pub fn is_stream(bus: u8, kind: u8) -> bool
     ensures { result ≡ is_stream_of (as_bus bus) kind }
 {
@@ -40,6 +43,7 @@ pub fn is_stream(bus: u8, kind: u8) -> bool
 }
 
 // The stream of a bus at a place. The bus is a constant in each arm, so that the compiler makes a reader of its own for each.
+#[inline(always)]
 pub fn stream_at(s: &[u8], at: usize, bus: u8) -> Met
     ensures { result ≡ stream_met s.now at (as_bus bus) }
 {
@@ -61,6 +65,7 @@ fn pnet_in_range(given: Given, r: Record) -> bool
 }
 
 // A stream of a bus with every field in its range.
+#[inline(always)]
 pub fn stream_in_range(bus: u8, given: Given, r: Record) -> bool
     ensures { result ≡ (is_stream_of (as_bus bus) r.kind && in_range given r) }
 {

@@ -2,28 +2,23 @@
 use mathlib.Core.Path.{◌≡◌, refl, sym, ap, ◌∙◌}
 use mathlib.Core.Bool.{Bool, true, false, ◌||◌, or-true}
 use mathlib.Core.List.{List}
-use Prim.Native.Nat.{ℕ, zero, suc, ◌≤◌, ◌<◌}
+use Prim.Native.Nat.{ℕ, zero, suc, ◌+◌, ◌≤◌, ◌<◌}
 use native.Mathlib.Nat.{not-suc-le-zero}
 use native.Mathlib.Numerals.{add-one}
 use native.Mathlib.Omega.{arith}
 use native.Mathlib.Decide.{ℕ_discrete}
 use borrow.Author.Tests.{eqb-true, ne_eqb, eq-eqb, le-leb, lt-leb, leb-true, leb-false}
-use lib.ListN.{length, get_or, take}
-use Rattle.std.specs.List.{list_any}
-use Rattle.std.proofs.lemmas.List.Folds.{list_any_more}
+use lib.ListN.{get_or}
 use lib.Dec.{eqb, leb}
 use Rattle.sheet_record.specs.declared.Record.{Record}
 use Rattle.sheet_keep.specs.Steps.{among, late_no}
 
 -- ---- Identifiers met before
 
--- the first n identifiers, as code looks through them
-pub among_is : (x n : ℕ) (ids : List ℕ) → n ≤ length ids → list_any (λ (y : ℕ). eqb y x) (take n ids) ≡ among x n ids
+-- one identifier more
+pub among_more : (x i : ℕ) (ids : List ℕ) → among x (i + 1) ids ≡ (among x i ids || eqb (get_or ids i 0) x)
 unfolding among
-among_is x zero ids h = refl
-among_is x (suc n) ids h =
-    ap (λ (k : ℕ). list_any (λ (y : ℕ). eqb y x) (take k ids)) (sym (add-one n))
-    ∙ (list_any_more (λ (y : ℕ). eqb y x) ids n 0 (omega arith) ∙ ap (λ (b : Bool). b || eqb (get_or ids n 0) x) (among_is x n ids (omega arith)))
+among_more x i ids = rw add-one refl
 
 -- one of them is x
 pub among_yes : (x i n : ℕ) (ids : List ℕ) → i < n → get_or ids i 0 ≡ x → among x n ids ≡ true

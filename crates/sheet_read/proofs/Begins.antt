@@ -24,8 +24,7 @@ use Rattle.sheet_messages.specs.Messages.{message_by, lacks_in}
 use Rattle.sheet_rules.specs.Sheets.{Sheet, sheet_of, head_of, given, message_of, fits, lacking, repeated, most_in_all, has_masters, count_of, over_limit, met_before}
 use Rattle.sheet_rules.specs.Whole.{place_of, records_of, before, judge, reading}
 use Rattle.sheet_read.specs.Told.{told}
-use Rattle.sheet_read.specs.Steps.{Begun, Opened, Settles}
-use Rattle.sheet_read.specs.declared.Settings.{Settings}
+use Rattle.sheet_read.specs.Steps.{Begun, Opened}
 use Rattle.sheet_rules.proofs.Walk.{head_at, place_next}
 use Rattle.sheet_rules.proofs.Cases.{PassesAt, Upto, passes_then, passes_if, upto_none, upto_more, stops_once, ended_empty}
 use Rattle.sheet_rules.proofs.Cases.Stops.{by_record, at_end}
@@ -33,7 +32,7 @@ use Rattle.sheet_read.proofs.Judged.{numbered, late_checks, own_at, wrong_at, ju
 use Rattle.sheet_rules.proofs.Order.{no_limits, given_none, nth, fits_first, edition_fits, message_fits, setting_only, empty_list, how_many, behind_first, adds_setting}
 use Rattle.sheet_rules.proofs.Openings.{counted, edition_first}
 use Rattle.sheet_read.proofs.Gathered.{of_every, same_for_all, same_past, lacks_nothing, Gives, gives_none, place_again, place_new, gives_more, lacks_told, counts_each, counts_past}
-use Rattle.std.specs.declared.result.Result.TheVariants.{Ok, Err}
+use Rattle.std.specs.declared.result.Result.TheVariants.{Err}
 use Rattle.common.specs.Checks.{refusal}
 
 -- ---- A record by itself

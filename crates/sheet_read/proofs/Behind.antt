@@ -324,6 +324,23 @@ module _ {s : List ℕ} {head : Record} {first : ℕ} {messages : List ℕ} {lac
         reads_more counts' longests' ids' f ec el ei =
             record { is_bus = m.reads.is_bus; behind = behind_more counts' longests' ids' f ec el ei }
 
+-- a kind that is unknown or may not stand there is refused before its record is looked at
+own_placed : (isKnown isRight is_whole isRanged : Bool) → (own_no isKnown isRight true true ≡ 0 → ⊥) → own_no isKnown isRight is_whole isRanged ≡ own_no isKnown isRight true true
+unfolding own_no
+own_placed false r w g h = refl
+own_placed true false w g h = refl
+own_placed true true w g h = absurd (h refl)
+
+pub refused_placed : {s : List ℕ} {head : Record} {first : ℕ} {messages : List ℕ} {lacks : Bool} {counts longests ids : List ℕ} {i n at bus : ℕ} {right : Bool}
+    → Reads s head first bus messages lacks counts longests ids i n at → at < length s → right ≡ is_stream_of (as_bus bus) (get_or s at 0)
+    → (own_no (known (get_or s at 0)) right true true ≡ 0 → ⊥) → Err (refusal (own_no (known (get_or s at 0)) right true true) at) ≡ told s (reading s)
+refused_placed {s = s} {head = head} {messages = messages} {at = at} {bus = bus} {right = right} reads inside is_right h =
+    let met : Met = stream_met s at (as_bus bus) in
+    let ranged : Bool = is_stream_of (as_bus bus) met.found.kind && in_range (given_to head.a messages met.found.a) met.found in
+    let same = own_placed (known (get_or s at 0)) right (not (eqb met.next at)) ranged h in
+    let m : Meets _ _ _ _ _ _ _ _ _ _ _ _ met right ranged _ = record { reads = reads; inside = inside; is_right = is_right; is_met = refl; is_ranged = refl; is_own = refl } in
+    ap (λ (k : ℕ). Err (refusal k at)) (sym same) ∙ refused_own m (λ z. h (sym same ∙ z))
+
 -- ---- The end
 
 module _ {s : List ℕ} {head : Record} {first : ℕ} {messages : List ℕ} {lacks : Bool} {counts longests ids : List ℕ} {i n at : ℕ}

@@ -2,7 +2,7 @@
 #![tactic(auto)]
 
 ghost use Rattle.std.specs.Prelude.{◌≡◌, ◌&&◌, get_or, replicate};
-ghost use Rattle.sheet_record.specs.Kinds.{is_stream_of, in_range};
+ghost use Rattle.sheet_record.specs.Kinds.{bus_of, is_stream_of, in_range};
 ghost use Rattle.sheet_judge.specs.Own.{as_bus};
 ghost use Rattle.sheet_rules.specs.Ready.{edition_at};
 ghost use Rattle.sheet_read.specs.Steps.{given_to, Begun, Opened, Settles};
@@ -31,6 +31,7 @@ struct Settings {
 
 // A stream of a bus with every field in its range, by how many masters there are and what longest message counts for each. Only a ring asks for that, and with
 // its bus apart here the others are spared it: else the three share one loop in `read_streams`, and 800 P-NET streams take 7.4 us in place of 5.1.
+#[inline(always)]
 fn stream_ranged(bus: u8, masters: u32, messages: &[u32; 33], r: Record) -> bool
     ensures { result ≡ (is_stream_of (as_bus bus) r.kind && in_range (given_to masters messages.now r.a) r) }
 {
@@ -42,10 +43,12 @@ fn stream_ranged(bus: u8, masters: u32, messages: &[u32; 33], r: Record) -> bool
     sheet_judge::stream_in_range(bus, given, r)
 }
 
-// Reads the streams behind a first record and settings that passed, up to the sheet's end or the first refusal.
+// Reads the streams of a bus behind a first record and settings that passed, up to the sheet's end or the first refusal.
+#[inline(always)]
 fn read_streams(
     s: &[u8],
     head: Record,
+    bus: u8,
     first: usize,
     messages: &[u32; 33],
     lacks: bool,
@@ -53,13 +56,13 @@ fn read_streams(
     longest: &mut [u32; 33],
     handed: &mut [u32; 33],
 ) -> Result<Accepted, Refusal>
-    requires { Opened s.now head first messages.now lacks }
+    requires opened { Opened s.now head first messages.now lacks }
+    requires is_bus { bus ≡ bus_of head.kind }
     ensures value { result ≡ told s.now (reading s.now) }
     ensures counted_after { counted.new ≡ counts_told (reading s.now) counted.old }
     ensures longest_after { longest.new ≡ longests_told (reading s.now) longest.old }
     ensures handed_after { handed.new ≡ messages_told (reading s.now) handed.old }
 {
-    let bus = sheet_record::bus_of(head.kind);
     let mut counts: [u8; 33] = [0; 33];
     let mut longests: [u32; 33] = [0; 33];
     let mut ids: [u32; 64] = [0; 64];
@@ -68,6 +71,8 @@ fn read_streams(
     while at < s.len() {
         let kind = s[at];
         let right = sheet_judge::is_stream(bus, kind);
+        // Before the record is read, so that the compiler knows its kind where it reads it.
+        sheet_judge::judge(kind, right, true, true, at)?;
         let met = sheet_judge::stream_at(s, at, bus);
         let stream = met.found;
         let ranged = stream_ranged(bus, head.a, messages, stream);
@@ -199,17 +204,43 @@ fn read_behind(
 {
     let mut messages: [u32; 33] = [0; 33];
     let settings = pass_settings(s, head, first, &mut messages)?;
-    // One call, so that it is taken in here, where the first record's kind is known: each bus has its own loop then.
-    read_streams(
-        s,
-        head,
-        settings.at,
-        &messages,
-        settings.lacks,
-        counts,
-        longests,
-        handed,
-    )
+    // A call for each bus, each taken in here, where the bus is a constant: each has its own loop then. One loop for all takes half as long again.
+    let bus = sheet_record::bus_of(head.kind);
+    match bus {
+        1 => read_streams(
+            s,
+            head,
+            1,
+            settings.at,
+            &messages,
+            settings.lacks,
+            counts,
+            longests,
+            handed,
+        ),
+        3 => read_streams(
+            s,
+            head,
+            3,
+            settings.at,
+            &messages,
+            settings.lacks,
+            counts,
+            longests,
+            handed,
+        ),
+        _ => read_streams(
+            s,
+            head,
+            bus,
+            settings.at,
+            &messages,
+            settings.lacks,
+            counts,
+            longests,
+            handed,
+        ),
+    }
 }
 
 // What a whole sheet is: accepted, or refused with a number and a place. One pass reads it and gathers what the planners ask of a master: it

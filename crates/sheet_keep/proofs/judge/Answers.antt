@@ -1,15 +1,8 @@
 -- `sheet_keep::judge` meets its contract, a law of `Late` for each answer.
-use Prim.Native.Nat.{ℕ}
-use mathlib.Core.Path.{◌≡◌, ◌∙◌, sym, ap}
-use lib.Dec.{eqb}
-use lib.ListN.{take}
-use Rattle.std.proofs.Common.{rules, tests}
-use Rattle.std.specs.List.{list_any}
-use Rattle.std.proofs.lemmas.Iterator.{YieldsList-from_slice}
-use Rattle.std.proofs.lemmas.Iterator.Search.{any_from_yields_List}
+use mathlib.Core.Path.{◌∙◌, sym, ap}
 use native.Mathlib.Omega.{arith}
 use Rattle.common.specs.Checks.{unless_no}
-use Rattle.sheet_keep.proofs.Late.{among_is, late_variables, late_met, late_new, late_streams, late_master, late_none}
+use Rattle.sheet_keep.proofs.Late.{late_variables, late_met, late_new, late_streams, late_master, late_none}
 use Rattle.sheet_keep.proofs.judge.Goals as goal
 
 pub returns-then-n-ge64 : goal.returns-then-n-ge64
@@ -17,19 +10,15 @@ returns-then-n-ge64 c =
     let a = c.args in
     ap (λ n. unless_no n a.place) (late_variables a.counts.now a.ids.now a.n a.r c.if-r-eq6.true c.if-n-ge64.true)
 
-pub returns-then-any : goal.returns-then-any
-returns-then-any c =
+pub returns-then-among : goal.returns-then-among
+returns-then-among c =
     let a = c.args in
-    let found : c.any.result ≡ list_any (λ (y : ℕ). eqb y a.r.a) (take a.n a.ids.now) =
-    any_from_yields_List (λ (y : ℕ). eqb y a.r.a) _ _ c.any.result c.any.ensures.ran (YieldsList-from_slice (take a.n a.ids.now) (cc)) (λ x b q k. search (rules, tests)) in
-    ap (λ n. unless_no n a.place) (late_met a.counts.now a.ids.now a.n a.r c.if-r-eq6.true c.if-n-ge64.false (sym (among_is a.r.a a.n a.ids.now (omega (arith, c.if-n-ge64.false))) ∙ (sym found ∙ c.if-any.true)))
+    ap (λ n. unless_no n a.place) (late_met a.counts.now a.ids.now a.n a.r c.if-r-eq6.true c.if-n-ge64.false (sym c.among.ensures ∙ c.if-among.true))
 
 pub returns-then-r-eq6 : goal.returns-then-r-eq6
 returns-then-r-eq6 c =
     let a = c.args in
-    let found : c.any.result ≡ list_any (λ (y : ℕ). eqb y a.r.a) (take a.n a.ids.now) =
-    any_from_yields_List (λ (y : ℕ). eqb y a.r.a) _ _ c.any.result c.any.ensures.ran (YieldsList-from_slice (take a.n a.ids.now) (cc)) (λ x b q k. search (rules, tests)) in
-    ap (λ n. unless_no n a.place) (late_new a.counts.now a.ids.now a.n a.r c.if-r-eq6.true c.if-n-ge64.false (sym (among_is a.r.a a.n a.ids.now (omega (arith, c.if-n-ge64.false))) ∙ (sym found ∙ c.if-any.false)))
+    ap (λ n. unless_no n a.place) (late_new a.counts.now a.ids.now a.n a.r c.if-r-eq6.true c.if-n-ge64.false (sym c.among.ensures ∙ c.if-among.false))
 
 pub returns-then-n-ge-MOST : goal.returns-then-n-ge-MOST
 returns-then-n-ge-MOST c =

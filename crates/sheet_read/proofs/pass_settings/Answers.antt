@@ -1,5 +1,5 @@
 -- `sheet_read::pass_settings` meets its contract: a ring of kind 9 has no M of its own, so all places are 0 there before the messages are read.
-use mathlib.Core.Path.{refl, sym, ◌∙◌}
+use mathlib.Core.Path.{sym, ◌∙◌}
 use borrow.Author.Tests.{eqb-true, eqb-false}
 use Rattle.sheet_read.proofs.Begins.{no_message_yet, opened_at_once}
 use Rattle.sheet_read.proofs.pass_settings.Goals as goal

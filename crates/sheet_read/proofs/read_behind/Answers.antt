@@ -13,5 +13,5 @@ returns-in_err-settings c =
     let p = err_from_is_err_and c.from_residual.result c.from_residual.ensures.1 in
     rw (p.1, p.2) (record { value = e; counts_after = k.0; longests_after = k.1.0; handed_after = k.1.1 })
 
-pub read_streams-requires : goal.read_streams-requires
-read_streams-requires c = subst (Settles c.args.s.now c.args.head c.pass_settings.new.messages) c.in_ok-settings.was c.pass_settings.ensures
+pub read_streams-requires-clause-opened : goal.read_streams-requires-clause-opened
+read_streams-requires-clause-opened c = subst (Settles c.args.s.now c.args.head c.pass_settings.new.messages) c.in_ok-settings.was c.pass_settings.ensures
