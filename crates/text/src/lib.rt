@@ -8,12 +8,12 @@ ghost use Rattle.text.specs.Text.{Wrote, places, width_of, decimal, counted};
 pub fn put_word(out: &mut [u8], at: usize, word: &[u8]) -> usize
     ensures { Wrote out.old at word.now out.new result }
 {
-    let count = word.len().min(out.len().saturating_sub(at));
-    let end = at + count;
-    if at < end {
-        out[at..end].copy_from_slice(&word[..count]);
+    let stored = word.len().min(out.len().saturating_sub(at));
+    // Byte by byte: most words are short, and `copy_from_slice` calls memmove, which no archive for C needs otherwise.
+    for j in 0..stored {
+        out[at + j] = word[j];
     }
-    end
+    at + stored
 }
 
 // The last k digits of n.

@@ -2,6 +2,7 @@
 ghost use Rattle.std.specs.Prelude.{◌≡◌, ℕ, ◌%◌, ◌≤◌, ◌<◌, eqb, length, get_or};
 ghost use Rattle.std.specs.Int.Bits.{bit_or};
 ghost use Rattle.common.specs.Sums.{when};
+ghost use Rattle.common.specs.Runs.{filled};
 ghost use Rattle.worldfip_rules.specs.Build.{by_rank, row};
 ghost use Rattle.worldfip_plan.specs.Held.{Usable, Cleared, requests, given, missing};
 
@@ -14,8 +15,9 @@ fn mark(p: usize, rows: usize, x: u64, t: &mut [u64])
     requires { (0 < p) × (p < 4294967296) × (rows < length t.old) × (rows ≤ 4096) }
     ensures { (m : ℕ) → m ≤ rows → get_or t.new m 0 ≡ bit_or (get_or t.old m 0) (when (eqb (m % p) 0) x) }
 {
-    for at in (0..rows + 1).step_by(p) {
-        t[at] = t[at] | x;
+    // By the turns: `step_by` tests twice in each.
+    for k in 0..rows / p + 1 {
+        t[k * p] = t[k * p] | x;
     }
 }
 
@@ -60,4 +62,14 @@ pub(crate) fn build(q: &[u32], n: usize, s: u32, rows: usize, t: &mut [u64]) -> 
         pending = ready ^ served;
     }
     0
+}
+
+// Puts the first n numbers of t in the first places of a lent run. One by one, as `copy_from_slice` calls memmove, which no archive for C needs otherwise.
+pub(crate) fn copy(t: &[u64], n: usize, out: &mut [u64])
+    requires { (n ≤ length t.now) × (n ≤ length out.old) }
+    ensures { out.new ≡ filled (λ m. get_or t.now m 0) n out.old }
+{
+    for m in 0..n {
+        out[m] = t[m];
+    }
 }

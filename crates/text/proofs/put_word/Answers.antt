@@ -1,36 +1,29 @@
--- `text::put_word` stores as much of a word as fits.
 use mathlib.Core.Path.{◌≡◌, sym, ap, ◌∙◌}
-use mathlib.Core.List.{List, append_assoc}
-use Prim.Native.Nat.{ℕ, ◌+◌, ◌-◌, ◌<◌, min}
+use mathlib.Core.List.{List}
+use Prim.Native.Nat.{ℕ, ◌+◌, ◌<◌}
+use native.Mathlib.Numerals.{add-one}
 use native.Mathlib.Omega.{arith}
-use borrow.Rule.Slice.PartMut.{put_mid}
-use lib.ListN.{length, take, drop}
-use lib.Seq.{sets, sets-eq, drop-drop, length-take-le}
+use lib.ListN.{length, get_or, take, set}
+use lib.Seq.{sets, length-take-le, take-suc}
 use Rattle.text.specs.Text.{behind}
-use Rattle.text.proofs.Writing.{sets_fit}
+use Rattle.text.proofs.Writing.{sets_more, sets_fit}
 use Rattle.text.proofs.put_word.Goals as goal
 
--- the bytes that fit, stored at once
-copied : (t o p : List ℕ) (at c k : ℕ) → c ≡ min (length t) (length o - at) → 0 < c → k ≡ c → p ≡ take c t → put_mid at k o p ≡ sets o at t
-copied t o p at c k f s e q =
-    let n : length (take c t) ≡ c = length-take-le c t (omega arith) in
-    let d : drop k (drop at o) ≡ drop (at + length (take c t)) o = drop-drop k at o ∙ ap (λ (m : ℕ). drop m o) (omega arith) in
-    rw (q, d, ← append_assoc) (sym (sets-eq (take c t) o at (omega arith)) ∙ sets_fit t o at c f)
+-- a turn's store
+one_more : (o o₀ w : List ℕ) (at j : ℕ) → j < length w → o ≡ sets o₀ at (take j w) → set o (at + j) (get_or w j 0) ≡ sets o₀ at (take (j + 1) w)
+one_more o o₀ w at j h e =
+    let l : length (take j w) ≡ j = length-take-le j w (omega arith) in
+    rw (e, add-one j, take-suc w j 0 h) (ap (λ (k : ℕ). set (sets o₀ at (take j w)) (at + k) (get_or w j 0)) (sym l) ∙ sets_more (take j w) o₀ at (get_or w j 0))
 
-pub returns-then-at-end : goal.returns-then-at-end
+pub loop-j-preserved : goal.loop-j-preserved
+loop-j-preserved c = one_more _ _ c.args.word.now c.args.at c.loop-j.j (omega arith) c.loop-j.invariant
+
+pub returns : goal.returns
 unfolding behind
-returns-then-at-end c =
+returns c =
+    let l = c.loop-j in
     let a = c.args in
     record {
-      stored = copied a.word.now a.out.now _ a.at c.min-count.result _ (omega arith) (omega arith) (omega arith) c.copy_from_slice.ensures.after;
-      ends = omega arith;
-    }
-
-pub returns-else-at-end : goal.returns-else-at-end
-unfolding behind
-returns-else-at-end c =
-    let a = c.args in
-    record {
-      stored = sets_fit a.word.now a.out.now a.at 0 (omega arith);
+      stored = l.invariant ∙ sets_fit a.word.now a.out.now a.at l.j (omega arith);
       ends = omega arith;
     }

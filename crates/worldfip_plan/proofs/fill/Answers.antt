@@ -1,8 +1,8 @@
 -- `worldfip_plan::fill` meets its contract: the number of the best-ranked variable that misses first, or the rows.
-use Rattle.std.proofs.Common.{◌≡◌, ℕ, List, ◌++◌, ◌<◌, ◌≤◌, length, get_or, take, drop, ap, ◌∙◌, arith}
-use Rattle.std.proofs.lemmas.List.{get_or-take, length-take-le}
-use Rattle.common.specs.Runs.{tab, filled}
-use Rattle.common.proofs.Runs.{tab_places}
+use mathlib.Core.Path.{◌∙◌}
+use Prim.Native.Nat.{◌<◌}
+use native.Mathlib.Omega.{arith}
+use Rattle.common.proofs.Runs.{filled_same}
 use Rattle.worldfip_rules.specs.Table.{Asked}
 use Rattle.worldfip_rules.specs.Build.{by_rank, row}
 use Rattle.worldfip_plan.specs.Held.{given}
@@ -35,16 +35,11 @@ returns-then-late-ne0 c =
     let m = missed_one (asked (goal.at.returns-then-late-ne0 c).Start) c.build-late.ensures.value c.args.v.now c.args.out.now c.first_of-r.result c.if-late-ne0.true c.first_of-r.ensures.0 in
     record { value = m.0; out_after = m.1 }
 
--- the rows that were built
-built : (f : ℕ → ℕ) (t : List ℕ) (n : ℕ) → n ≤ length t → ((m : ℕ) → m < n → get_or t m 0 ≡ f m) → take n t ≡ tab f n
-built f t n l e = tab_places f (take n t) n (length-take-le n t l) (λ m h. get_or-take n t m 0 h ∙ e m h)
-
 pub returns : goal.returns
-unfolding given filled
+unfolding given
 returns c =
     let A = asked (goal.at.returns c).Start in
     let b = c.build-late.ensures in
     let none = c.if-late-ne0.false in
-    let rows = c.copy_from_slice.ensures.after ∙ built (row A by_rank) c.build-late.new.t c.args.rows (omega arith) (b.m_after none) in
-    let m = missed_none A b.value c.args.v.now c.args.out.now _ none (ap (λ (run : List ℕ). run ++ drop c.args.rows c.args.out.now) rows) in
+    let m = missed_none A b.value c.args.v.now c.args.out.now _ none (c.copy.ensures ∙ filled_same _ (row A by_rank) _ c.args.out.now (b.m_after none)) in
     record { value = m.0; out_after = m.1 }
