@@ -4,8 +4,8 @@ use sheet_line::{LINE, put_line};
 use sheet_record::{Record, is_pnet_stream};
 use sheet_said::guess;
 
-// The place where a line stops being the one that it can be; the byte that is wanted there, none where a number is too big for its field; and whether a
-// number is cut off there, or missing.
+// The place where a line stops being the one that it can be; the byte that is wanted there, none where a number is too big for its field or the line that it can be
+// has no byte there; and whether a number is cut off there, or missing.
 #[derive(Clone, Copy)]
 pub(crate) struct Slip {
     pub(crate) at: usize,
@@ -104,7 +104,8 @@ pub(crate) fn slip_in(line: &[u8], kind: u8) -> Slip {
     }
     Slip {
         at,
-        wanted: Some(wanted),
+        // Behind that line's end stands 0.
+        wanted: if wanted == 0 { None } else { Some(wanted) },
         in_number: false,
     }
 }
