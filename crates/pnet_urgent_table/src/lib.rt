@@ -9,7 +9,7 @@ ghost use Rattle.pnet_urgent_table.specs.Table.{queued, Slow, Due, Laid};
 ghost use Rattle.pnet_urgent_table.specs.Tally.{Asking, Tallied, Risen};
 
 // The slots of a block.
-const BLOCK: u32 = 512;
+pub const BLOCK: usize = 512;
 
 // What is kept of one stream between two blocks.
 #[derive(Clone, Copy)]
@@ -49,7 +49,7 @@ fn tally(turn: u32, spacing: u32, a: u32, kept: Ahead, table: &mut [u32]) -> Ahe
 {
     let whole = spacing / turn;
     let part = spacing % turn;
-    let end = a + BLOCK;
+    let end = a + BLOCK as u32;
     let mut next = kept.next;
     let mut rest = kept.rest;
     while next < end {
