@@ -29,8 +29,8 @@ struct Settings {
     lacks: bool,
 }
 
-// A stream of a bus with every field in its range, by how many masters there are and what longest message counts for each. Only a ring asks for that, and with
-// its bus apart here the others are spared it: else the three share one loop in `read_streams`, and 800 P-NET streams take 7.4 us in place of 5.1.
+// A stream of a bus with every field in its range, by how many masters there are and what longest message counts for each. Only a ring asks for a message, and
+// with its bus apart here the others are spared it.
 #[inline(always)]
 fn stream_ranged(bus: u8, masters: u32, messages: &[u32; 33], r: Record) -> bool
     ensures { result ≡ (is_stream_of (as_bus bus) r.kind && in_range (given_to masters messages.now r.a) r) }
@@ -204,7 +204,8 @@ fn read_behind(
 {
     let mut messages: [u32; 33] = [0; 33];
     let settings = pass_settings(s, head, first, &mut messages)?;
-    // A call for each bus, each taken in here, where the bus is a constant: each has its own loop then. One loop for all takes half as long again.
+    // A call for each bus, each taken in here: the bus is a constant in two, and the third has what is left, so each has its own loop. One loop for all takes half
+    // as long again.
     let bus = sheet_record::bus_of(head.kind);
     match bus {
         1 => read_streams(

@@ -1,12 +1,11 @@
 -- Laws of reading a line: its word, byte by byte; the number before the next comma, and what stands behind it; two lines held against each other. Assumes nothing.
 use Prim.Native.Nat.{ℕ, ◌+◌, ◌-◌, ◌*◌, ◌^◌, ◌≤◌, ◌<◌, min}
-use mathlib.Core.Path.{◌≡◌, refl, sym, ap, ◌∙◌, subst}
+use mathlib.Core.Path.{◌≡◌, refl, sym, ap, ◌∙◌}
 use mathlib.Core.List.{List, [], ◌∷◌}
 use mathlib.Core.Bool.{Bool, true, false, cond, ◌&&◌}
 use native.Mathlib.Omega.{arith}
 use borrow.Author.Tests.{eq-eqb, ne_eqb, eqb-true}
 use lib.Dec.{eqb}
-use Rattle.std.specs.List.{starts_with}
 use lib.ListN.{length, get_or, take, drop}
 use lib.Seq.{take_at}
 use Rattle.text.specs.Text.{word, Wrote}
@@ -21,12 +20,32 @@ use Rattle.sheet_line.proofs.Lines.{Small}
 
 -- ---- Its word
 
--- what the slice's own method says
-pub begins_is : (p l : List ℕ) → starts_with eqb l p ≡ begins p l
+-- a line that is shorter than a word does not begin with it
+pub begins_short : (p l : List ℕ) → length l < length p → begins p l ≡ false
 unfolding begins
-begins_is [] l = refl
-begins_is (b ∷ p) [] = refl
-begins_is (b ∷ p) (c ∷ l) = ap (λ (t : Bool). eqb b c && t) (begins_is p l)
+begins_short [] l h = absurd (omega arith)
+begins_short (b ∷ p) [] h = refl
+begins_short (b ∷ p) (c ∷ l) h = tested (eqb b c) (begins_short p l (omega arith))
+  where
+    tested : (t : Bool) {x : Bool} → x ≡ false → (t && x) ≡ false
+    tested true e = e
+    tested false e = refl
+
+module _ (p l : List ℕ) (i : ℕ) (more : i < length p) (within : i < length l) where
+  -- byte i is the same in both
+  pub begins_more : get_or l i 0 ≡ get_or p i 0 → begins (drop i p) (drop i l) ≡ begins (drop (i + 1) p) (drop (i + 1) l)
+  unfolding begins
+  begins_more e = rw (left_more p i more, left_more l i within, eq-eqb (get_or p i 0) (get_or l i 0) (sym e)) refl
+
+  -- it is another
+  pub begins_other : (get_or l i 0 ≡ get_or p i 0 → ⊥) → begins (drop i p) (drop i l) ≡ false
+  unfolding begins
+  begins_other n = rw (left_more p i more, left_more l i within, ne_eqb (get_or p i 0) (get_or l i 0) (λ e. n (sym e))) refl
+
+-- nothing of the word is left
+pub begins_whole : (p l : List ℕ) (i : ℕ) → i ≡ length p → begins (drop i p) (drop i l) ≡ true
+unfolding begins
+begins_whole p l i e = rw (left_none p i e) refl
 
 -- the words that the table has, each with its comma
 pub kind_tests : (l : List ℕ) → kind_in l
@@ -78,11 +97,11 @@ Read line at v next = (v ≡ number_at (drop at line)) × ((drop next line ≡ b
 
 module _ {line : List ℕ} {at v i : ℕ} (w : Within line at v i) where
   -- the line ends here
-  pub ends : i ≡ length line → Read line at v (length line)
+  pub ends : i ≡ length line → Read line at v i
   unfolding number_behind digits_behind behind_comma
   ends e =
       let none = left_none line i e in
-      subst (λ (n : ℕ). Read line at v n) e (sym (w.number ∙ (ap (number_behind v) none ∙ omega (arith, w.small))), (none ∙ sym (w.rest ∙ ap behind_comma none), w.inside))
+      (sym (w.number ∙ (ap (number_behind v) none ∙ omega (arith, w.small))), (none ∙ sym (w.rest ∙ ap behind_comma none), w.inside))
 
   module _ (more : i < length line) where
     -- a comma ends the cell

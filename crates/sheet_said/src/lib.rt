@@ -9,11 +9,19 @@ ghost use Rattle.sheet_said.specs.Said.{kind_in, number_at, behind_comma, record
 use sheet_line::{LINE, put_line};
 use sheet_record::Record;
 
-// These bytes stand at the front of a line.
+// These bytes stand at the front of a line. By a loop, which the compiler lays out for each word of `kind_in`; with `starts_with` each word was a call.
 pub fn begins(line: &[u8], word: &[u8]) -> bool
     ensures { result ≡ Said.begins word.now line.now }
 {
-    line.starts_with(word)
+    if line.len() < word.len() {
+        return false;
+    }
+    for i in 0..word.len() {
+        if line[i] != word[i] {
+            return false;
+        }
+    }
+    true
 }
 
 // The kind whose word and a comma stand at the front of a line, or of a whole text; 0 if there is none.
@@ -57,7 +65,8 @@ struct Cell {
     next: usize,
 }
 
-// The number that the digits from a place to the next comma say.
+// The number that the digits from a place to the next comma say. `next` moves with each byte: were the line's length answered behind the loop, the compiler, which
+// lays out the six calls of `guess` one behind the other, would count in each loop for all the later ones.
 fn cell_at(line: &[u8], at: usize) -> Cell
     requires { at ≤ length line.now }
     ensures number_value { result.number ≡ number_at (drop at line.now) }
@@ -65,20 +74,16 @@ fn cell_at(line: &[u8], at: usize) -> Cell
     ensures next_in_bounds { result.next ≤ length line.now }
 {
     let mut number: u32 = 0;
+    let mut next = at;
     for i in at..line.len() {
         let byte = line[i];
+        next = i + 1;
         if byte == b',' {
-            return Cell {
-                number,
-                next: i + 1,
-            };
+            break;
         }
         number = text_entry::with_byte(number, byte);
     }
-    Cell {
-        number,
-        next: line.len(),
-    }
+    Cell { number, next }
 }
 
 // The only record that a line can be that of: its word's kind, and what the digits behind each comma say.

@@ -2,14 +2,18 @@
 // place just after what it wrote.
 #![tactic(auto)]
 
-ghost use Rattle.std.specs.Prelude.{◌≡◌, ◌-◌, min};
+ghost use Rattle.std.specs.Prelude.{◌≡◌};
 ghost use Rattle.text.specs.Text.{Wrote, places, width_of, decimal, counted};
 
 pub fn put_word(out: &mut [u8], at: usize, word: &[u8]) -> usize
     ensures { Wrote out.old at word.now out.new result }
 {
-    let stored = word.len().min(out.len().saturating_sub(at));
-    // Byte by byte: most words are short, and `copy_from_slice` calls memmove, which no archive for C needs otherwise.
+    // First, so that a word of one byte is one store: by a count of 0 or 1 it is a call of memset.
+    if out.len() <= at {
+        return at;
+    }
+    let stored = word.len().min(out.len() - at);
+    // Byte by byte: most words are short, and `copy_from_slice` of two lent runs calls memmove, which no archive for C needs otherwise.
     for j in 0..stored {
         out[at + j] = word[j];
     }

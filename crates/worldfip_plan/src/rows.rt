@@ -64,7 +64,8 @@ pub(crate) fn build(q: &[u32], n: usize, s: u32, rows: usize, t: &mut [u64]) -> 
     0
 }
 
-// Puts the first n numbers of t in the first places of a lent run. One by one, as `copy_from_slice` calls memmove, which no archive for C needs otherwise.
+// Puts the first n numbers of t in the first places of a lent run. One by one, as `copy_from_slice` of two lent runs calls memmove, which no archive for C needs
+// otherwise.
 pub(crate) fn copy(t: &[u64], n: usize, out: &mut [u64])
     requires { (n ≤ length t.now) × (n ≤ length out.old) }
     ensures { out.new ≡ filled (λ m. get_or t.now m 0) n out.old }
